@@ -20,7 +20,10 @@ profiles.register()
 UNBUILT = "unbuilt"
 
 # The tests that import the package for Python, which loads the library then.
-OVER_PACKAGE = tuple(os.path.join(ROOT, it) for it in ("python/tests/", "examples/service/tests/", "tests/frameworks/"))
+OVER_PACKAGE = tuple(
+    os.path.join(ROOT, it)
+    for it in ("python/tests/", "examples/service/tests/", "tests/frameworks/", "tests/gateway/")
+)
 
 
 def pytest_addoption(parser):

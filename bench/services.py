@@ -4,7 +4,8 @@
 FOLDER is what `bin/odb_library` has written, `dist/library` unless it is given. Each service of examples/frameworks is
 started on the loopback. One client asks it over one kept connection, in turns: 20 GETs of one book, and a batch of
 them. What counts is the processor time of all processes of the service, the best of each. A service whose framework is
-not installed is left out.
+not installed is left out. The gateway is asked for 20 batches of one request, and for one of 20, which it passes on to
+the service in Flask; what counts is its own processor time.
 """
 
 import http.client
@@ -24,6 +25,7 @@ LIBRARY = os.path.abspath(sys.argv[1] if len(sys.argv) > 1 else os.path.join(ROO
 os.environ["ODB_BATCH_LIBRARY"] = os.path.join(LIBRARY, "libodb_batch.so.0")
 sys.path.insert(0, os.path.join(ROOT, "tests"))
 
+from support.commands import with_package  # noqa: E402
 from support.servers import CONTINUE, JSON, SECONDS, Server, with_gunicorn, with_uvicorn  # noqa: E402
 
 SERVICES = os.path.join(ROOT, "examples", "frameworks")
@@ -72,6 +74,11 @@ def together(connection):
     ask(connection, "POST", "/odata/$batch", json.dumps(BATCH), CONTINUE)
 
 
+def one_by_one(connection):
+    for request in BATCH["requests"]:
+        ask(connection, "POST", "/odata/$batch", json.dumps({"requests": [request]}), CONTINUE)
+
+
 def milliseconds(server, work):
     """The processor time of the service for one round of the work."""
     connection, rounds = http.client.HTTPConnection("127.0.0.1", server.port, timeout=SECONDS), 0
@@ -110,14 +117,41 @@ def of_express(folder):
     return SimpleNamespace(process=process, port=int(process.stdout.readline()))
 
 
-def measured(server):
-    """The best times of 20 requests alone and together."""
+def with_book(server):
+    """Makes the book; returns the service."""
     connection = http.client.HTTPConnection("127.0.0.1", server.port, timeout=SECONDS)
     connection.request("POST", "/odata/Books", json.dumps({"Id": "emma", "Title": "Emma"}), JSON)
     if (answer := connection.getresponse()).status != 201:
         sys.exit(f"the book: {answer.status} {answer.read(200)!r}")
-    turns = [(milliseconds(server, alone), milliseconds(server, together)) for _ in range(TURNS)]
+    return server
+
+
+def measured(server, single=alone):
+    """The best times of 20 requests alone and together."""
+    turns = [(milliseconds(server, single), milliseconds(server, together)) for _ in range(TURNS)]
     return min(it for it, _ in turns), min(it for _, it in turns)
+
+
+def gateway(service, *options):
+    """A gateway before a service, as a process."""
+    words = [sys.executable, "-m", "odb_batch", "gateway", "--upstream", f"http://127.0.0.1:{service.port}", *options]
+    words += ["--listen", "127.0.0.1:0", "--log", "none"]
+    process = subprocess.Popen(words, env=with_package(), stderr=subprocess.PIPE, text=True, start_new_session=True)
+    return SimpleNamespace(process=process, port=int(process.stderr.readline().rpartition(":")[2]))
+
+
+def show(name, server, single=alone):
+    """Measures a service, prints its line and ends it."""
+    try:
+        one, batch = measured(server, single)
+    finally:
+        end(server)
+    print(f"| {name} | {one:.1f} | {batch:.1f} | {batch / one:.2f} |", flush=True)
+
+
+def end(server):
+    os.killpg(server.process.pid, signal.SIGTERM)
+    server.process.wait(SECONDS)
 
 
 def main():
@@ -126,14 +160,15 @@ def main():
     with tempfile.TemporaryDirectory() as folder:
         for name in (*COMMANDS, "Express"):
             server = of_python(name, folder) if name in COMMANDS else of_express(folder)
-            if server is None:
-                continue
+            if server is not None:
+                show(name, with_book(server))
+        behind = tempfile.mkdtemp(dir=folder)
+        server = importlib.util.find_spec("aiohttp") and of_python("Flask, sqlite3", behind)
+        if server:
             try:
-                single, batch = measured(server)
+                show("the gateway", gateway(with_book(server)), one_by_one)
             finally:
-                os.killpg(server.process.pid, signal.SIGTERM)
-                server.process.wait(SECONDS)
-            print(f"| {name} | {single:.1f} | {batch:.1f} | {batch / single:.2f} |", flush=True)
+                end(server)
 
 
 if __name__ == "__main__":

@@ -3,22 +3,27 @@
 In a block that begins ```console, a line that begins with `$ ` is a command, and the lines up to the
 next command or the end of the block are what it prints, on standard output and standard error.
 Commands run by bash at the top of the repository; where one calls bin/odb_batch, the program has to be
-built, since that would build it in silence here. A block that begins ```rust begins with a comment
-that names a file, as `// crates/NAME/src/tests.rt`, and shows lines of that file: what follows the
-comment has to appear there word for word. Without an argument it reads PAGES.
+built, since that would build it in silence here. Where one calls python3, that is this Python, it finds
+the package, and the library has to be built, or named by ODB_BATCH_LIBRARY. A block that begins ```rust
+or ```python begins with a comment that names a file, as `// crates/NAME/src/tests.rt` or
+`# examples/NAME.py`, and shows lines of that file: what follows the comment has to appear there word for
+word, but for an indent that all its lines have there. Without an argument it reads PAGES.
 """
 
 import os
 import re
 import subprocess
 import sys
+import textwrap
 
 ROOT = os.path.dirname(os.path.dirname(os.path.realpath(__file__)))
-PAGES = ("README.md", "docs/library.md", "examples/README.md")
+PAGES = ("README.md", "docs/client.md", "docs/library.md", "docs/testing.md", "examples/README.md")
+# The comments that name a file, by the kind of their block.
+NAMED = {"rust": r"// (\S+/\S+\.rt)", "python": r"# (\S+/\S+\.py)"}
 sys.dont_write_bytecode = True
 sys.path.append(os.path.join(ROOT, "tests"))
 
-from support.program import PROGRAM, ready
+from support.program import LIBRARY, PROGRAM, SHARED, library_fault, ready
 
 
 def blocks(page, kind):
@@ -51,14 +56,15 @@ def examples(page):
 def excerpts(page):
     """The blocks of the page that show a file: line number, the file's path, or none, and its lines."""
     found = []
-    for number, lines in blocks(page, "rust"):
-        named = re.fullmatch(r"// (\S+/\S+\.rt)", lines[0]) if lines else None
-        found.append((number, named[1] if named else None, lines[1:]))
+    for kind, pattern in NAMED.items():
+        for number, lines in blocks(page, kind):
+            named = re.fullmatch(pattern, lines[0]) if lines else None
+            found.append((number, named[1] if named else None, lines[1:]))
     return found
 
 
 def stands_in(path, lines):
-    """Whether a file is named and has these lines, one after another."""
+    """Whether a file is named and has these lines, one after another, with or without an indent."""
     if path is None:
         return False
     try:
@@ -66,8 +72,23 @@ def stands_in(path, lines):
             all_lines = file.read().splitlines()
     except OSError:
         return False
-    starts = range(len(all_lines) - len(lines) + 1)
-    return bool(lines) and any(all_lines[i : i + len(lines)] == lines for i in starts)
+    starts, text = range(len(all_lines) - len(lines) + 1), "\n".join(lines)
+    return bool(lines) and any(textwrap.dedent("\n".join(all_lines[i : i + len(lines)])) == text for i in starts)
+
+
+def surroundings(commands):
+    """The environment of the commands; ends the run if one needs the library, and that cannot be tested."""
+    named = os.environ.get("ODB_BATCH_LIBRARY")
+    if not named and any(command.startswith("python3 ") for command in commands):
+        fault = library_fault(LIBRARY)
+        if fault:
+            sys.exit(fault)
+    return {
+        **os.environ,
+        "ODB_BATCH_LIBRARY": named or os.path.join(LIBRARY, SHARED),
+        "PATH": os.pathsep.join([os.path.dirname(sys.executable), os.environ["PATH"]]),
+        "PYTHONPATH": os.path.join(ROOT, "python"),
+    }
 
 
 def differences(path):
@@ -77,11 +98,12 @@ def differences(path):
     cases, shown = examples(page), excerpts(page)
     if any("bin/odb_batch" in command for _, command, _ in cases):
         ready(PROGRAM)
-    failed = 0
+    environment, failed = surroundings(command for _, command, _ in cases), 0
     for number, command, wanted in cases:
         run = subprocess.run(
             ["bash", "-c", command],
             cwd=ROOT,
+            env=environment,
             stdin=subprocess.DEVNULL,
             stdout=subprocess.PIPE,
             stderr=subprocess.STDOUT,

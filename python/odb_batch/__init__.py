@@ -53,7 +53,9 @@ from ._commands import (
     run,
 )
 from ._documents import Document, Events, Report, Start
+from ._events import Journal, JournalEvent, StartUnit, Stop
 from ._faults import Fault, OdbError, Refused
+from ._groups import MemberRefused, PreparedGroup
 from ._library import VERSION as __version__
 from ._messages import Answer, PreparedRequest, Refusal
 from ._perform import perform
@@ -69,12 +71,16 @@ __all__ = [
     "Events",
     "Fault",
     "Form",
+    "Journal",
+    "JournalEvent",
+    "MemberRefused",
     "Mode",
     "OdbError",
     "Order",
     "Output",
     "Plan",
     "PlannedRequest",
+    "PreparedGroup",
     "PreparedRequest",
     "Refusal",
     "Refused",
@@ -84,6 +90,8 @@ __all__ = [
     "RequestState",
     "Run",
     "Start",
+    "StartUnit",
+    "Stop",
     "__version__",
     "canon",
     "check",

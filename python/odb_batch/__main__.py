@@ -7,6 +7,7 @@ from typing import Sequence
 
 # Each command: the module whose `main` takes the words after it and returns the exit status, and what it does.
 COMMANDS = {
+    "gateway": ("odb_batch.gateway._tool", "answers $batch for services that have none"),
     "conformance": ("odb_batch.conformance._tool", "judges whether a service keeps what a batch promises"),
 }
 

@@ -20,12 +20,13 @@ _NOT_SHOWN = frozenset(
     }
 )  # fmt: skip
 # Until Python 3.11 these are different exceptions.
-_TIMEOUTS = (TimeoutError, asyncio.TimeoutError, concurrent.futures.TimeoutError, socket.timeout)
+TIMEOUTS = (TimeoutError, asyncio.TimeoutError, concurrent.futures.TimeoutError, socket.timeout)
 
 #: The answer to a request that failed without one.
 FAILED = Refusal(500, "InternalError", "The request failed; the log says why").answer
-_BROKEN = Refusal(502, "BadGateway", "The connection broke before an answer came").answer
-_TIMED_OUT = Refusal(504, "Timeout", "No answer came in time").answer
+#: What stands for a connection that broke, and for an answer that did not come in time.
+BROKEN = Refusal(502, "BadGateway", "The connection broke before an answer came").answer
+TIMED_OUT = Refusal(504, "Timeout", "No answer came in time").answer
 
 
 def answer_to(error: BaseException, what: str) -> Answer:
@@ -33,9 +34,9 @@ def answer_to(error: BaseException, what: str) -> Answer:
     if isinstance(error, Refusal):
         return error.answer
     LOG.error("%s failed", what, exc_info=error)
-    if isinstance(error, _TIMEOUTS):
-        return _TIMED_OUT
-    return _BROKEN if isinstance(error, ConnectionError) else FAILED
+    if isinstance(error, TIMEOUTS):
+        return TIMED_OUT
+    return BROKEN if isinstance(error, ConnectionError) else FAILED
 
 
 def checked(answered: Any) -> Answer:

@@ -15,7 +15,8 @@ from ._messages import Answer, Refusal, charset, media_type
 _OF_HOSTS = frozenset({"idna", "punycode"})
 
 
-def _is_json(kind: str) -> bool:
+def is_json(kind: str) -> bool:
+    """Whether a body of a media type is JSON; so it is without a type."""
     return kind in ("", "application/json") or kind.endswith("+json")
 
 
@@ -36,7 +37,7 @@ def to_wire(text: bytes, headers: Mapping[str, str]) -> bytes:
         Refusal: The character set of a text is unknown, or has not all of its characters: 400 ``BadCharset``.
     """
     kind = media_type(headers)
-    if _is_json(kind):
+    if is_json(kind):
         return text
     value: str = json.loads(text)
     if not kind.startswith("text/"):
@@ -63,7 +64,7 @@ def to_json(answer: Answer, headers: Mapping[str, str]) -> bytes:
     wire, kind = bytes(body), media_type(headers)
     if not wire:
         return b""
-    if _is_json(kind):
+    if is_json(kind):
         return wire[3:] if wire.startswith(b"\xef\xbb\xbf") else wire
     if kind.startswith("text/"):
         return as_text(wire, headers)

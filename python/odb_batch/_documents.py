@@ -1,12 +1,14 @@
 """Documents and events: what callers pass, and the bytes that the library reads."""
 
 import json
+from decimal import Decimal
 from typing import Any, Dict, Iterable, Mapping, NamedTuple, Optional, Union
 
 # How deep a document may nest.
 _MOST_LEVELS = 127
 
-#: A document: bytes or a text of JSON, or a mapping that ``json`` can write; mappings in it may be of any kind.
+#: A document: bytes or a text of JSON, or a mapping that ``json`` can write; mappings in it may be of any kind, and
+#: numbers be Decimals.
 Document = Union[bytes, bytearray, memoryview, str, Mapping[str, Any]]
 
 
@@ -57,10 +59,16 @@ def _is_too_deep(value: Any) -> bool:
     return bool(level)
 
 
+class _HasDecimal(Exception):
+    """Raised where ``json`` comes to a Decimal, which it does not write."""
+
+
 def _dict_of(value: Any) -> Dict[Any, Any]:
     """The dict of a mapping of another kind, which ``json`` does not write."""
     if isinstance(value, Mapping):
         return dict(value)
+    if isinstance(value, Decimal):
+        raise _HasDecimal
     raise TypeError(f"{type(value).__name__} has no JSON")
 
 
@@ -69,11 +77,33 @@ _ENCODER = json.JSONEncoder(ensure_ascii=False, separators=(",", ":"), default=_
 _BODY_ENCODER = json.JSONEncoder(ensure_ascii=False, allow_nan=False, separators=(",", ":"), default=_dict_of)
 
 
+def _exact(value: Any, encoder: json.JSONEncoder) -> str:
+    """The JSON of a value with Decimals, each with all its digits."""
+    if isinstance(value, Decimal):
+        if not value.is_finite():
+            raise ValueError(f"{value} has no JSON")
+        return str(value)
+    if isinstance(value, Mapping):
+        # As json writes the name of a member, between the first { and a 0.
+        names = (encoder.encode({name: 0})[1:-2] for name in value)
+        return "{" + ",".join(name + _exact(it, encoder) for name, it in zip(names, value.values())) + "}"
+    if isinstance(value, (list, tuple)):
+        return "[" + ",".join(_exact(it, encoder) for it in value) + "]"
+    return encoder.encode(value)
+
+
+def _text(value: Any, encoder: json.JSONEncoder) -> str:
+    try:
+        return encoder.encode(value)
+    except _HasDecimal:
+        return _exact(value, encoder)
+
+
 def _written(value: Any, encoder: json.JSONEncoder) -> bytes:
     """The JSON of a value. For one that is too deep to be written, as one that contains itself, a text that is refused
     as too deep, too."""
     try:
-        return _utf8(encoder.encode(value))
+        return _utf8(_text(value, encoder))
     except (RecursionError, ValueError):
         # Else it is the caller's stack that is used up, a number with too many digits, or a NaN.
         if _is_too_deep(value):

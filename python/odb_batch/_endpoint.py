@@ -81,6 +81,7 @@ class Outer:
         mode: How the batch is performed: ``"stop"``, unless the client prefers to continue on error (OData Protocol
             4.01, section 8.2.8.3).
         base: The folder as a URL.
+        inherited: The headers of the batch that hold for each of its requests.
         roots: The root as URLs: a client and the application may write them with the scheme and the host that a proxy
             in front has. Whatever they are, a request is dispatched here, by its path.
 
@@ -112,9 +113,9 @@ class Outer:
         continues = next((it.value for it in wanted if it.name == "continue-on-error"), None)
         self.mode: Mode = "continue" if continues in ("", "true") else "stop"
         self._prefer = [it.text for it in wanted if it.name not in _OF_BATCH]
-        self._inherited = {name: value for name, value in headers.items() if _is_inherited(name)}
+        self.inherited = {name: value for name, value in headers.items() if _is_inherited(name)}
         if self._prefer:
-            self._inherited["prefer"] = ", ".join(self._prefer)
+            self.inherited["prefer"] = ", ".join(self._prefer)
 
     def headers_of(self, request: PreparedRequest) -> Dict[str, str]:
         """Returns the headers of a request of the batch, with those that it inherits.
@@ -123,8 +124,17 @@ class Outer:
             Refusal: It has a header that it may not have (400 ``HeaderNotAllowed``), or one with a character that may
                 not be in a header (400 ``BadHeader``).
         """
-        headers = dict(self._inherited)
-        for name, value in request.headers.items():
+        return {**self.inherited, **self.own_headers(request.headers)}
+
+    def headers_of_batch(self) -> Dict[str, str]:
+        """Returns the headers of a batch that has some of the requests of this one, which go to a service as one."""
+        prefer = ", ".join(["continue-on-error", *self._prefer])
+        return {**self.inherited, "content-type": "application/json", "accept": "application/json", "prefer": prefer}
+
+    def own_headers(self, given: Mapping[str, str]) -> Dict[str, str]:
+        """Returns what a request of the batch adds to the headers that it inherits; raises Refusal as `headers_of`."""
+        headers = {}
+        for name, value in given.items():
             if name in _IGNORED:
                 continue
             if name not in self._allowed:

@@ -2,6 +2,7 @@
 
 import asyncio
 import contextlib
+import functools
 from typing import (
     Any,
     AsyncContextManager,
@@ -9,6 +10,7 @@ from typing import (
     Awaitable,
     Callable,
     ContextManager,
+    List,
     NamedTuple,
     Optional,
     Sequence,
@@ -18,15 +20,22 @@ from typing import (
 
 from ._answers import answer_to, checked
 from ._commands import Mode
-from ._documents import Document
+from ._documents import Document, bytes_of
+from ._events import Journal
+from ._groups import SKIPPED, MemberRefused, PreparedGroup
 from ._messages import Answer, Answered, PreparedRequest
 from ._urls import Service
 from ._work import Unit, Work
 
 #: Sends a request, and returns what it is answered.
 SendAsync = Callable[[PreparedRequest], Awaitable[Answered]]
+#: Sends a group as one, and returns what each of its requests is answered, in order.
+SendGroup = Callable[[PreparedGroup], Awaitable[Sequence[Answered]]]
 #: Opens the transaction of a group, by its name; see :data:`odb_batch._perform.Transaction`.
 TransactionAsync = Callable[[str], Union[AsyncContextManager[Any], ContextManager[Any]]]
+
+# A document with more bytes is read in a thread, so that the loop goes on meanwhile.
+_LONG = 65_536
 
 
 async def perform_async(
@@ -42,6 +51,8 @@ async def perform_async(
     stop: Optional[Callable[[], bool]] = None,
     timeout: Optional[float] = None,
     gate: Optional[asyncio.Semaphore] = None,
+    groups: Optional[SendGroup] = None,
+    journal: Optional[Journal] = None,
 ) -> bytes:
     """Performs a batch as :func:`odb_batch.perform` does, in tasks of the running loop.
 
@@ -60,6 +71,15 @@ async def perform_async(
 
     If this is cancelled, nothing more starts, what is out is cancelled, and open transactions are rolled back.
 
+    A gateway sends a group to its service as one, by ``groups`` in place of ``transaction``: once it needs nothing more
+    from outside. An exception of ``groups`` is the answer to each of its requests. If one of them cannot be sent, as
+    one whose URL leads out of ``base``, it is answered so, and the others 424; ``groups`` raises :class:`MemberRefused`
+    for that.
+
+    With a ``journal`` a batch goes on after the end of a process: call this again with the same batch and mode, and
+    with a journal that has the events so far. A GET that was out is sent again. Anything else that was out, also each
+    request of a group that was sent as one, is answered 500 ``Lost``. A batch that was finished gets the same response.
+
     Args:
         batch, mode, base, roots, limit, stop: As of :func:`odb_batch.perform`.
         send: Sends a request, and returns what it is answered.
@@ -71,23 +91,38 @@ async def perform_async(
         gate: Bounds how many units of all batches are performed at once. Where requests are answered by a pool of
             threads, it has fewer places than the pool: then a group that holds a lock gets a thread for its next
             request, however many others wait for that lock.
+        groups: Sends a group as one, and returns what each of its requests is answered, in order. A
+            :class:`PreparedGroup` has the batch to send, and reads its response.
+        journal: Where the events of the batch are kept. It is synced before each request that is sent.
 
     Raises:
         Fault: The batch is refused; nothing was sent.
         Refusal: The batch has too many requests (413), or groups, and there is no transaction (501); nothing was sent.
-        ValueError: An option has a value that it may not have.
+        ValueError: An option has a value that it may not have; or there are a transaction and ``groups``, or a
+            transaction and a journal: what was open at the end of a process is rolled back, so it cannot go on. Or the
+            journal has an event that is not one of this batch; then nothing was sent.
         MemoryError: An allocation failed.
     """
-    with Work(
-        batch,
+    if transaction is not None and (groups is not None or journal is not None):
+        raise ValueError("a transaction cannot be combined with groups that are sent as one, or with a journal")
+    document = bytes_of(batch)
+    open_work = functools.partial(
+        Work,
+        document,
         mode=mode,
         width=width,
         limit=limit,
         has_transactions=transaction is not None,
         service=Service(base, roots),
         stop=stop,
-    ) as work:
-        await _Tasks(work, width, _How(send, transaction, timeout, gate)).end()
+        sends_groups=groups is not None,
+        journal=journal,
+    )
+    is_long = len(document) > _LONG
+    with await asyncio.get_running_loop().run_in_executor(None, open_work) if is_long else open_work() as work:
+        await _Tasks(work, width, _How(send, transaction, timeout, gate, groups, journal)).end()
+        if journal is not None:
+            await journal.sync()
         return work.response()
 
 
@@ -98,6 +133,8 @@ class _How(NamedTuple):
     transaction: Optional[TransactionAsync]
     timeout: Optional[float]
     gate: Optional[asyncio.Semaphore]
+    groups: Optional[SendGroup]
+    journal: Optional[Journal]
 
 
 class _Tasks:
@@ -116,6 +153,8 @@ class _Tasks:
     async def end(self) -> None:
         """Performs all units; raises what a unit ends by, if that is not reported."""
         try:
+            for unit in self._work.resumed:
+                self._begin_one(unit)
             self._begin()
             await self._over
         finally:
@@ -139,11 +178,14 @@ class _Tasks:
     def _begin(self) -> None:
         """Begins what may begin now."""
         while len(self._out) < self._width and (unit := self._work.begin()) is not None:
-            task = asyncio.ensure_future(self._perform(unit))
-            self._out.add(task)
-            task.add_done_callback(self._ended)
+            self._begin_one(unit)
         if not self._out:
             self._over.set_result(None)
+
+    def _begin_one(self, unit: Unit) -> None:
+        task = asyncio.ensure_future(self._perform(unit))
+        self._out.add(task)
+        task.add_done_callback(self._ended)
 
     def _ended(self, task: "asyncio.Task[None]") -> None:
         """Goes on after the end of a task."""
@@ -169,6 +211,10 @@ class _Tasks:
     async def _perform_unit(self, unit: Unit) -> None:
         """Performs a unit, as that of threads does."""
         transaction = self._how.transaction
+        if self._how.journal is not None:
+            await self._how.journal.sync()
+        if unit.group is not None and self._how.groups is not None:
+            return self._work.finish_group(unit, await self._group_answers(unit, self._how.groups))
         answer: Optional[Answer] = None
         try:
             if unit.group is None or transaction is None:
@@ -205,6 +251,22 @@ class _Tasks:
             return answer_to(error, f"the request {unit.open}")
         except Exception as error:
             return answer_to(error, f"the request {unit.open}")
+
+    async def _group_answers(self, unit: Unit, send: SendGroup) -> List[Answer]:
+        """Sends a group as one; returns what each of its requests is answered."""
+        try:
+            answered = await asyncio.wait_for(send(self._work.prepared_group(unit)), self._how.timeout)
+            if len(answered) != len(unit.ids):
+                raise TypeError(f"{unit} has {len(unit.ids)} requests, and {len(answered)} answers")
+            return list(map(checked, answered))
+        except MemberRefused as refused:
+            return [refused.answer if id == refused.id else SKIPPED for id in unit.ids]
+        except asyncio.CancelledError as error:
+            if self._is_to_end():
+                raise
+            return [answer_to(error, str(unit))] * len(unit.ids)
+        except Exception as error:
+            return [answer_to(error, str(unit))] * len(unit.ids)
 
 
 def _is_cancelling() -> bool:

@@ -1,6 +1,7 @@
 """What is sent of a request: its URL and its headers without references, and its body as bytes on the wire."""
 
-from typing import Dict, Iterable, Iterator, Optional, Tuple
+import contextlib
+from typing import Collection, Dict, Iterable, Iterator, Optional, Tuple
 
 from ._answers import place_of, tag_of
 from ._bodies import to_wire
@@ -8,8 +9,8 @@ from ._messages import Answer, PreparedRequest, Refusal
 from ._requests import Request
 from ._urls import Service, entity_url, joined
 
-# Where $ and an id stand for an ETag.
-_CONDITIONS = ("if-match", "if-none-match")
+#: The headers in which $ and an id stand for an ETag.
+CONDITIONS = ("if-match", "if-none-match")
 
 
 class Preparation:
@@ -36,15 +37,21 @@ class Preparation:
     def _references(self, request: Request) -> Iterator[str]:
         if request.reference is not None:
             yield request.reference
-        for name in _CONDITIONS:
+        for name in CONDITIONS:
             value = request.headers.get(name, "")
             if value.startswith("$") and value[1:] in self._requests:
                 yield value[1:]
 
-    def keep(self, id: str, answer: Answer) -> None:
-        """Keeps what a request was answered, if others refer to it."""
-        if id in self._referred:
-            self._answers[id] = answer
+    def keep(self, id: str, answer: Answer) -> bool:
+        """Keeps what a request was answered, if others refer to it, and its URL, if it was not sent from here. Returns
+        whether others do."""
+        if id not in self._referred:
+            return False
+        self._answers[id] = answer
+        if answer.is_success:
+            with contextlib.suppress(Refusal):
+                self.url(id)
+        return True
 
     def prepared(self, id: str) -> PreparedRequest:
         """Returns a request as it is sent.
@@ -54,36 +61,62 @@ class Preparation:
                 a reference stands for nothing (424; 400 if the request with the ETag is not in dependsOn).
         """
         given = self._requests[id]
-        url = self._urls[id] = self._service.target(self._url_of(given))
-        headers = dict(given.headers)
-        for name in _CONDITIONS:
-            value = headers.get(name, "")
-            if value.startswith("$") and value[1:] in self._requests:
-                headers[name] = self._tag_of(value[1:])
-        body = b""
+        url, headers, body = self.url(id), self.headers(id), b""
         if given.body is not None:
             headers.setdefault("content-type", "application/json")
             body = to_wire(given.body, headers)
         return PreparedRequest(id, given.method, url, headers, body, given.group)
 
-    def _url_of(self, given: Request) -> str:
-        if given.reference is None:
-            return joined(self._service.base, given.url)
-        return self._place_of(given.reference) + given.rest
+    def member(self, id: str, group: Collection[str]) -> Request:
+        """Returns a request of a group that is sent as one, with the references to requests that are not in the group
+        replaced; raises Refusal as `prepared` does."""
+        given, headers = self._requests[id], self.headers(id, group)
+        if given.reference in group:
+            return given._replace(headers=headers)
+        url = self.url(id)
+        return given._replace(url=url, reference=None, rest=url, headers=headers)
 
-    def _place_of(self, id: str) -> str:
-        """The URL of what a request has created or returned; without another one that is its own URL."""
+    def headers(self, id: str, kept: Collection[str] = ()) -> Dict[str, str]:
+        """Returns the headers of a request with ETags in place of references, but for those to requests that are kept;
+        raises Refusal as `prepared` does."""
+        headers = dict(self._requests[id].headers)
+        for name in CONDITIONS:
+            value = headers.get(name, "")
+            if value.startswith("$") and value[1:] in self._requests and value[1:] not in kept:
+                headers[name] = self.tag(value[1:])
+        return headers
+
+    def url(self, id: str) -> str:
+        """Returns the URL of a request as it is sent alone; raises Refusal as `prepared` does."""
+        if id not in self._urls:
+            given = self._requests[id]
+            refers = given.reference is not None
+            url = self.place(str(given.reference)) + given.rest if refers else joined(self._service.base, given.url)
+            self._urls[id] = self._service.target(url)
+        return self._urls[id]
+
+    def place(self, id: str) -> str:
+        """Returns the URL of what a request has created or returned; without another one that is its own URL.
+
+        Raises:
+            Refusal: A POST was answered without one: 424 ``NoLocation``.
+        """
         if id not in self._places:
             self._places[id] = place_of(self._answers[id])
         place, context = self._places[id]
         if place is None and self._requests[id].method == "POST":
             raise Refusal(424, "NoLocation", f"{id} was answered without the URL of what it has created", id)
-        url = self._urls[id]
+        url = self.url(id)
         if place is None:
             return entity_url(url)
         return entity_url(joined(url if context is None else joined(url, context), place))
 
-    def _tag_of(self, id: str) -> str:
+    def tag(self, id: str) -> str:
+        """Returns the ETag of what a request was answered.
+
+        Raises:
+            Refusal: It was answered without one: 424 ``NoETag``; 400 if it is not answered yet.
+        """
         if id not in self._answers:
             raise Refusal(400, "NoETag", f"{id} is not answered yet; it has to be in dependsOn", id)
         if id not in self._tags:

@@ -27,8 +27,15 @@ def joined(base: str, url: str) -> str:
 
 
 def entity_url(url: str) -> str:
-    """Returns the URL of a resource without query, fragment and a slash at its end: more segments may be appended."""
-    parts = urlsplit(url)
+    """Returns the URL of a resource without query, fragment and a slash at its end: more segments may be appended.
+
+    Raises:
+        Refusal: It cannot be read as a URL: 400 ``BadUrl``.
+    """
+    try:
+        parts = urlsplit(url)
+    except ValueError:
+        raise Refusal(400, "BadUrl", "The URL cannot be read") from None
     return urlunsplit((*parts[:2], parts.path.rstrip("/"), "", ""))
 
 

@@ -1,13 +1,15 @@
 """A batch on its way: which unit begins, and what is reported. It has no threads, and does not send."""
 
 from types import TracebackType
-from typing import Callable, Dict, Optional, Tuple, Type
+from typing import Callable, Dict, List, Optional, Sequence, Tuple, Type
 
 from ._answers import FAILED, LOG, answer_to, shown
 from ._bodies import as_text, to_json
-from ._commands import Mode
-from ._documents import Document, bytes_of
+from ._commands import MAX_WIDTH, Mode, plan
+from ._documents import Document, Report, Start, bytes_of
+from ._events import Journal, JournalEvent, StartUnit, Stop
 from ._faults import Fault, Refused
+from ._groups import MemberRefused, PreparedGroup
 from ._messages import Answer, GroupFailed, PreparedRequest, Refusal
 from ._preparation import Preparation
 from ._requests import requests
@@ -37,6 +39,8 @@ class Unit:
 # How many bytes of a body a live run takes.
 MOST_BYTES = 16_777_216
 TOO_LONG = Refusal(507, "TooLong", "The answer is too long for a batch").answer
+# The answer to what was out when a process ended, and is not sent again.
+LOST = Refusal(500, "Lost", "The gateway was ended: it is not known whether the request was performed").answer
 
 
 class Work:
@@ -54,10 +58,16 @@ class Work:
         has_transactions: Whether groups can be kept.
         service: Where its requests may lead.
         stop: Is called before a unit begins. Once it returns true, nothing more starts.
+        sends_groups: Whether a group is sent as one.
+        journal: Where its events are kept, and what has happened before.
+
+    Attributes:
+        resumed: The units that were out when another process ended, and are sent again.
 
     Raises:
         Fault: The batch is refused.
         Refusal: It has too many requests, or groups that cannot be kept.
+        ValueError: An event of the journal is not one of this batch.
     """
 
     def __init__(
@@ -70,16 +80,27 @@ class Work:
         has_transactions: bool,
         service: Service,
         stop: Optional[Callable[[], bool]],
+        sends_groups: bool = False,
+        journal: Optional[Journal] = None,
     ) -> None:
         document = bytes_of(batch)
         given = requests(document)
         if len(given) > limit:
             raise Refusal(413, "TooManyRequests", f"A batch may have {limit} requests")
-        if not has_transactions and any(request.group is not None for request in given):
+        has_groups = any(request.group is not None for request in given)
+        if has_groups and not (has_transactions or sends_groups):
             raise Refusal(501, "NoGroups", "Atomicity groups are not supported here")
         self._requests = {request.id: request for request in given}
-        self._preparation, self._stop = Preparation(given, service), stop
-        self._run = Run(document, mode=mode, width=width)
+        self._preparation, self._stop, self._journal = Preparation(given, service), stop, journal
+        self._plan, self._is_stopped = plan(document) if has_groups and sends_groups else None, False
+        happened = journal.events if journal is not None else ()
+        # What was out before may be more than the width is now.
+        self._run = Run(document, mode=mode, width=MAX_WIDTH if happened else width)
+        try:
+            self.resumed = self._resume(happened)
+        except (Fault, Refused, KeyError) as error:
+            self._run.close()
+            raise ValueError(f"the journal has an event that is not one of this batch: {error}") from None
 
     def __enter__(self) -> "Work":
         return self
@@ -89,16 +110,56 @@ class Work:
     ) -> None:
         self._run.close()
 
+    def _resume(self, events: Sequence[JournalEvent]) -> List[Unit]:
+        """Takes what has happened before; returns the units that were out and are sent again, which are GETs. The
+        others that were out are lost."""
+        out: Dict[str, None] = {}
+        for event in events:
+            if isinstance(event, Report):
+                self._take_report(event)
+                del out[event.id]
+            elif isinstance(event, Stop):
+                self._run.stop()
+            elif isinstance(event, StartUnit):
+                self._run.start_unit(event.ids[0])
+                out.update(dict.fromkeys(event.ids))
+            else:
+                self._run.start(event.id)
+                out[event.id] = None
+        again = {id for id in out if self._requests[id].method == "GET" and self._requests[id].group is None}
+        for id in [id for id in out if id not in again]:
+            LOG.error("%s was out when a process ended, and is lost", id)
+            self._report(id, LOST)
+        return [Unit((id,), None) for id in out if id in again]
+
+    def _take_report(self, event: Report) -> None:
+        headers = dict(event.headers or {})
+        self._run.report(event.id, event.status, headers or None, event.body)
+        self._preparation.keep(event.id, Answer(event.status, headers, event.body))
+
+    def _note(self, event: JournalEvent) -> None:
+        if self._journal is not None:
+            self._journal.write(event)
+
     def begin(self) -> Optional[Unit]:
-        """Starts the first request of the first unit that may begin; None if no unit may begin now."""
-        if self._stop is not None and self._stop():
+        """Starts the first request of the first unit that may begin, or all of them if it is a group that is sent as
+        one; None if no unit may begin now."""
+        if self._stop is not None and not self._is_stopped and self._stop():
+            self._is_stopped = True
             self.stop()
+            self._note(Stop())
         while (ids := self._run.next_unit()) is not None:
+            unit = Unit(ids, self._requests[ids[0]].group)
+            is_one = unit.group is not None and self._plan is not None
             try:
-                self._run.start(ids[0])
+                if is_one:
+                    self._run.start_unit(ids[0])
+                else:
+                    self._run.start(ids[0])
             except Refused:
                 continue  # meanwhile another thread has reported an error that stops the run
-            return Unit(ids, self._requests[ids[0]].group)
+            self._note(StartUnit(ids) if is_one else Start(ids[0]))
+            return unit
         return None
 
     def stop(self) -> None:
@@ -109,7 +170,27 @@ class Work:
         """Returns the open request of a unit, as it is sent; raises Refusal if it cannot be."""
         return self._preparation.prepared(str(unit.open))
 
-    # The requests of a group
+    # A group that is sent as one
+
+    def prepared_group(self, unit: Unit) -> PreparedGroup:
+        """Returns a group as it is sent; raises MemberRefused if a request of it cannot be."""
+        assert self._plan is not None
+        members, needs, inside = [], {}, frozenset(unit.ids)
+        for id in unit.ids:
+            try:
+                members.append(self._preparation.member(id, inside))
+            except Refusal as refusal:
+                raise MemberRefused(id, refusal.answer) from None
+            needs[id] = tuple(it for it in self._plan.request(id).needs if it in inside)
+        return PreparedGroup(str(unit.group), tuple(members), needs)
+
+    def finish_group(self, unit: Unit, answers: Sequence[Answer]) -> None:
+        """Reports all requests of a group that was sent as one."""
+        unit.open = None
+        for id, answer in zip(unit.ids, answers):
+            self._report(id, answer)
+
+    # The requests of a group that are sent one after another
 
     def proceed(self, unit: Unit, id: str) -> None:
         """Starts a request of a group, if it is not the first; raises Refused if the run is stopped."""
@@ -168,15 +249,21 @@ class Work:
         try:
             self._run.report(id, answer.status, headers or None, text)
         except Fault:
-            self._report_unread(id, answer, headers, text)
+            headers, text = self._report_unread(id, answer, headers, text)
+        self._note(Report(id, answer.status, headers, text or None))
 
-    def _report_unread(self, id: str, answer: Answer, headers: Dict[str, str], text: bytes) -> None:
-        """Reports an answer that the run cannot read: a body that is not JSON as a string, headers in ASCII alone."""
+    def _report_unread(
+        self, id: str, answer: Answer, headers: Dict[str, str], text: bytes
+    ) -> Tuple[Dict[str, str], bytes]:
+        """Reports an answer that the run cannot read: a body that is not JSON as a string, headers in ASCII alone.
+        Returns what it has reported."""
         LOG.warning("the answer to %s has a body that is not JSON, or a header that is not Unicode", id)
         wire = bytes(answer.body) if isinstance(answer.body, (bytes, bytearray, memoryview)) else text
         kept = {name: value for name, value in headers.items() if name.isascii() and value.isascii()}
         string = as_text(wire, {}) if wire else b""
-        self._run.report(id, answer.status, kept or None, string if len(string) <= MOST_BYTES else b"")
+        string = string if len(string) <= MOST_BYTES else b""
+        self._run.report(id, answer.status, kept or None, string)
+        return kept, string
 
     def response(self) -> bytes:
         """Returns the response document of the finished run.

@@ -3,7 +3,8 @@
 Of each: the module, its text, what takes the place of that, the module of the tests, and a word of their names.
 """
 
-PERFORM, MIDDLEWARE = "test_perform", "test_middleware"
+PERFORM, MIDDLEWARE, TESTING = "test_perform", "test_middleware", "test_testing"
+BUILDING, SENDING, REST = "client/test_building", "client/test_sending", "client/test_rest"
 
 DEFECTS = {
     "headers-of-the-batch-stay": (
@@ -51,5 +52,32 @@ DEFECTS = {
     "any-header": ("_endpoint", "if name not in self._allowed:", "if False:", MIDDLEWARE, "of_a_request"),
     "a-preference-lost": ("_endpoint", '", ".join([value, *self._prefer]) if name == "prefer" else value', "value", MIDDLEWARE, "inherited"),
     "batches-in-batches": ("wsgi", 'if environ["PATH_INFO"] == self._middleware.path:', "if False:", MIDDLEWARE, "batch_in_a_batch"),
+    "no-dependencies-of-references": (
+        "client/_batch", ", *filter(self._names.__contains__, _referred(url, given))]", "]", BUILDING, "dependencies",
+    ),
+    "no-groups-of-dependencies": ("client/_batch", "if it is not None and it != own", "if False", BUILDING, "dependencies"),
+    "half-a-group": ("client/_batch", "del self._requests[begun:]", "pass", BUILDING, "block_that_fails"),
+    "digits-of-a-decimal": ("_documents", "raise _HasDecimal", "return float(value)", BUILDING, "bodies"),
+    "digits-of-an-answer": (
+        "_responses", 'text[slice(*spans["body"])].encode()', 'json.dumps(json.loads(text[slice(*spans["body"])])).encode()',
+        SENDING, "bodies",
+    ),
+    "what-depends-on-a-failure": (
+        "client/_parts", "if all(number in self._sound for number in unit.needs):", "if True:", SENDING, "depends_on_a_failure",
+    ),
+    "parts-of-any-length": ("client/_parts", "if len(elements) + len(unit.ids) > self._limit:", "if False:", SENDING, "as_many"),
+    "a-refusal-before-its-turn": (
+        "client/_parts", "break  # what comes before it is sent first", "pass", SENDING, "stands_for_nothing",
+    ),
+    "a-stop-that-goes-on": ("client/_parts", 'self._mode == "stop" and self._is_error(unit)', "False", SENDING, "error_in_mode_stop"),
+    "each-424-stops": ("client/_parts", " and not is_skipped and not any(300 <= status <= 399 for status in statuses)", "", SENDING, "no_error_in_mode_stop"),
+    "a-part-after-a-refusal": ("client/_parts", "answer))\n        self._is_stopped = True", "answer))", SENDING, "answer_to_the_whole"),
+    "responses-to-something-else": ("client/_parts", "match(self._part, text, mode=self._mode)", "pass", SENDING, "not_the_response"),
+    "places-of-any-kind": ("client/_parts", "if not is_plain(url):", "if False:", SENDING, "no_url_may_have"),
+    "the-shortest-wait": ("client/_results", "max(map(_seconds", "min(map(_seconds", SENDING, "retry_after"),
+    "a-rest-of-what-failed": ("client/_rest", "elif unit.needs <= sound and", "elif", REST, "in_the_rest"),
+    "a-post-twice": ("client/_rest", "status in _UNKNOWN and method in _IDEMPOTENT", "status in _UNKNOWN", REST, "may_be_sent_again"),
+    "half-a-group-again": ("client/_rest", "_is_success(status) or status in _UNPERFORMED", "status in _UNPERFORMED", REST, "undone"),
+    "one-status-for-ever": ("testing/_scripted", "left.pop(0) if len(left) > 1 else left[0]", "left[0]", TESTING, "in_turn"),
     "an-etag-by-luck": ("_preparation", "if id not in self._answers:", "if False:", PERFORM, "not_in_depends_on"),
 }  # fmt: skip

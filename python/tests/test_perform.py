@@ -562,6 +562,32 @@ class TestTasks:
         assert most[0] == 3
 
 
+    def test_a_long_batch_does_not_hold_up_the_loop(self):
+        async def performed(batch):
+            ticks = []
+
+            async def tick():
+                while True:
+                    ticks.append(None)
+                    await asyncio.sleep(0.001)
+
+            async def send(request):
+                ticks.append(len(ticks))
+                return (200,)
+
+            ticking = asyncio.ensure_future(tick())
+            response = await perform_async(batch, send)
+            ticking.cancel()
+            return shown(response), max(filter(None, ticks))
+
+        batch = {"requests": [{"id": "a", "method": "post", "url": "A", "body": [{"n": 1}] * 100_000}]}
+        found, count = asyncio.run(performed(batch))
+        assert found == {"a": 200} and count > 3
+        batch["requests"].append({"id": "a", "method": "get", "url": "A"})
+        with pytest.raises(Fault, match="F30"):
+            asyncio.run(performed(batch))
+
+
 class TestReferences:
     @pytest.mark.parametrize("location, wanted", [
         ("http://h/odata/Orders(7)", "http://h/odata/Orders(7)/Lines?$top=1"),

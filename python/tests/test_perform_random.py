@@ -10,11 +10,9 @@ from hypothesis import strategies as st
 
 from odb_batch import Answer, match, perform, perform_async, replay
 from support.profiles import share
+from support.replays import MODES, placed, responses_of
 from support.rules import front
 from support.strategies import recorded_batches
-
-MODES = st.sampled_from(["continue", "stop"])
-
 
 class Service:
     """Answers by outcomes, and keeps which groups are committed, and how many units are performed at once."""
@@ -76,21 +74,6 @@ def in_tasks(batch, service, mode, width):
     return asyncio.run(
         perform_async(batch, service.send_async, mode=mode, width=width, transaction=service.transaction_async)
     )
-
-
-def placed(outcomes):
-    """Outcomes in which each success has a Location, to which others may refer."""
-    found = []
-    for it in outcomes:
-        headers = dict(it.get("headers") or {})
-        if 200 <= it["status"] <= 299:
-            headers["Location"] = f"Made('{it['id']}')"
-        found.append({**it, "headers": headers})
-    return found
-
-
-def responses_of(text):
-    return json.loads(text)["responses"]
 
 
 def judge(batch, service, response, width):

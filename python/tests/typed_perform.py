@@ -1,9 +1,21 @@
 """Calls of what performs batches, for mypy --strict, as those of typed.py."""
 
 from contextlib import asynccontextmanager, contextmanager, nullcontext
-from typing import Any, AsyncIterator, Callable, Dict, Iterable, Iterator, List, Tuple
+from typing import Any, AsyncIterator, Callable, Dict, Iterable, Iterator, List, Sequence, Tuple
 
-from odb_batch import Answer, PreparedRequest, Refusal, asgi, perform, perform_async, wsgi
+from odb_batch import (
+    Answer,
+    JournalEvent,
+    PreparedGroup,
+    PreparedRequest,
+    Refusal,
+    Report,
+    Start,
+    asgi,
+    perform,
+    perform_async,
+    wsgi,
+)
 
 
 def send(request: PreparedRequest) -> Tuple[int, Dict[str, str], bytes]:
@@ -22,6 +34,34 @@ def status(request: PreparedRequest) -> Tuple[int]:
 
 async def send_async(request: PreparedRequest) -> Answer:
     return answer(request)
+
+
+async def send_group(group: PreparedGroup) -> List[Answer]:
+    return group.answers(Answer(200, {}, group.batch()))
+
+
+class Kept:
+    """A journal."""
+
+    events: Sequence[JournalEvent] = (Start("a"), Report("a", 200))
+
+    def write(self, event: JournalEvent) -> None:
+        pass
+
+    async def sync(self) -> None:
+        pass
+
+
+class NotKept:
+    """No journal: its sync does not wait."""
+
+    events: Sequence[JournalEvent] = ()
+
+    def write(self, event: JournalEvent) -> None:
+        pass
+
+    def sync(self) -> None:
+        pass
 
 
 @contextmanager
@@ -53,6 +93,9 @@ def check_perform() -> List[bytes]:
 async def check_perform_async() -> bytes:
     await perform_async({}, send)  # type: ignore[arg-type]
     await perform_async({}, send_async, transaction=group, timeout=5)
+    await perform_async({}, send_async, groups=send_group, journal=Kept())
+    await perform_async({}, send_async, groups=send_async)  # type: ignore[arg-type]
+    await perform_async({}, send_async, journal=NotKept())  # type: ignore[arg-type]
     return await perform_async({}, send_async, transaction=group_async, width=4)
 
 

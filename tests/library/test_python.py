@@ -14,21 +14,29 @@ from support.embedding import IN_PYTHON, block
 from support.program import ROOT, SHARED
 
 
-@pytest.mark.parametrize("name", ["", "._messages", "._perform", "._perform_async", "._runs", ".wsgi"])
+MODULES = (
+    "", "._groups", "._messages", "._perform", "._perform_async", "._runs", ".client", ".testing", ".wsgi",
+)  # fmt: skip
+
+
+@pytest.mark.parametrize("name", MODULES)
 def test_its_examples(name, package):
     found = doctest.testmod(importlib.import_module(f"odb_batch{name}"))
     assert found.failed == 0 < found.attempted
 
 
-def test_its_extras_name_frameworks_alone(tmp_path, monkeypatch):
+def test_its_extras_are_all_that_it_needs(tmp_path, monkeypatch):
     monkeypatch.syspath_prepend(f"{ROOT}/python")
     (wheel,) = [tmp_path / importlib.import_module("backend").build_wheel(str(tmp_path))]
     with zipfile.ZipFile(wheel) as package:
         (metadata,) = [package.read(it).decode() for it in package.namelist() if it.endswith("/METADATA")]
     head = metadata.partition("\n\n")[0]
     needed = re.findall("(?m)^Requires-Dist: (.*)$", head)
-    assert needed == ['Django>=3.2; extra == "django"', 'fastapi; extra == "fastapi"', 'Flask; extra == "flask"']
-    assert re.findall("(?m)^Provides-Extra: (.*)$", head) == ["django", "fastapi", "flask"]
+    extras = {
+        "django": "Django>=3.2", "fastapi": "fastapi", "flask": "Flask", "gateway": "aiohttp>=3.8", "testing": "hypothesis",
+    }  # fmt: skip
+    assert needed == [f'{name}; extra == "{extra}"' for extra, name in extras.items()]
+    assert re.findall("(?m)^Provides-Extra: (.*)$", head) == list(extras)
 
 
 @pytest.mark.needs("mypy")

@@ -53,7 +53,35 @@ def with_uvicorn(app):
     return ["uvicorn", "--fd", "{fd}", "--log-level", "warning", app]
 
 
-class Server:
+class Asked:
+    """What listens at a port of the loopback, and answers batches below /odata/."""
+
+    port: int
+
+    def ask(self, method, path, body=None, headers=JSON):
+        """Sends a request over a connection of its own; returns the status, the headers by lower-case names and the
+        body.
+        """
+        connection = http.client.HTTPConnection("127.0.0.1", self.port, timeout=SECONDS)
+        try:
+            connection.request(method, path, body, headers)
+            answer = connection.getresponse()
+            return answer.status, {name.lower(): it for name, it in answer.getheaders()}, answer.read()
+        finally:
+            connection.close()
+
+    def batch(self, *given, headers=CONTINUE):
+        """Sends a batch; returns its responses by their ids, r0, r1 and so on."""
+        requests = [{"id": f"r{k}", "method": "get", **it} for k, it in enumerate(given)]
+        status, _, text = self.ask("POST", "/odata/$batch", json.dumps({"requests": requests}), headers)
+        assert status == 200, text
+        return {it["id"]: it for it in json.loads(text)["responses"]}
+
+    def statuses(self, *given, headers=CONTINUE):
+        return [it["status"] for it in self.batch(*given, headers=headers).values()]
+
+
+class Server(Asked):
     """An application as a process.
 
     Args:
@@ -80,28 +108,6 @@ class Server:
             except subprocess.TimeoutExpired:
                 os.killpg(self.process.pid, signal.SIGKILL)
                 self.process.wait()
-
-    def ask(self, method, path, body=None, headers=JSON):
-        """Sends a request over a connection of its own; returns the status, the headers by lower-case names and the
-        body.
-        """
-        connection = http.client.HTTPConnection("127.0.0.1", self.port, timeout=SECONDS)
-        try:
-            connection.request(method, path, body, headers)
-            answer = connection.getresponse()
-            return answer.status, {name.lower(): it for name, it in answer.getheaders()}, answer.read()
-        finally:
-            connection.close()
-
-    def batch(self, *given, headers=CONTINUE):
-        """Sends a batch; returns its responses by their ids, r0, r1 and so on."""
-        requests = [{"id": f"r{k}", "method": "get", **it} for k, it in enumerate(given)]
-        status, _, text = self.ask("POST", "/odata/$batch", json.dumps({"requests": requests}), headers)
-        assert status == 200, text
-        return {it["id"]: it for it in json.loads(text)["responses"]}
-
-    def statuses(self, *given, headers=CONTINUE):
-        return [it["status"] for it in self.batch(*given, headers=headers).values()]
 
 
 def conformance(server, folder, *options):

@@ -4,55 +4,38 @@ The functions that take `draw` make a part of a document, from what was drawn be
 """
 
 import copy
-import functools
+import importlib.util
 import json
+import os
 import re
 
 from hypothesis import strategies as st
 
 from . import rules, rules_of_runs
+from .program import ROOT
 
 
-def of(*values):
-    return st.sampled_from(values)
+def _module_at(*names):
+    """A module of the package for Python, without the package, which would load the library."""
+    spec = importlib.util.spec_from_file_location("strategies_of_testing", os.path.join(ROOT, *names))
+    module = importlib.util.module_from_spec(spec)
+    spec.loader.exec_module(module)
+    return module
 
 
-@functools.lru_cache(maxsize=None)
-def chance(percent):
-    """True for so many of a hundred."""
-    return of(*[False] * (100 - percent), *[True] * percent)
+good = _module_at("python", "odb_batch", "testing", "_strategies.py")
+of, chance = good.of, good.chance
 
-
-ID_NAMES = ("a", "b", "c", "d", "e", "f", "1", "2", "A", "x-1", "~", "metadata", "all")
-GROUP_NAMES = ("g", "h", "G")
-IDS, GROUPS = of(*ID_NAMES), of(*GROUP_NAMES)
-# How many units a batch has, and how large they are; 0 is a request without a group.
-COUNTS, SIZES = of(0, 1, 2, 3, 3, 4, 4, 5), of(0, 0, 0, 1, 2, 3)
-URLS = of(
-    "Books", "/service/Books('dune')", "", "https://host/s/X", "$crossjoin(A,B)", "$metadata", "$all%ffx",
-    "%zz", "/$a/Pages", "/service/%2524batch", "$batch/", "Books?x=/$batch", "$root/Books#$", "%", "Bücher",
-)  # fmt: skip
+IDS, GROUPS = of(*good.ID_NAMES), of(*good.GROUP_NAMES)
 BAD_URLS = of(
     "$", "$a(5)", "$a%2Fb", "%24", "$$", "$aä", "$batch", "/s/$batch?x", "/s/%24batch#y",
     "$nobody/X", "$all-", None, 7,
 )  # fmt: skip
-DOLLARS, TAILS = of("$", "%24"), of("", "/Pages", "?$top=1", "#x")
-METHODS = of("get", "post", "PATCH", "Delete", "put")
-WHOLE = ({}, [], 0, False, "", "text!", {"b": 1, "a": [2, {"z": None}]}, 2**64 - 1, -(2**63))
 # A text between two `@@` is written as the number that it spells.
 INEXACT = ("@@1.5@@", ["@@1E2@@"], 2**64, [-(2**63) - 1])
-WHOLE_BODIES, BODIES = of(*WHOLE), of(*WHOLE, *INEXACT)
-TYPES = {
-    None: BODIES,
-    "application/json": BODIES,
-    "Application/JSON; charset=x": BODIES,
-    "image/x+json": BODIES,
-    "text/x+json": BODIES,
-    "text/plain": of("", "any text!"),
-    " Text/HTML;q=1": of("<p>"),
-    "image/png": of("", "AA", "AAA", "AAAA", "AA==", "AA=", "=", "AAAAAA=", "-_A="),
-}
-MEDIA, TYPE_NAMES = of(*TYPES), of("Content-Type", "content-type")
+BODIES = of(*good.WHOLE, *INEXACT)
+# Few have numbers that are not whole, since these are refused in second documents.
+RECORDED_BODIES = chance(10).flatmap(lambda inexact: BODIES if inexact else good.WHOLE_BODIES)
 BAD_BODIES = of(7, "A", "AA===", "A+BC", "AAAAA", "AA A", {})
 BAD_HEADERS = of(
     {"X": "1", "x": "2"}, {"a": 1}, [], {"Content-Type": "text/plain"},
@@ -62,9 +45,7 @@ VALUES = of(
     None, 0, 1, True, "", "a", "a b", [], ["a"], [None], {}, {"a": "b"}, {"X": "1", "x": "2"}, {"a": 1}, "@@1.5@@",
 ).map(copy.deepcopy)  # fmt: skip
 MEMBERS = of(*rules.MEMBERS, "if", "other", "@note", "url@note", "Id", "status", "start", "report")
-SUCCESSES, FAILURES = of(200, 201, 204, 299), of(304, 300, 399, 400, 404, 409, 500, 599)
 BAD_STATUSES = of(199, 600, -1, 0, 65535, 65536, "200", "@@200.0@@", "@@2e2@@", None, True, 99, 100)
-HEADERS = of(None, {}, {"ETag": "7"}, {"Location": "X(1)", "age": "\u2028\""}, {"X": "", "Ä": "ä"})
 OTHER_BYTES = of(b" ", b"}", b"[", b"\\", b"\xff")
 
 
@@ -86,83 +67,16 @@ def documents(draw, value):
 # Batches
 
 
-def unused(names, taken):
-    return [it for it in names if it not in taken]
-
-
-def good_names(draw, batch, group):
-    """Names of earlier requests and groups in any order, with the groups that have to be listed; some come twice."""
-    names = []
-    for earlier in draw(st.lists(st.sampled_from(batch), unique_by=id, max_size=3)) if batch else []:
-        other = earlier.get("atomicityGroup")
-        if other in (None, group):
-            names.append(earlier["id"])
-        else:
-            names += draw(of([other], [other, earlier["id"]]))
-    if names and draw(st.booleans()):
-        names += draw(st.lists(st.sampled_from(names), max_size=2))
-        names = draw(st.permutations(names))
-    return names
-
-
-def good_url(draw, batch, request):
-    """A plain URL, or a reference that the names of the request allow."""
-    around = {*(request.get("dependsOn") or []), request.get("atomicityGroup")} - {None}
-    covered = [it["id"] for it in batch if it["id"] in around or it.get("atomicityGroup") in around]
-    if covered and draw(chance(40)):
-        return draw(DOLLARS) + draw(st.sampled_from(covered)) + draw(TAILS)
-    return draw(URLS)
-
-
-def add_body(draw, request):
-    media = draw(MEDIA)
-    request["body"] = draw(TYPES[media])
-    if media is not None:
-        request["headers"] = {draw(TYPE_NAMES): media, "Prefer": "x"}
-
-
-def good_request(draw, batch, group):
-    """A request that may come next in a batch."""
-    name = draw(st.sampled_from(unused(ID_NAMES, [it["id"] for it in batch])))
-    request = {"id": name, "method": draw(METHODS)}
-    if group is not None:
-        request["atomicityGroup"] = group
-    names = good_names(draw, batch, group)
-    if names or draw(chance(10)):
-        request["dependsOn"] = names or draw(of([], None))
-    request["url"] = good_url(draw, batch, request)
-    if request["method"] in ("post", "PATCH", "put") and draw(chance(60)):
-        add_body(draw, request)
-    return request
-
-
-@st.composite
-def next_units(draw, batch):
-    """The requests that come next in a batch: one without a group, or those of a group."""
-    names, size, found = unused(GROUP_NAMES, [it.get("atomicityGroup") for it in batch]), draw(SIZES), []
-    grouped = size > 0 and names
-    for _ in range(size if grouped else 1):
-        found.append(good_request(draw, batch + found, names[0] if grouped else None))
-    return found
-
-
-@st.composite
-def good_batches(draw):
-    """The value of a batch that is accepted."""
-    batch = []
-    for _ in range(draw(COUNTS)):
-        batch += draw(next_units(batch))
-    return {"requests": batch}
+def good_batches():
+    """The value of a batch that is accepted; bodies may have numbers that are not whole."""
+    return good.batches(bodies=BODIES)
 
 
 @st.composite
 def recorded_batches(draw):
     """The value of a batch that is accepted and has a canonical text, and an outcome for each of its requests."""
-    batch = draw(good_batches())
-    for request in batch["requests"]:
-        if request.get("body") in INEXACT:
-            request["body"] = 0
-    return batch, [with_rest(draw, {"id": it["id"], "status": status(draw)}, inexact=0) for it in batch["requests"]]
+    batch = draw(good.batches())
+    return batch, draw(good.outcomes(batch))["outcomes"]
 
 
 # Damage
@@ -206,7 +120,7 @@ OF_ANY = (
     change_to("atomicityGroup", st.one_of(GROUPS, of(None, "a"))), change_to("id", st.one_of(IDS, GROUPS)),
 )  # fmt: skip
 OF_REQUEST = of(*OF_ANY, change_name, change_name, drop_name, change_url)
-OF_SECOND = of(*OF_ANY, *3 * [change_to("status", st.one_of(BAD_STATUSES, SUCCESSES, FAILURES))])
+OF_SECOND = of(*OF_ANY, *3 * [change_to("status", st.one_of(BAD_STATUSES, good.SUCCESSES, good.FAILURES))])
 
 
 def damage_list(draw, elements):
@@ -245,20 +159,6 @@ def batches(draw, percent):
 # Second documents
 
 
-def status(draw, percent=75):
-    """A success for so many of a hundred."""
-    return draw(SUCCESSES if not draw(chance(100 - percent)) else FAILURES)
-
-
-def with_rest(draw, element, inexact=10):
-    """Adds headers and a body to an outcome or a report, now and then; few have numbers that are not whole."""
-    if draw(chance(30)):
-        element["headers"] = draw(HEADERS)
-    if draw(chance(30)):
-        element["body"] = draw(BODIES if draw(chance(inexact)) else WHOLE_BODIES)
-    return element
-
-
 def second(draw, name, elements):
     """A second document with these elements, damaged or not."""
     whole = {name: elements}
@@ -267,32 +167,45 @@ def second(draw, name, elements):
 
 @st.composite
 def outcomes(draw, ids):
-    found = [with_rest(draw, {"id": name, "status": status(draw)}) for name in ids if not draw(chance(3))]
+    known = [name for name in ids if not draw(chance(3))]
+    found = [good.with_rest(draw, {"id": name, "status": good.status(draw)}, RECORDED_BODIES) for name in known]
     more = draw(of([], [], [{"id": "not an id", "status": 200}]))
     return second(draw, "outcomes", draw(st.permutations(found)) + more)
 
 
-def events_of_run(draw, run):
-    """The events of a run that the rules allow, in any order that they allow."""
-    found, percent = [], draw(of(80, 40))
-    while not rules_of_runs.is_finished(run):
-        may_start = rules_of_runs.ready(run)
-        i = draw(st.sampled_from(may_start + run.running()))
-        name = run.batch[i].id
-        if i in may_start:
-            run.started.append(i)
-            found.append({"start": name})
-        else:
-            run.reported[i] = rules_of_runs.Outcome(status(draw, percent), {}, None)
-            found.append(with_rest(draw, {"report": name, "status": run.reported[i].status}))
-    return found
+class PlainRun:
+    """A run by the plain rules, as a live run is driven."""
+
+    def __init__(self, run):
+        self.run = run
+        self.position = {request.id: i for i, request in enumerate(run.batch)}
+
+    @property
+    def ready(self):
+        return [self.run.batch[i].id for i in rules_of_runs.ready(self.run)]
+
+    @property
+    def running(self):
+        return [self.run.batch[i].id for i in self.run.running()]
+
+    def start(self, id):
+        self.run.started.append(self.position[id])
+
+    def report(self, id, status):
+        self.run.reported[self.position[id]] = rules_of_runs.Outcome(status, {}, None)
+
+
+@st.composite
+def statuses(draw, percent):
+    return good.status(draw, percent)
 
 
 @st.composite
 def events(draw, requests, stop=False, width=10_000):
     """The events of a run, now and then by another policy, with a start too many, or too few events."""
     other = draw(chance(20))
-    found = events_of_run(draw, rules_of_runs.Run(requests, stop and not other, width + other))
+    run = PlainRun(rules_of_runs.Run(requests, stop and not other, width + other))
+    found = good.events_of(draw, run, statuses(draw(of(80, 40))), RECORDED_BODIES)
     if requests and draw(chance(40)):
         found.insert(draw(st.integers(0, len(found))), {"start": draw(st.sampled_from(requests)).id})
     if draw(chance(10)):
@@ -304,10 +217,10 @@ def events(draw, requests, stop=False, width=10_000):
 def responses(draw, requests):
     """The responses to a run that the rules allow, in any order, now and then with another status or with some left out."""
     percent, order = draw(of(95, 50)), draw(of("first", "wide"))
-    recorded = {it.id: rules_of_runs.Outcome(status(draw, percent), {}, None) for it in requests}
+    recorded = {it.id: rules_of_runs.Outcome(good.status(draw, percent), {}, None) for it in requests}
     found = json.loads(rules_of_runs.replay(requests, recorded, order))["responses"]
     if found and draw(st.booleans()):
-        draw(st.sampled_from(found))["status"] = draw(st.one_of(FAILURES, of(100, 199, 600)))
+        draw(st.sampled_from(found))["status"] = draw(st.one_of(good.FAILURES, of(100, 199, 600)))
     if draw(chance(30)):
         found = [it for it in found if it["status"] != 424 and draw(chance(90))]
     return second(draw, "responses", draw(st.permutations(found)))

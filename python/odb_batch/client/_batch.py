@@ -1,0 +1,377 @@
+"""A batch that is made by calls."""
+
+import contextlib
+import json
+from typing import Any, Awaitable, Callable, Dict, Generator, Iterable, Iterator, List, Mapping, Optional, Tuple, Union
+from urllib.parse import unquote
+
+from .._bodies import is_json, to_json
+from .._commands import Counts, Mode, check, plan
+from .._documents import Document, bytes_of
+from .._elements import batch_text, element_text
+from .._messages import Answer, Answered, header_dict, media_type
+from .._preparation import CONDITIONS
+from .._requests import Request, requests
+from ._parts import MOST, Parts
+from ._results import Results
+
+#: Posts the bytes of a batch, and returns what that is answered: its status, its headers and its body.
+Post = Callable[[bytes], Answered]
+PostAsync = Callable[[bytes], Awaitable[Answered]]
+
+# Ids to which no URL refers, since $ and such a name mean something else (OData URL Conventions 4.01).
+_RESERVED = frozenset({"all", "batch", "crossjoin", "entity", "id", "metadata", "root"})
+
+
+class Reference:
+    """A request of a :class:`Batch`. As a text it is the reference ``$id``, for URLs and conditions of later requests.
+
+    Attributes:
+        id: The id of the request.
+    """
+
+    __slots__ = ("id", "_origin")
+
+    def __init__(self, id: str, origin: object) -> None:
+        self.id, self._origin = id, origin
+
+    def __str__(self) -> str:
+        return "$" + self.id
+
+    def __repr__(self) -> str:
+        return f"<Reference {self}>"
+
+
+class Group:
+    """An atomicity group of a :class:`Batch`, which later requests may depend on.
+
+    Attributes:
+        id: The name of the group.
+    """
+
+    __slots__ = ("id", "_origin")
+
+    def __init__(self, id: str, origin: object) -> None:
+        self.id, self._origin = id, origin
+
+    def __repr__(self) -> str:
+        return f"<Group {self.id}>"
+
+
+#: What a request depends on: a request or a group, or its name.
+Name = Union[Reference, Group, str]
+
+
+def headers(mode: Mode = "continue") -> Dict[str, str]:
+    """Returns the headers with which a batch is posted: ``Content-Type``, ``Accept``, and in mode ``"continue"`` the
+    preference ``continue-on-error`` (OData Protocol 4.01, section 8.2.8.3)."""
+    common = {"Content-Type": "application/json", "Accept": "application/json"}
+    return {**common, "Prefer": "continue-on-error"} if mode == "continue" else common
+
+
+class Batch:
+    """A batch of requests (OData JSON Format 4.01, section 19), made by calls.
+
+    Each call that adds a request returns a :class:`Reference`. A request that refers to an earlier one, by its URL
+    as ``f"{order}/Lines"`` or by ``If-Match``, depends on it without further ado; ``after`` is for other
+    dependencies. What depends on a request of a group depends on the group, too.
+
+    A batch without requests is false.
+    """
+
+    def __init__(self) -> None:
+        self._requests: List[Tuple[Request, Tuple[str, ...]]] = []
+        # The group of each request, by its id, and of each group itself: what is taken as a name.
+        self._names: Dict[str, Optional[str]] = {}
+        self._group: Optional[Group] = None
+        # What a Reference and a Group have in common with the batches that they may be used in.
+        self._origin = object()
+
+    @classmethod
+    def read(cls, document: Document) -> "Batch":
+        """Returns the batch of a document, to be sent or to be extended.
+
+        Raises:
+            Fault: The batch is refused.
+            MemoryError: An allocation failed.
+        """
+        batch, text = cls(), bytes_of(document)
+        for request, planned in zip(requests(text), plan(text)):
+            batch._append(request, planned.needs)
+        return batch
+
+    def __len__(self) -> int:
+        return len(self._requests)
+
+    def __repr__(self) -> str:
+        return f"<Batch of {len(self)} requests>"
+
+    # Adding requests
+
+    def get(
+        self,
+        url: Union[str, Reference],
+        *,
+        after: Union[Name, Iterable[Name]] = (),
+        headers: Optional[Mapping[str, Union[str, Reference]]] = None,
+        id: Optional[str] = None,
+    ) -> Reference:
+        """Adds a GET; see :meth:`request`."""
+        return self.request("GET", url, after=after, headers=headers, id=id)
+
+    def post(
+        self,
+        url: Union[str, Reference],
+        body: Any = None,
+        *,
+        after: Union[Name, Iterable[Name]] = (),
+        headers: Optional[Mapping[str, Union[str, Reference]]] = None,
+        id: Optional[str] = None,
+    ) -> Reference:
+        """Adds a POST; see :meth:`request`."""
+        return self.request("POST", url, body, after=after, headers=headers, id=id)
+
+    def put(
+        self,
+        url: Union[str, Reference],
+        body: Any = None,
+        *,
+        after: Union[Name, Iterable[Name]] = (),
+        headers: Optional[Mapping[str, Union[str, Reference]]] = None,
+        id: Optional[str] = None,
+    ) -> Reference:
+        """Adds a PUT; see :meth:`request`."""
+        return self.request("PUT", url, body, after=after, headers=headers, id=id)
+
+    def patch(
+        self,
+        url: Union[str, Reference],
+        body: Any = None,
+        *,
+        after: Union[Name, Iterable[Name]] = (),
+        headers: Optional[Mapping[str, Union[str, Reference]]] = None,
+        id: Optional[str] = None,
+    ) -> Reference:
+        """Adds a PATCH; see :meth:`request`."""
+        return self.request("PATCH", url, body, after=after, headers=headers, id=id)
+
+    def delete(
+        self,
+        url: Union[str, Reference],
+        *,
+        after: Union[Name, Iterable[Name]] = (),
+        headers: Optional[Mapping[str, Union[str, Reference]]] = None,
+        id: Optional[str] = None,
+    ) -> Reference:
+        """Adds a DELETE; see :meth:`request`."""
+        return self.request("DELETE", url, after=after, headers=headers, id=id)
+
+    def request(
+        self,
+        method: str,
+        url: Union[str, Reference],
+        body: Any = None,
+        *,
+        after: Union[Name, Iterable[Name]] = (),
+        headers: Optional[Mapping[str, Union[str, Reference]]] = None,
+        id: Optional[str] = None,
+    ) -> Reference:
+        """Adds a request, and returns the reference to it.
+
+        Args:
+            method: Its method: DELETE, GET, PATCH, POST or PUT.
+            url: Its URL, relative to the service, or with a reference: ``order`` or ``f"{order}/Lines"``.
+            body: Its body: bytes as they are on the wire, or any other value, which ``json`` writes; a Decimal keeps
+                its digits. None if it has none.
+            after: What it depends on: a request or a group, its name, or several of them.
+            headers: Its headers. The value of ``If-Match`` and ``If-None-Match`` may be a reference, which stands for
+                an ETag. A body without ``Content-Type`` is ``application/json``.
+            id: Its id; without it that is the first free number.
+
+        Raises:
+            ValueError: The id is one that no URL can refer to, as ``metadata``; the bytes of a body are not JSON though
+                its media type is; or what is in ``after`` is of another batch.
+            TypeError: ``json`` cannot write the body.
+        """
+        if id in _RESERVED:
+            raise ValueError(f"no URL can refer to a request with the id {id!r}")
+        url, name = str(url), self._free("", len(self)) if id is None else id
+        given = header_dict((key, str(value)) for key, value in (headers or {}).items())
+        text = _body_text(body, given)
+        needs = self._needs(after, url, given)
+        group = None if self._group is None else self._group.id
+        self._append(Request(name, method.upper(), url, None, url, given, group, text), needs)
+        return Reference(name, self._origin)
+
+    @contextlib.contextmanager
+    def group(self, id: Optional[str] = None) -> Iterator[Group]:
+        """Makes the requests that are added in its block an atomicity group: all of them are performed, or none.
+
+        If the block ends by an exception, none of them is added.
+
+        Args:
+            id: The name of the group; without it that is a free one.
+
+        Raises:
+            ValueError: The block is in that of another group.
+        """
+        if self._group is not None:
+            raise ValueError("a group cannot be in another one")
+        begun, names = len(self._requests), dict(self._names)
+        self._group = Group(self._free("g", 0) if id is None else id, self._origin)
+        try:
+            yield self._group
+        except BaseException:
+            del self._requests[begun:]
+            self._names = names
+            raise
+        finally:
+            self._group = None
+
+    def _free(self, prefix: str, count: int) -> str:
+        """The first name with a number that is not taken."""
+        while f"{prefix}{count + 1}" in self._names:
+            count += 1
+        return f"{prefix}{count + 1}"
+
+    def _append(self, request: Request, needs: Tuple[str, ...]) -> None:
+        self._requests.append((request, needs))
+        self._names[request.id] = request.group
+        if request.group is not None:
+            self._names.setdefault(request.group, request.group)
+
+    def _needs(self, after: Union[Name, Iterable[Name]], url: str, given: Mapping[str, str]) -> Tuple[str, ...]:
+        """The names that a request depends on: those that it lists, what it refers to, and the groups of these."""
+        listed = [after] if isinstance(after, (Reference, Group, str)) else after
+        names = [*map(self._name, listed), *filter(self._names.__contains__, _referred(url, given))]
+        own = None if self._group is None else self._group.id
+        groups = (self._names.get(name) for name in names)
+        return tuple(dict.fromkeys([*names, *(it for it in groups if it is not None and it != own)]))
+
+    def _name(self, named: Name) -> str:
+        if isinstance(named, str):
+            return named
+        if named._origin is not self._origin:
+            raise ValueError(f"{named.id} is of another batch")
+        return named.id
+
+    # Checking and sending
+
+    def document(self) -> bytes:
+        """Returns the document of the batch."""
+        return batch_text(element_text(request, needs) for request, needs in self._requests)
+
+    def check(self) -> Counts:
+        """Checks the batch as :func:`odb_batch.check` does, and returns its counts.
+
+        Raises:
+            Fault: The batch is refused. The place says which request is wrong.
+            MemoryError: An allocation failed.
+        """
+        return check(self.document())
+
+    def send(self, post: Post, *, limit: int = MOST, mode: Mode = "continue") -> Results:
+        """Sends the batch, if need be in parts, and returns what each request was answered.
+
+        Units are sent in the order of the batch: groups, and requests without one. A part has as many as the limit
+        allows. A unit is sent if all that it depends on is in the same part or has succeeded; else its requests are
+        424. In a later part ``$a`` is replaced by the URL of what ``a`` has created or returned, and ``If-Match: $a``
+        by its ETag.
+
+        Where a part is answered as a whole, by a status that is not 2xx, each of its requests has that answer. Where
+        ``post`` raises an exception, or what it returns is not the response to the part, each has 504 for a timeout,
+        else 502. After both nothing more is sent, and the other requests are 424.
+
+        Args:
+            post: Posts the bytes of a document, with the headers that :func:`headers` returns, and returns the status,
+                the headers and the bytes of the body that it is answered.
+            limit: How many requests the service takes in a batch, from 1 to 10,000.
+            mode: ``"continue"``; or ``"stop"`` if the service stops at the first error, as it does without the header
+                ``Prefer: continue-on-error``. Then nothing is sent after an error.
+
+        Raises:
+            Fault: The batch is refused. Nothing was sent.
+            ValueError: A group has more requests than the limit, or an option has a value that it may not have. Nothing
+                was sent.
+            TypeError: What ``post`` returns is not a status with headers and a body.
+            MemoryError: An allocation failed.
+        """
+        parts = self.exchange(limit=limit, mode=mode)
+        try:
+            document = next(parts)
+            while True:
+                try:
+                    answered = post(document)
+                except Exception as error:
+                    document = parts.throw(error)
+                else:
+                    document = parts.send(answered)
+        except StopIteration as end:
+            return _results_of(end)
+
+    async def send_async(self, post: PostAsync, *, limit: int = MOST, mode: Mode = "continue") -> Results:
+        """Does what :meth:`send` does by a coroutine function. If its task is cancelled, what was answered is lost."""
+        parts = self.exchange(limit=limit, mode=mode)
+        try:
+            document = next(parts)
+            while True:
+                try:
+                    answered = await post(document)
+                except Exception as error:
+                    document = parts.throw(error)
+                else:
+                    document = parts.send(answered)
+        except StopIteration as end:
+            return _results_of(end)
+
+    def exchange(self, *, limit: int = MOST, mode: Mode = "continue") -> Generator[bytes, Answered, Results]:
+        """Yields one part after another, and is sent what it was answered, for clients that :meth:`send` does not fit.
+
+        The exception by which a part was not answered is thrown into it. The value in the end is the results.
+        """
+        parts = Parts(self.document(), limit, mode)
+        while (document := parts.next()) is not None:
+            try:
+                answered = yield document
+            except Exception as error:
+                parts.fail(error)
+            else:
+                parts.take(answered)
+        return Results(self, parts)
+
+    def _rest(self, document: bytes) -> "Batch":
+        """The batch of a document with requests of this one, for which the same references hold."""
+        batch = Batch.read(document)
+        batch._origin = self._origin
+        return batch
+
+
+def _results_of(end: StopIteration) -> Results:
+    results: Results = end.value
+    return results
+
+
+def _body_text(body: Any, given: Dict[str, str]) -> Optional[bytes]:
+    """The text of a body in a document, or None. Headers without a media type get one, if there is a body."""
+    is_wire = isinstance(body, (bytes, bytearray, memoryview))
+    if body is None or (is_wire and not len(body)):
+        return None
+    given.setdefault("content-type", "application/json")
+    text = to_json(Answer(200, given, body), given)
+    if is_wire and is_json(media_type(given)):
+        try:
+            json.loads(text, parse_constant=_refuse)
+        except (ValueError, RecursionError):
+            raise ValueError("the body is not JSON") from None
+    return text
+
+
+def _refuse(constant: str) -> None:
+    raise ValueError(constant)
+
+
+def _referred(url: str, given: Mapping[str, str]) -> Iterator[str]:
+    """What follows a $ at the beginning of a URL and of conditions."""
+    for value in (unquote(url.replace("?", "/").replace("#", "/").partition("/")[0]), *map(given.get, CONDITIONS)):
+        if value is not None and value.startswith("$"):
+            yield value[1:]

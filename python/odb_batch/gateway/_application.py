@@ -1,0 +1,218 @@
+"""The gateway as an application of aiohttp: batches, probes and metrics."""
+
+import asyncio
+import contextlib
+import time
+from typing import AsyncIterator, Dict, Optional
+
+from aiohttp import web
+
+from .._answers import FAILED, LOG
+from .._endpoint import Outer, folder_of, message_of, performed, refused, too_long
+from .._faults import Fault
+from .._messages import Answer, Refusal, header_dict
+from ._journal import FileJournal, Journals, digest, identity
+from ._metrics import CONTENT_TYPE, Metrics, log_line
+from ._options import Options
+from ._performance import Performance
+from ._routes import Routes
+from ._upstreams import Upstreams
+
+# For how many seconds the body of a batch is waited for.
+_READ_SECONDS = 30.0
+# How often old journals are looked for, in seconds.
+_PRUNE_SECONDS = 60.0
+
+
+class Gateway:
+    """Answers batches, probes and questions for metrics.
+
+    Args:
+        options: What it does.
+
+    Raises:
+        OSError: The folder of journals is not there, or cannot be written.
+    """
+
+    def __init__(self, options: Options) -> None:
+        self._options = options
+        self._metrics = Metrics(
+            {"batches": options.batches, "connections": options.connections, "width": options.width}
+        )
+        self._routes, self._upstreams = Routes(options.routes), Upstreams(options, self._metrics)
+        self._journals = Journals(options.journal, options.keep) if options.journal else None
+
+    def application(self) -> web.Application:
+        """Returns the application that answers batches."""
+        app = web.Application(client_max_size=self._options.max_size + 1)
+        app.router.add_get(self._options.health, self._alive)
+        app.router.add_get(self._options.health + "/ready", self._ready)
+        if self._options.metrics_path:
+            app.router.add_get(self._options.metrics_path, self._counted)
+        app.router.add_route("*", "/{path:.*}", self._answer)
+        app.cleanup_ctx.append(self._opened)
+        return app
+
+    def of_metrics(self) -> web.Application:
+        """Returns the application that answers at the port of the metrics."""
+        app = web.Application()
+        app.router.add_get("/metrics", self._counted)
+        return app
+
+    async def stop(self, hurry: asyncio.Event) -> None:
+        """Starts nothing more, and returns once all batches are answered. What runs is waited for until the option
+        --grace, or until there is a hurry, and then broken off."""
+        self._upstreams.is_stopping = True
+        ends = [asyncio.ensure_future(it) for it in (self._idle(), hurry.wait())]
+        await asyncio.wait(ends, timeout=self._options.grace, return_when=asyncio.FIRST_COMPLETED)
+        for end in ends:
+            end.cancel()
+        await self._upstreams.give_up()
+        with contextlib.suppress(asyncio.TimeoutError):
+            await asyncio.wait_for(self._idle(), 5)
+
+    async def _idle(self) -> None:
+        while self._metrics.batches_running:
+            await asyncio.sleep(0.01)
+
+    async def _opened(self, _: web.Application) -> AsyncIterator[None]:
+        await self._upstreams.open()
+        pruning = asyncio.ensure_future(self._prune()) if self._journals is not None else None
+        yield
+        if pruning is not None:
+            pruning.cancel()
+        await self._upstreams.close()
+
+    async def _prune(self) -> None:
+        loop = asyncio.get_running_loop()
+        while self._journals is not None:
+            await loop.run_in_executor(None, self._journals.prune)
+            await asyncio.sleep(min(_PRUNE_SECONDS, self._options.keep))
+
+    # Probes and metrics
+
+    async def _alive(self, _: web.Request) -> web.Response:
+        return web.Response(text="ok\n")
+
+    async def _ready(self, _: web.Request) -> web.Response:
+        is_ready = not self._upstreams.is_stopping
+        return web.Response(text="ok\n" if is_ready else "stopping\n", status=200 if is_ready else 503)
+
+    async def _counted(self, _: web.Request) -> web.Response:
+        return web.Response(body=self._metrics.text().encode(), headers={"Content-Type": CONTENT_TYPE})
+
+    # Batches
+
+    async def _answer(self, request: web.Request) -> web.Response:
+        """Answers a request, counts it and writes a line of the log."""
+        if not request.path.endswith("/$batch"):
+            return _response(Refusal(404, "NotFound", "Only $batch is answered here").answer)
+        began, code, performance = time.perf_counter(), "", None
+        try:
+            performance = self._performance(request)
+            answer = await self._performed(request, performance)
+        except (Fault, Refusal) as error:
+            answer = refused(error)
+        except Exception as error:
+            LOG.error("a batch failed", exc_info=error)
+            answer = FAILED
+        if answer.status != 200:
+            code = answer.body["error"]["code"]
+            self._metrics.fault(code)
+        seconds = time.perf_counter() - began
+        self._metrics.batch(answer.status, seconds)
+        if self._options.log != "none":
+            self._log(request, answer, code, seconds, performance)
+        return _response(answer)
+
+    def _log(
+        self, request: web.Request, answer: Answer, code: str, seconds: float, performance: Optional[Performance]
+    ) -> None:
+        counts = {"sent": performance.tally.sent, "failed": performance.tally.failed} if performance else {}
+        size = len(answer.body) if isinstance(answer.body, bytes) else ""
+        words = {"batch": request.rel_url.raw_path, "from": request.remote or "", "method": request.method}
+        more = {"status": answer.status, "code": code, **counts, "bytes": size, "ms": f"{1000 * seconds:.1f}"}
+        log_line({**words, **more})
+
+    def _performance(self, request: web.Request) -> Performance:
+        """How the batch of a request is performed; raises Refusal if it is not one."""
+        headers = _headers(request)
+        scheme = headers.get("x-forwarded-proto", request.scheme).lower()
+        scheme = scheme if scheme in ("http", "https") else request.scheme
+        outer = Outer(request.method, scheme, request.host, folder_of(request.path), "/", headers)
+        peers = filter(None, (headers.get("x-forwarded-for"), request.remote))
+        forwarded = {
+            "x-forwarded-for": ", ".join(peers),
+            "x-forwarded-host": headers.get("x-forwarded-host", request.host),
+            "x-forwarded-proto": scheme,
+        }
+        return Performance(self._options, self._routes, self._upstreams, self._metrics, outer, forwarded)
+
+    async def _performed(self, request: web.Request, performance: Performance) -> Answer:
+        """Performs a batch; raises what it is refused by."""
+        if self._upstreams.is_stopping:
+            raise Refusal(503, "Stopping", "The gateway stops", retry_after="1")
+        if self._metrics.batches_running >= self._options.batches:
+            raise Refusal(503, "Busy", "There are as many batches as may be at once", retry_after="1")
+        self._metrics.batches_running += 1
+        try:
+            batch = await self._read(request)
+            headers = _headers(request)
+            id = headers.get("repeatability-request-id", "").encode()
+            if self._journals is None or not id:
+                return performed(await performance.response(batch, None), performance.mode)
+            # What has to be the same beside the document and the mode, or a client would read the answers of another.
+            same = [
+                request.path,
+                str(self._options.forwards),
+                *(headers.get(it, "") for it in self._options.credentials),
+            ]
+            sender = digest(*map(str.encode, same))
+            first = identity(batch=digest(batch), mode=performance.mode, sender=sender)
+            return await self._repeatable(self._journals, id, first, batch, performance)
+        finally:
+            self._metrics.batches_running -= 1
+
+    async def _repeatable(
+        self, journals: Journals, id: bytes, first: bytes, batch: bytes, performance: Performance
+    ) -> Answer:
+        """Performs a batch that may be sent again, or goes on with it."""
+        journal: Optional[FileJournal] = None
+        try:
+            journal = FileJournal(*await asyncio.get_running_loop().run_in_executor(None, journals.open, id, first))
+            answer = performed(await performance.response(batch, journal), performance.mode)
+            return answer._replace(headers={**answer.headers, "repeatability-result": "accepted"})
+        except Fault:
+            raise
+        except (OSError, ValueError) as error:
+            LOG.error("the journal %s: %s", digest(id), error)
+            raise Refusal(500, "BadJournal", "The journal of the batch cannot be read or written") from None
+        finally:
+            if journal is not None:
+                journal.close()
+
+    async def _read(self, request: web.Request) -> bytes:
+        try:
+            return await asyncio.wait_for(request.read(), _READ_SECONDS)
+        except web.HTTPRequestEntityTooLarge:
+            raise too_long(self._options.max_size) from None
+        except asyncio.TimeoutError:
+            raise Refusal(408, "CutBody", "The batch did not come in time") from None
+        except Exception:
+            raise Refusal(400, "CutBody", "The batch cannot be read to its end") from None
+
+
+def _headers(request: web.Request) -> Dict[str, str]:
+    """The headers of a request but for those of its connection (RFC 9110, section 7.6.1)."""
+    headers = header_dict(request.headers.items())
+    dropped = {name.strip().lower() for name in headers.get("connection", "").split(",")}
+    try:
+        "".join(headers.values()).encode()
+    except UnicodeEncodeError:
+        raise Refusal(400, "BadHeader", "A header has bytes that are not UTF-8") from None
+    return {name: value for name, value in headers.items() if name not in dropped}
+
+
+def _response(answer: Answer) -> web.Response:
+    headers, body = message_of(answer)
+    return web.Response(status=answer.status, headers={**headers, "server": "odb_batch"}, body=body)

@@ -1,0 +1,155 @@
+"""One batch on its way through the gateway: its requests and its groups, as they are sent to services."""
+
+import re
+import time
+from typing import Dict, List, Optional, Tuple
+from urllib.parse import urlsplit
+
+from .._endpoint import Outer, Room, folder_of
+from .._events import Journal
+from .._groups import MemberRefused, PreparedGroup
+from .._messages import Answer, PreparedRequest, Refusal
+from .._perform_async import perform_async
+from .._requests import Request
+from ._metrics import Metrics, log_line
+from ._options import Options
+from ._routes import Routes
+from ._upstreams import Outgoing, Upstreams
+
+# The headers of an answer that have a URL.
+_PLACES = ("location", "content-location", "odata-entityid")
+# What is no relative URL of a path, but a reference, a query, a path or a scheme.
+_IS_READ_OTHERWISE = re.compile(r"[$?/]|[A-Za-z][A-Za-z0-9+.-]*:|$").match
+
+
+class Tally:
+    """How many requests of a batch were sent, and how many of these have failed."""
+
+    def __init__(self) -> None:
+        self.sent = self.failed = 0
+
+
+class Performance:
+    """Performs one batch.
+
+    Args:
+        outer: The HTTP request that carries it.
+        forwarded: The headers by which services see who has sent it.
+
+    Attributes:
+        mode: How it is performed.
+        tally: What was sent so far.
+    """
+
+    def __init__(
+        self,
+        options: Options,
+        routes: Routes,
+        upstreams: Upstreams,
+        metrics: Metrics,
+        outer: Outer,
+        forwarded: Dict[str, str],
+    ) -> None:
+        self._options, self._routes, self._upstreams, self._metrics = options, routes, upstreams, metrics
+        self._outer, self._forwarded = outer, forwarded
+        self._room = Room(options.max_size)
+        self.mode = outer.mode
+        self.tally = Tally()
+
+    async def response(self, batch: bytes, journal: Optional[Journal]) -> bytes:
+        """Returns the response document; raises as `perform_async` does."""
+        return await perform_async(
+            batch,
+            self._send,
+            mode=self._outer.mode,
+            width=self._options.width,
+            base=self._outer.base,
+            roots=self._outer.roots,
+            limit=self._options.limit,
+            stop=lambda: self._upstreams.is_stopping,
+            groups=self._send_group if self._options.forwards else None,
+            journal=journal,
+        )
+
+    async def _send(self, request: PreparedRequest) -> Answer:
+        """Sends a request to the service of its route."""
+        try:
+            _, url = self._routes.target(request.url)
+            headers = {**self._outer.headers_of(request), **self._forwarded, "host": urlsplit(url).netloc}
+            answer = await self._exchanged(request.id, Outgoing(request.method, url, headers, request.body))
+        except Refusal as refusal:
+            raise self._counted(refusal) from None
+        return self._shown(url, answer)
+
+    def _counted(self, refusal: Refusal) -> Refusal:
+        self._metrics.fault(refusal.answer.body["error"]["code"])
+        return refusal
+
+    def _shown(self, sent: str, answer: Answer) -> Answer:
+        """An answer with the URLs in its headers as clients see them."""
+        base, found = self._outer.base, {name: it for name, it in answer.headers.items() if name in _PLACES}
+        seen = {name: self._routes.public(base, sent, place) for name, place in found.items()}
+        return answer._replace(headers={**answer.headers, **seen}) if seen else answer
+
+    async def _exchanged(self, id: str, request: Outgoing) -> Answer:
+        """Sends a request, and counts and logs it."""
+        began, status = time.perf_counter(), 0
+        self.tally.sent += 1
+        try:
+            answer = await self._upstreams.send(request, self._room)
+            status = answer.status
+            return answer
+        except Refusal as refusal:
+            status = refusal.answer.status
+            raise
+        finally:
+            self.tally.failed += not 200 <= status < 400
+            if self._options.log == "requests":
+                milliseconds = f"{1000 * (time.perf_counter() - began):.1f}"
+                url = request.url.partition("?")[0]
+                log_line({"request": id, "method": request.method, "url": url, "status": status, "ms": milliseconds})
+
+    # A group
+
+    async def _send_group(self, group: PreparedGroup) -> List[Answer]:
+        """Sends a group as a batch to the one service of its requests."""
+        try:
+            service, sent, urls = self._of_one_service(group)
+            headers = {**self._outer.headers_of_batch(), **self._forwarded, "host": urlsplit(service).netloc}
+            answer = await self._exchanged(group.name, Outgoing("POST", service, headers, sent.batch()))
+        except Refusal as refusal:
+            raise self._counted(refusal) from None
+        except MemberRefused as refused:
+            self._metrics.fault(refused.answer.body["error"]["code"])
+            raise
+        answers = sent.answers(answer)
+        return [self._shown(urls.get(it.id, service), answer) for it, answer in zip(sent.requests, answers)]
+
+    def _of_one_service(self, group: PreparedGroup) -> Tuple[str, PreparedGroup, Dict[str, str]]:
+        """The URL of the service's $batch, the group as it takes it, and the URLs of its requests by their ids."""
+        services: Dict[str, None] = {}
+        requests, urls = [], {}
+        for request in group.requests:
+            try:
+                found = self._member(request)
+            except Refusal as refusal:
+                raise MemberRefused(request.id, refusal.answer) from None
+            requests.append(found[0])
+            if found[1]:
+                services[found[1]] = None
+                urls[request.id] = found[2]
+        if len(services) != 1:
+            raise Refusal(501, "SeveralServices", "The requests of an atomicity group go to several services")
+        return next(iter(services)), group._replace(requests=tuple(requests)), urls
+
+    def _member(self, request: Request) -> Tuple[Request, str, str]:
+        """A request of a group as its service takes it, the URL of the service's $batch, and its own, if it has one."""
+        headers = self._outer.own_headers(request.headers)
+        if request.reference is not None:
+            return request._replace(headers=headers), "", ""
+        route, url = self._routes.target(request.url)
+        inside = url[len(folder_of(route.service)) :]
+        if _IS_READ_OTHERWISE(inside):
+            parts = urlsplit(url)
+            inside = parts.path + (f"?{parts.query}" if parts.query else "")
+        return request._replace(url=inside, headers=headers), route.service, url

@@ -1,0 +1,103 @@
+"""Where the requests of a batch go: services by the prefixes of paths, and back."""
+
+import re
+from typing import Iterable, List, NamedTuple, Optional, Tuple
+from urllib.parse import SplitResult, urljoin, urlsplit, urlunsplit
+
+from .._endpoint import folder_of
+from .._messages import Refusal
+
+_ESCAPE = re.compile("%([0-9A-Fa-f]{2})")
+# What may be escaped in a path without another meaning (RFC 3986, section 2.4; OData URL Conventions 4.01, section 2).
+_PLAIN = frozenset("ABCDEFGHIJKLMNOPQRSTUVWXYZabcdefghijklmnopqrstuvwxyz0123456789-._~!$'()*+,:=@&")
+# What may follow a prefix: the key of an entity, or a further segment.
+_ENDS = ("", "/", "(")
+_PORTS = {"http": 80, "https": 443}
+
+
+def normalized(path: str) -> str:
+    """Returns a path in ASCII in which nothing is escaped that need not be, so that prefixes can be compared."""
+    return _ESCAPE.sub(lambda it: chr(int(it[1], 16)) if chr(int(it[1], 16)) in _PLAIN else it[0].upper(), path)
+
+
+class Route(NamedTuple):
+    """Where the requests go whose path begins with a prefix.
+
+    Attributes:
+        prefix: The normalized prefix. If it does not end with /, a key or a further segment may follow.
+        upstream: The URL that takes its place. It ends with / if the prefix does.
+    """
+
+    prefix: str
+    upstream: str
+
+    @property
+    def service(self) -> str:
+        """The URL of the service's $batch: in the folder of the upstream URL."""
+        return folder_of(self.upstream) + "$batch"
+
+
+class Routes:
+    """Routes, of which the longest prefix counts."""
+
+    def __init__(self, routes: Iterable[Route]) -> None:
+        self._routes = sorted(routes, key=lambda it: len(it.prefix), reverse=True)
+        self._places: List[Tuple[str, str, Route]] = []
+        for route in sorted(self._routes, key=lambda it: len(it.upstream), reverse=True):
+            parts = urlsplit(route.upstream)
+            self._places.append((_host(parts), normalized(parts.path), route))
+
+    def target(self, url: str) -> Tuple[Route, str]:
+        """Returns the route of a URL that clients see, and the URL that is sent.
+
+        Raises:
+            Refusal: No route takes it: 404 ``NoRoute``. It is that of a batch: 400 ``NestedBatch``.
+        """
+        parts = urlsplit(url)
+        path = normalized(parts.path)
+        if path.endswith("/$batch"):
+            raise Refusal(400, "NestedBatch", "A batch has no batches")
+        route = self._route(path)
+        if route is None:
+            raise Refusal(404, "NoRoute", f"No service is behind {path}")
+        query = f"?{parts.query}" if parts.query else ""
+        return route, route.upstream + path[len(route.prefix) :] + query
+
+    def _route(self, path: str) -> Optional[Route]:
+        return next((it for it in self._routes if _takes(it.prefix, path)), None)
+
+    def public(self, base: str, sent: str, place: str) -> str:
+        """Returns the URL, as clients see it, of what a service calls by a URL; that itself if no route leads there.
+        One without a host stays without.
+
+        Args:
+            base: A URL that clients see.
+            sent: The URL to which the request was sent.
+            place: The URL in the answer, which may be relative to it.
+        """
+        try:
+            given, found, seen = urlsplit(place), urlsplit(urljoin(sent, place)), urlsplit(base)
+            host = _host(found)
+        except ValueError:
+            return place
+        front = seen[:2] if given.netloc else ("", "")
+        path = normalized(found.path)
+        if host == _host(seen):
+            # A service that knows the host of the clients may know their paths, too.
+            if self._route(path) is not None:
+                return place
+            host = _host(urlsplit(sent))
+        for known, prefix, route in self._places:
+            if known == host and _takes(prefix, path):
+                return urlunsplit((*front, route.prefix + path[len(prefix) :], found.query, found.fragment))
+        return place
+
+
+def _takes(prefix: str, path: str) -> bool:
+    """Whether a normalized path is at a prefix or below."""
+    return path.startswith(prefix) and (prefix.endswith("/") or path[len(prefix) :][:1] in _ENDS)
+
+
+def _host(parts: SplitResult) -> str:
+    """The host of a URL with its port; raises ValueError if that is not one."""
+    return f"{parts.hostname}:{parts.port or _PORTS.get(parts.scheme)}"

@@ -1,0 +1,71 @@
+"""``python3 -m odb_batch gateway``: listens until SIGTERM."""
+
+import asyncio
+import signal
+import sys
+from typing import Sequence, Tuple
+
+from ._options import PROGRAM, Address, Options, options_of
+
+# The exit status where the gateway cannot run; wrong arguments end with 2.
+UNUSABLE = 3
+
+
+def main(words: Sequence[str]) -> int:
+    """Does what the words of a command line ask; returns the exit status."""
+    options = options_of(words)
+    try:
+        import aiohttp  # noqa: F401
+    except ImportError:
+        print(f"error: {PROGRAM} needs aiohttp: pip install 'odb-batch[gateway]'", file=sys.stderr)
+        return UNUSABLE
+    try:
+        asyncio.run(_serve(options))
+    except OSError as error:
+        print(f"error: {error.filename or ''}{': ' if error.filename else ''}{error.strerror}", file=sys.stderr)
+        return UNUSABLE
+    return 0
+
+
+async def _serve(options: Options) -> None:
+    from aiohttp import web
+
+    from ._application import Gateway
+
+    gateway = Gateway(options)
+    apps = [(gateway.application(), options.listen)]
+    if options.metrics_at is not None:
+        apps.append((gateway.of_metrics(), options.metrics_at))
+    stopped, hurry = _signals()
+    runners = []
+    try:
+        for app, address in apps:
+            runner = web.AppRunner(app, access_log=None)
+            runners.append(runner)
+            await runner.setup()
+            site = web.TCPSite(runner, address.host or None, address.port, shutdown_timeout=5)
+            await site.start()
+        found = [_shown(options.listen, address) for address in runners[0].addresses]
+        print(f"listening on {found[0]}", file=sys.stderr, flush=True)
+        await stopped.wait()
+        await gateway.stop(hurry)
+    finally:
+        for runner in runners:
+            await runner.cleanup()
+
+
+def _shown(wanted: Address, bound: Sequence[object]) -> str:
+    host = wanted.host or "localhost"
+    return f"http://{f'[{host}]' if ':' in host else host}:{bound[1]}"
+
+
+def _signals() -> Tuple[asyncio.Event, asyncio.Event]:
+    """What SIGTERM and SIGINT set: the first one, and a further one."""
+    stopped, hurry = asyncio.Event(), asyncio.Event()
+
+    def came() -> None:
+        (hurry if stopped.is_set() else stopped).set()
+
+    for number in (signal.SIGTERM, signal.SIGINT):
+        asyncio.get_running_loop().add_signal_handler(number, came)
+    return stopped, hurry

@@ -1,0 +1,109 @@
+"""Sends requests to services, over connections that are kept."""
+
+import asyncio
+import time
+from typing import Dict, NamedTuple, Optional
+
+import aiohttp
+from yarl import URL
+
+from .._endpoint import Room
+from .._messages import Answer, Refusal, header_dict
+from ._metrics import Metrics
+from ._options import Options
+
+# Shorter than a server keeps a connection without requests, or one might be sent while it closes it.
+_KEEPALIVE = 1.0
+_PART = 65_536
+
+
+class Outgoing(NamedTuple):
+    """A request as it goes to a service."""
+
+    method: str
+    url: str
+    headers: Dict[str, str]
+    body: bytes
+
+
+class Upstreams:
+    """The services behind a gateway.
+
+    Attributes:
+        is_stopping: Whether no further request is sent.
+    """
+
+    def __init__(self, options: Options, metrics: Metrics) -> None:
+        self._options, self._metrics = options, metrics
+        self.is_stopping = self._is_given_up = False
+        self._session: Optional[aiohttp.ClientSession] = None
+
+    async def open(self) -> None:
+        """Makes what belongs to the running loop."""
+        self._places = asyncio.Semaphore(self._options.connections)
+        self._session = aiohttp.ClientSession(
+            connector=aiohttp.TCPConnector(limit=0, keepalive_timeout=_KEEPALIVE),
+            timeout=aiohttp.ClientTimeout(self._options.timeout),
+            cookie_jar=aiohttp.DummyCookieJar(),
+            auto_decompress=False,
+            skip_auto_headers=("User-Agent", "Accept", "Accept-Encoding", "Content-Type"),
+        )
+
+    async def close(self) -> None:
+        if self._session is not None:
+            await self._session.close()
+
+    async def give_up(self) -> None:
+        """Breaks what is on its way off: it is answered 504 ``Stopped``."""
+        self._is_given_up = True
+        if self._session is not None and self._session.connector is not None:
+            await self._session.connector.close()
+
+    async def send(self, request: Outgoing, room: Room) -> Answer:
+        """Sends a request, and returns its answer with whole body.
+
+        Raises:
+            Refusal: It was not sent: 503 ``Stopping`` or ``Unreachable``. There is no answer: 504 ``Timeout`` or
+                ``Stopped``, or 502 ``BadGateway``. It cannot be shown: 502 ``Encoded``, or 507 ``TooLong`` for a GET.
+        """
+        async with self._places:
+            if self.is_stopping:
+                raise Refusal(503, "Stopping", "The gateway stops, and has not sent the request", retry_after="1")
+            self._metrics.requests_running += 1
+            began, status = time.perf_counter(), 500
+            try:
+                answer = await self._answer(request, room)
+                status = answer.status
+                return answer
+            except Refusal as refusal:
+                status = refusal.answer.status
+                raise
+            finally:
+                self._metrics.requests_running -= 1
+                self._metrics.request(request.method, status, time.perf_counter() - began)
+
+    async def _answer(self, request: Outgoing, room: Room) -> Answer:
+        try:
+            return room.fit(request.method, await self._exchanged(request, room))
+        except asyncio.TimeoutError:
+            raise Refusal(504, "Timeout", "No answer came in time") from None
+        except (aiohttp.ClientError, OSError) as error:
+            if self._is_given_up:
+                raise Refusal(504, "Stopped", "The gateway has stopped before an answer came") from None
+            if isinstance(error, aiohttp.ClientConnectorError):
+                raise Refusal(503, "Unreachable", "The service cannot be reached; the request was not sent") from None
+            raise Refusal(502, "BadGateway", "The connection broke before an answer came") from None
+
+    async def _exchanged(self, request: Outgoing, room: Room) -> Answer:
+        """The answer of a service, with more of its body than there is room for at most by a part."""
+        assert self._session is not None
+        headers = {"accept-encoding": "identity", **request.headers}
+        url, body = URL(request.url, encoded=True), bytearray()
+        async with self._session.request(
+            request.method, url, headers=headers, data=request.body or None, allow_redirects=False
+        ) as answer:
+            if answer.headers.get("Content-Encoding", "identity") != "identity":
+                raise Refusal(502, "Encoded", "The service has compressed its answer, though it was not asked to")
+            while len(body) <= room.left and (part := await answer.content.read(_PART)):
+                body += part
+        return Answer(answer.status, header_dict(answer.headers.items()), bytes(body))

@@ -1,0 +1,53 @@
+"""Calls of the client and of the test bench, for mypy --strict, as those of typed.py."""
+
+from typing import Dict, List, Tuple
+
+from odb_batch import Answer
+from odb_batch.client import Batch, Group, Reference, RequestFailed, Result, Results, headers
+from odb_batch.testing import Scripted, batches, events, faulty_batches, outcomes
+
+
+def post(document: bytes) -> Tuple[int, Dict[str, str], bytes]:
+    return 200, headers("stop"), document
+
+
+async def post_async(document: bytes) -> Answer:
+    return Answer(429)
+
+
+def check_building() -> Batch:
+    batch = Batch()
+    order: Reference = batch.post("Orders", {"Customer": "ada"}, headers={"Prefer": "return=minimal"})
+    with batch.group() as paid:
+        group: Group = paid
+        batch.patch(order, b"{}", headers={"If-Match": order}, after=[group, order, "3"])
+    batch.get(f"{order}/Lines", after=paid, id="lines")
+    batch.get("Orders", {})  # type: ignore[misc]
+    batch.post("Orders", after=7)  # type: ignore[arg-type]
+    batch.headers = {}  # type: ignore[attr-defined]
+    return batch
+
+
+def check_sending(batch: Batch) -> List[int]:
+    results: Results = batch.send(post, limit=20, mode="stop")
+    batch.send(post_async)  # type: ignore[arg-type]
+    batch.send(post, mode="half")  # type: ignore[arg-type]
+    try:
+        first: Result = results["1"].raise_for_status()
+        text: bytes = first.body
+    except RequestFailed as error:
+        text = error.result.body
+    wait: float = results.retry_after
+    rest: Batch = results.rest()
+    return [len(rest), int(wait), len(text), *(it.status for it in results)]
+
+
+async def check_sending_async(batch: Batch) -> Results:
+    await batch.send_async(post)  # type: ignore[arg-type]
+    return await batch.send_async(Scripted({"1": [429, Answer(200)]}, limit=20, mode="stop", refusals=[503]).post_async)
+
+
+Scripted({"a": "200"})  # type: ignore[dict-item]
+drawn = batches(max_requests=20, groups=False).flatmap(lambda batch: events(batch, mode="stop"))
+outcomes({"requests": []})
+position: int = faulty_batches().example()[2]

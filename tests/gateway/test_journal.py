@@ -1,0 +1,286 @@
+"""Batches with a Repeatability-Request-ID: files of events, cut at any byte, damaged, locked, old and full."""
+
+import asyncio
+import fcntl
+import json
+import os
+import secrets
+import time
+from collections import Counter
+from concurrent.futures import ThreadPoolExecutor
+
+import pytest
+
+from odb_batch import Report, Start, StartUnit, Stop
+from odb_batch.gateway import _journal
+from odb_batch.gateway._journal import FileJournal, Journals, identity
+from support.servers import CONTINUE, JSON
+
+EVENTS = [
+    Start("a"), Report("a", 201, {"location": "/x(1)"}, b'{"n":\n 9.990, "t": "\xc3\xbc"}'), StartUnit(("b", "c")),
+    Report("c", 204, {}), Report("b", 200, {}, b'"text"'), Stop(),
+]  # fmt: skip
+FIRST = identity(batch="1", mode="stop")
+REQUESTS = [
+    {"id": "a", "method": "post", "url": "A", "body": 1},
+    {"id": "b", "method": "get", "url": "$a/B", "dependsOn": ["a"]},
+    {"id": "c", "method": "get", "url": "C"},
+    {"id": "d", "method": "post", "url": "D", "atomicityGroup": "g", "body": 1},
+    {"id": "e", "method": "get", "url": "E", "atomicityGroup": "g"},
+    {"id": "f", "method": "delete", "url": "F", "dependsOn": ["g", "b"]},
+]
+BATCH = json.dumps({"requests": REQUESTS})
+
+
+def opened(journals, id="x", first=FIRST):
+    return FileJournal(*journals.open(id.encode(), first))
+
+
+def written(journals, events=EVENTS):
+    async def write():
+        journal = opened(journals)
+        for event in events:
+            journal.write(event)
+        await journal.sync()
+        journal.close()
+
+    asyncio.run(write())
+
+
+def events_of(journals):
+    async def read():
+        journal = opened(journals)
+        journal.close()
+        return journal.events
+
+    return asyncio.run(read())
+
+
+def file_of(folder):
+    (name,) = os.listdir(folder)
+    return os.path.join(folder, name)
+
+
+def test_events_are_read_as_they_were_written(tmp_path):
+    journals = Journals(str(tmp_path), 60)
+    written(journals)
+    assert events_of(journals) == EVENTS
+    assert os.stat(file_of(tmp_path)).st_mode & 0o777 == 0o600
+
+
+def test_a_torn_line_is_dropped(tmp_path):
+    journals = Journals(str(tmp_path), 60)
+    written(journals)
+    path = file_of(tmp_path)
+    with open(path, "rb") as file:
+        whole = file.read()
+    ends = [at + 1 for at, byte in enumerate(whole) if byte == 10]
+    for cut in range(ends[0], len(whole)):
+        for tail in (b"", b"\0\0\0", b"\0\0\n"):
+            with open(path, "wb") as file:
+                file.write(whole[:cut] + tail)
+            assert events_of(journals) == EVENTS[: sum(end <= cut for end in ends) - 1]
+    for cut in range(ends[0]):
+        with open(path, "wb") as file:
+            file.write(whole[:cut])
+        assert (events_of(journals), os.listdir(tmp_path)) == ([], [])  # nothing has happened, so no file is left
+
+
+@pytest.mark.parametrize("line", [b"{}\n", b"[]\n", b"x\n", b'{"report":"a","status":200}\n', b'{"start":7}\n'])
+def test_a_damaged_file_is_not_gone_on_with(tmp_path, line, upstream, front):
+    service = upstream()
+    it = front("--upstream", service.url, "--journal", str(tmp_path), "--groups", "forward")
+    headers = {**CONTINUE, "Repeatability-Request-ID": "x"}
+    assert it.ask("POST", "/odata/$batch", BATCH, headers)[0] == 200
+    with open(file_of(tmp_path), "rb+") as file:
+        lines = file.read().splitlines(keepends=True)
+        file.seek(0)
+        file.write(b"".join([lines[0], line, *lines[1:]]))
+    count = len(service.seen)
+    status, _, text = it.ask("POST", "/odata/$batch", BATCH, headers)
+    assert (status, json.loads(text)["error"]["code"], len(service.seen)) == (500, "BadJournal", count)
+
+
+def test_old_files_are_removed_unless_they_are_in_use(tmp_path):
+    journals = Journals(str(tmp_path), 60)
+    for name in ("old", "used", "new"):
+        asyncio.run(_kept(journals, name))
+    paths = {name: tmp_path / _journal.digest(name.encode()) for name in ("old", "used", "new")}
+    (tmp_path / "other").write_text("")
+    for name in (paths["old"], paths["used"], tmp_path / "other"):
+        os.utime(name, (0, time.time() - 61))
+    with open(paths["used"]) as file:
+        fcntl.flock(file, fcntl.LOCK_EX)
+        journals.prune()
+    assert set(os.listdir(tmp_path)) == {paths["used"].name, paths["new"].name, "other"}
+
+
+async def _kept(journals, name):
+    journal = opened(journals, name)
+    journal.write(Start("a"))
+    await journal.sync()
+    journal.close()
+
+
+@pytest.mark.parametrize("folder", ["no", "file"])
+def test_a_folder_that_is_not_there(tmp_path, folder):
+    (tmp_path / "file").write_text("")
+    with pytest.raises(OSError):
+        Journals(str(tmp_path / folder), 60)
+
+
+# Over HTTP
+
+
+@pytest.fixture
+def pair(upstream, front, tmp_path):
+    """A service that performs groups, and a function that sends it a batch through a gateway with a journal."""
+    from aiohttp import web
+
+    from support.gateways import usual
+
+    def answer(seen):
+        if not seen.path.endswith("/$batch"):
+            return usual(seen)
+        members = [{"id": it["id"], "status": 200, "atomicityGroup": "g"} for it in json.loads(seen.body)["requests"]]
+        return web.Response(text=json.dumps({"responses": members}), content_type="application/json")
+
+    service = upstream(answer)
+    it = front(
+        "--upstream", service.url, "--journal", str(tmp_path), "--groups", "forward", "--credential", "X-Api-Key"
+    )  # fmt: skip
+
+    def ask(id, batch=BATCH, path="/odata/$batch", **headers):
+        named = {name.replace("_", "-"): value for name, value in headers.items()}
+        return it.ask("POST", path, batch, {**CONTINUE, "Repeatability-Request-ID": id, **named})
+
+    return service, ask
+
+
+def statuses(text):
+    return {it["id"]: it["status"] for it in json.loads(text)["responses"]}
+
+
+def test_a_finished_batch_is_answered_the_same(pair):
+    service, ask = pair
+    first = ask("x")
+    assert (first[0], first[1]["repeatability-result"]) == (200, "accepted")
+    count = len(service.seen)
+    again = ask("x")
+    assert (again[0], again[2], len(service.seen)) == (200, first[2], count)
+    assert ask("y")[0] == 200 and len(service.seen) == 2 * count
+
+
+def test_a_batch_goes_on_wherever_its_journal_ends(pair, tmp_path):
+    service, ask = pair
+    whole = ask("x")[2]
+    path = file_of(tmp_path)
+    with open(path, "rb") as file:
+        events = file.read()
+    for cut in {*range(0, len(events), 29), *(at + 1 for at, byte in enumerate(events) if byte == 10)}:
+        with open(path, "wb") as file:
+            file.write(events[:cut])
+        happened = list(map(json.loads, events[:cut].splitlines(keepends=True)[1 : events[:cut].count(b"\n")]))
+        started = {
+            id for it in happened for id in ([it["start"]] if isinstance(it.get("start"), str) else it.get("start", ()))
+        }
+        out = started - {it["report"] for it in happened if "report" in it}
+        del service.seen[:]
+        status, _, text = ask("x")
+        found = statuses(text)
+        lost = {id for id, status in found.items() if status == 500}
+        assert (status, lost) == (200, out - {"b", "c"})
+        sent = Counter(it.path for it in service.seen)
+        assert set(sent.values()) <= {1}
+        done = started - out | lost
+        names = {"a": "/odata/A", "b": "/odata/A(1)/B", "c": "/odata/C", "d": "/odata/$batch", "f": "/odata/F"}
+        assert not {names[id] for id in done if id in names} & sent.keys()
+        assert lost or text == whole
+        assert ask("x")[2] == text
+
+
+@pytest.mark.parametrize("change", [
+    {"batch": BATCH + " "}, {"Prefer": "return=minimal"}, {"Authorization": "Bearer 2"}, {"Cookie": "a=b"},
+    {"path": "/other/$batch"}, {"X_Api_Key": "2"},
+], ids=str)  # fmt: skip
+def test_another_batch_under_the_same_id(pair, change):
+    service, ask = pair
+    assert ask("x")[0] == 200
+    count = len(service.seen)
+    status, _, text = ask("x", **change)
+    assert (status, json.loads(text)["error"]["code"], len(service.seen)) == (422, "AnotherBatch", count)
+
+
+def test_a_second_client_at_once(upstream, front, tmp_path):
+    service = upstream()
+    words = ["--upstream", service.url, "--journal", str(tmp_path), "--timeout", "0.7"]
+    fronts = [front(*words), front(*words)]
+    batch = json.dumps({"requests": [{"id": "a", "method": "post", "url": "hang"}]})
+    headers = {**CONTINUE, "Repeatability-Request-ID": "x"}
+    with ThreadPoolExecutor(4) as clients:
+        found = list(clients.map(lambda k: fronts[k % 2].ask("POST", "/odata/$batch", batch, headers)[0], range(4)))
+    assert (sorted(found), len(service.seen)) == ([200, 409, 409, 409], 1)
+
+
+@pytest.mark.parametrize("batch, headers, status", [
+    ('{"requests": 7}', CONTINUE, 400), ("{}", {**CONTINUE, "Content-Type": "text/plain"}, 415), (BATCH, JSON, 501),
+])  # fmt: skip
+def test_what_is_refused_leaves_no_file(upstream, front, tmp_path, batch, headers, status):
+    it = front("--upstream", upstream().url, "--journal", str(tmp_path))
+    assert it.ask("POST", "/odata/$batch", batch, {**headers, "Repeatability-Request-ID": "x"})[0] == status
+    assert os.listdir(tmp_path) == []
+
+
+def test_an_id_without_a_journal_promises_nothing(upstream, front):
+    service = upstream()
+    it = front("--upstream", service.url)
+    batch = json.dumps({"requests": [{"id": "a", "method": "get", "url": "x"}]})
+    status, headers, _ = it.ask("POST", "/odata/$batch", batch, {**CONTINUE, "Repeatability-Request-ID": "x"})
+    assert status == 200 and "repeatability-result" not in headers
+    assert "repeatability-request-id" not in service.seen[0].headers
+
+
+def test_a_start_is_synced_before_it_is_sent(pair, monkeypatch):
+    service, ask = pair
+    sync, seen = os.fsync, []
+
+    def slow(file):
+        before = os.fstat(file).st_size
+        time.sleep(0.02)
+        seen.append((len(service.seen), before))
+        return sync(file)
+
+    monkeypatch.setattr(_journal.os, "fsync", slow)
+    assert ask("x")[0] == 200
+    assert [count for count, _ in seen[:2]] == [0, 0]  # the file, and then the folder that has its name
+    assert max(count for count, _ in seen) == len(service.seen)
+
+
+def test_a_disk_that_is_full(pair, monkeypatch):
+    service, ask = pair
+    write, lines = os.write, []
+
+    def failing(file, line):
+        lines.extend([line] if line.startswith(b"{") else [])
+        if len(lines) == 7:
+            raise OSError(28, "No space left on device")
+        return write(file, line)
+
+    with monkeypatch.context() as patched:
+        patched.setattr(_journal.os, "write", failing)
+        status, _, text = ask("x")
+    assert (status, json.loads(text)["error"]["code"]) == (500, "BadJournal")
+    status, _, text = ask("x")
+    assert status == 200
+    posts = Counter(it.path for it in service.seen if it.method != "GET")
+    assert set(posts.values()) <= {1}
+    assert set(statuses(text).values()) <= {200, 201, 500, 424}
+
+
+def test_names_of_files_say_nothing(pair, tmp_path):
+    _, ask = pair
+    id = "../" + secrets.token_hex(4)
+    assert ask(id, Authorization="Basic c2VjcmV0")[0] == 200
+    with open(file_of(tmp_path), "rb") as file:
+        text = file.read()
+    assert b"c2VjcmV0" not in text and id.encode() not in text

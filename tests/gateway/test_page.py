@@ -1,0 +1,215 @@
+"""What docs/gateway.md shows: its commands and its code, run; its options, statuses and blocks for others, compared.
+
+`PYTHONPATH=tests:python python3 tests/gateway/test_page.py --write` puts into the page what its commands print, over
+the library that ODB_BATCH_LIBRARY names.
+"""
+
+import asyncio
+import contextlib
+import json
+import os
+import re
+import shlex
+import signal
+import socket
+import subprocess
+import sys
+import tempfile
+import time
+
+import pytest
+
+from support.commands import with_package
+from support.program import ROOT
+from support.servers import SECONDS, Asked
+
+PAGE = os.path.join(ROOT, "docs", "gateway.md")
+
+
+def page():
+    with open(PAGE, encoding="utf-8") as file:
+        return file.read()
+
+
+def blocks(kind):
+    return re.findall(f"```{kind}\n(.*?)```", page(), re.DOTALL)
+
+
+def free_port():
+    with socket.socket() as listening:
+        listening.bind(("127.0.0.1", 0))
+        return str(listening.getsockname()[1])
+
+
+@contextlib.contextmanager
+def started(*more):
+    """The service and the gateway by the commands of the page, and the ports that stand for those of the page."""
+    ports, running = {"8080": free_port(), "8090": free_port()}, []
+    with contextlib.ExitStack() as ends:
+        for line, options in zip(blocks("sh")[0].splitlines(), ((), more)):
+            assert line.startswith("PYTHONPATH=python python3 ")
+            words = [sys.executable, *shlex.split(replaced(line, ports))[2:], *options]
+            process = subprocess.Popen(words, cwd=ROOT, env=with_package(), stderr=subprocess.PIPE, text=True)
+            ends.callback(process.kill)
+            running.append(process)
+            assert any("listening" in line for line in process.stderr)
+        yield ports
+        for process in reversed(running):
+            process.send_signal(signal.SIGTERM)
+            process.communicate(timeout=SECONDS)
+            assert process.returncode == 0
+
+
+def replaced(text, ports):
+    return re.sub("80[89]0", lambda it: ports[it[0]], text)
+
+
+def printed(block, ports):
+    """The commands of a block, each with what it prints; they run in one shell."""
+    commands = [line[2:] for line in block.splitlines() if line.startswith("$ ")]
+    words = replaced("\n".join(f"{it}\necho -e '\\n---'" for it in commands), ports)
+    done = subprocess.run(["bash", "-c", words], cwd=ROOT, capture_output=True, text=True, timeout=SECONDS)
+    shown = zip(commands, done.stdout.split("\n---\n"))
+    return "".join(f"$ {command}\n" + (f"{text.strip()}\n" if text.strip() else "") for command, text in shown)
+
+
+def page_as_printed():
+    with tempfile.TemporaryDirectory() as folder:
+        options = iter([(), ("--journal", folder)])
+
+        def block(found):
+            with started(*next(options)) as ports:
+                return f"```console\n{printed(found[1], ports)}```"
+
+        return re.sub("```console\n(.*?)```", block, page(), flags=re.DOTALL)
+
+
+@pytest.mark.needs("curl")
+def test_the_commands_print_what_the_page_shows(aiohttp):
+    assert len(blocks("console")) == 2
+    assert page() == page_as_printed()
+
+
+def test_the_code_of_the_page_sends_a_group(loop, upstream):
+    import aiohttp
+
+    from odb_batch import perform_async
+    from support.gateways import usual
+
+    service = upstream(lambda seen: grouped(seen) if seen.path.endswith("$batch") else usual(seen))
+    base = f"http://127.0.0.1:{service.port}/odata/"
+    group = {"method": "post", "atomicityGroup": "g"}
+    batch = {
+        "requests": [
+            {"id": "a", "url": "A", **group},
+            {"id": "b", "url": "B", **group},
+            {"id": "c", "url": "C", "method": "get"},
+        ]
+    }
+    body = "".join(f"    {line}\n" for line in blocks("python")[0].splitlines())
+    names = {"perform_async": perform_async, "BASE": base, "batch": batch}
+    exec(f"async def run(session):\n{body}    return response\n", names)
+
+    async def run():
+        async with aiohttp.ClientSession() as session:
+            return await names["run"](session)
+
+    assert [it["status"] for it in json.loads(asyncio.run(run()))["responses"]] == [204, 204, 200]
+    assert sorted(service.paths) == ["/odata/$batch", "/odata/C"]
+
+
+def grouped(seen):
+    from aiohttp import web
+
+    answers = [{"id": it["id"], "status": 204, "atomicityGroup": "g"} for it in json.loads(seen.body)["requests"]]
+    return web.json_response({"responses": answers})
+
+
+def test_the_options_of_the_page_are_those_of_the_help():
+    from odb_batch.gateway._options import parser
+
+    rows = re.search(r"\n\| option \|.*?\n\n", page(), re.DOTALL)[0].splitlines()[3:]
+    shown = {
+        name: row.split(" | ")[1] for row in rows if row for name in re.findall(r"`(--[\w-]+)", row.partition(" | ")[0])
+    }
+    known = {it.option_strings[0]: it for it in parser()._actions if it.option_strings[0] != "-h"}
+    assert list(shown) == ["--upstream", "--route", "--groups", "--listen", *list(shown)[4:]] and set(shown) == set(
+        known
+    )
+    for name, value in shown.items():
+        usual = known[name].default
+        if value.replace(",", "").isdigit():
+            assert float(value.replace(",", "")) == usual, name
+        elif name == "--listen":
+            assert value == f"{usual.host}:{usual.port}"
+        elif isinstance(usual, str):
+            assert value.strip("`") == (usual or "none"), name
+
+
+def test_the_codes_of_the_page_are_those_of_the_gateway():
+    shown = re.findall(r"\d{3} `(\w+)`(?:, `(\w+)`)?", page())
+    names = {name for found in shown for name in found if name}
+    made = set()
+    for folder, _, files in os.walk(os.path.join(ROOT, "python", "odb_batch")):
+        for name in files:
+            if name.endswith(".py") and "conformance" not in folder:
+                with open(os.path.join(folder, name), encoding="utf-8") as file:
+                    made.update(re.findall(r'Refusal\(\d{3}, "(\w+)"', file.read()))
+    assert names - {"F41"} <= made
+
+
+def test_the_probes_of_the_page_are_answered(upstream, running):
+    from odb_batch.gateway._options import options_of
+
+    (text,) = blocks("yaml")
+    words = re.search(r"command: \[python3, -m, odb_batch, gateway, (.*)\]", text)[1].replace('"', "").split(", ")
+    assert options_of(words).listen == ("", 8090)
+    it = running("--upstream", upstream().url)
+    paths = re.findall("path: ([^,]+), port: 8090", text)
+    assert [it.ask("GET", path)[0] for path in paths] == [200, 200]
+    assert int(re.search("terminationGracePeriodSeconds: ([0-9]+)", text)[1]) > 25 + 5
+
+
+@pytest.mark.needs("nginx")
+def test_nginx_sends_batches_to_the_gateway(upstream, running, tmp_path):
+    service = upstream()
+    it, port = running("--upstream", service.url), free_port()
+    server = blocks("nginx")[0].replace("8090", str(it.port))
+    other = f"location / {{ proxy_pass {service.url}; }}"
+    paths = "".join(
+        f"{name}_temp_path {tmp_path}/{name};" for name in ("client_body", "proxy", "fastcgi", "uwsgi", "scgi")
+    )
+    http = f"http {{ access_log off; {paths} server {{ listen 127.0.0.1:{port}; {server} {other} }} }}"
+    (tmp_path / "nginx.conf").write_text(f"daemon off; pid {tmp_path}/pid; events {{}} {http}")
+    words = ["nginx", "-c", str(tmp_path / "nginx.conf"), "-p", str(tmp_path), "-e", str(tmp_path / "log")]
+    with subprocess.Popen(words) as nginx:
+        try:
+            front = Asked()
+            front.port = int(port)
+            wait_for(front)
+            found = front.batch(
+                {"method": "post", "url": "Books"},
+                {"url": "$r0", "dependsOn": ["r0"]},
+                {"url": f"http://127.0.0.1:{port}/odata/x"},
+            )
+            assert [it["status"] for it in found.values()] == [201, 200, 200]
+            assert service.seen[-1].headers["x-forwarded-host"] == f"127.0.0.1:{port}"
+            assert front.ask("GET", "/odata/plain")[0] == 200
+        finally:
+            nginx.terminate()
+    assert "/odata/plain" in service.paths
+
+
+def wait_for(front):
+    end = time.monotonic() + SECONDS
+    while time.monotonic() < end:
+        with contextlib.suppress(OSError):
+            return front.ask("GET", "/odata/ready")
+        time.sleep(0.02)
+    pytest.fail("nginx does not listen")
+
+
+if __name__ == "__main__" and sys.argv[1:] == ["--write"]:
+    text = page_as_printed()
+    with open(PAGE, "w", encoding="utf-8") as file:
+        file.write(text)

@@ -1,0 +1,213 @@
+"""The gateway as a process: signals, its log, the port of its metrics, and where it cannot start."""
+
+import asyncio
+import json
+import re
+import secrets
+import signal
+import socket
+import subprocess
+import sys
+import time
+from collections import Counter
+from concurrent.futures import ThreadPoolExecutor
+from http.client import HTTPException
+
+import pytest
+
+from support.commands import with_package
+from support.servers import CONTINUE, JSON, SECONDS, Asked
+
+
+def refused(words, before="pass"):
+    """The status and the message of a gateway that does not start."""
+    program = f"import sys; {before}; from odb_batch.__main__ import main; sys.exit(main(sys.argv[1:]))"
+    words = [sys.executable, "-c", program, "gateway", "--upstream", "http://127.0.0.1:1/", *words]
+    done = subprocess.run(words, env=with_package(), stderr=subprocess.PIPE, text=True, timeout=SECONDS)
+    return done.returncode, done.stderr
+
+
+def test_without_aiohttp():
+    wanted = "error: python3 -m odb_batch gateway needs aiohttp: pip install 'odb-batch[gateway]'\n"
+    assert refused([], "sys.modules['aiohttp'] = None") == (3, wanted)
+
+
+def test_where_it_cannot_start(running):
+    port = running("--upstream", "http://127.0.0.1:1/").port
+    status, message = refused(["--listen", f"127.0.0.1:{port}"])
+    assert status == 3 and re.fullmatch("error: .*address already in use\n", message)
+    assert refused(["--journal", "/no"]) == (3, "error: /no: No such file or directory\n")
+
+
+def test_help_names_each_option_once():
+    words = [sys.executable, "-m", "odb_batch", "gateway", "--help"]
+    text = subprocess.run(words, env=with_package(), stdout=subprocess.PIPE, text=True, timeout=SECONDS).stdout
+    options = re.findall(r"(?m)^  (--\w[\w-]*)", text)
+    assert len(options) == len(set(options)) == 17
+
+
+def slow(seen):
+    from support.gateways import usual
+
+    async def answer():
+        await asyncio.sleep(0.6)
+        return usual(seen)
+
+    return answer() if "slow" in seen.path else usual(seen)
+
+
+def until(condition):
+    end = time.monotonic() + SECONDS
+    while not condition():
+        assert time.monotonic() < end
+        time.sleep(0.01)
+
+
+def test_sigterm(upstream, running):
+    """What runs is answered, nothing more starts, and a new batch is refused."""
+    service = upstream(slow)
+    it = running("--upstream", service.url, "--width", "1", "--log", "none")
+    with ThreadPoolExecutor(1) as clients:
+        asked = clients.submit(
+            it.statuses, {"method": "post", "url": "slow"}, {"url": "$r0", "dependsOn": ["r0"]}, {"url": "x"}
+        )
+        until(lambda: service.seen)
+        it.process.send_signal(signal.SIGTERM)
+        until(lambda: it.ask("GET", "/health/ready")[0] == 503)
+        assert it.ask("GET", "/health")[0] == 200
+        status, _, text = it.ask("POST", "/odata/$batch", '{"requests": []}', JSON)
+        assert (status, json.loads(text)["error"]["code"]) == (503, "Stopping")
+        assert asked.result(SECONDS) == [201, 424, 424]
+    assert (it.stop(0), service.paths) == ((0, ""), ["/odata/slow"])
+
+
+@pytest.mark.parametrize("grace, signals", [("0.3", 1), ("60", 2)])
+def test_sigterm_breaks_off_what_takes_too_long(upstream, running, grace, signals):
+    service = upstream()
+    it = running("--upstream", service.url, "--grace", grace, "--connections", "1", "--log", "none")
+    with ThreadPoolExecutor(1) as clients:
+        asked = clients.submit(it.batch, {"url": "hang"}, {"url": "waits"}, {"url": "after", "dependsOn": ["r0"]})
+        until(lambda: service.seen)
+        for _ in range(signals):
+            it.process.send_signal(signal.SIGTERM)
+            time.sleep(0.1)
+        found = asked.result(SECONDS)
+    codes = [(it["status"], it.get("body", {}).get("error", {}).get("code")) for it in found.values()]
+    assert codes == [(504, "Stopped"), (503, "Stopping"), (424, None)]
+    assert (it.stop(0), service.paths) == ((0, ""), ["/odata/hang"])
+
+
+def test_a_line_of_log_for_each_batch_and_each_request(upstream, running):
+    service = upstream()
+    it = running("--upstream", service.url, "--log", "requests")
+    it.statuses({"url": "x?secret=1"}, {"method": "post", "url": "missing"})
+    it.ask("POST", "/odata/$batch?secret=1", "{", JSON)
+    _, text = it.stop(signal.SIGTERM)
+    lines = [re.sub(r"^[-\d]+T[:\d]+Z |(ms|from)=\S+|\b\d{5}\b", "", line).split() for line in text.splitlines()]
+    url, batch = "url=http://127.0.0.1:", ["batch=/odata/$batch", "method=POST"]
+    assert sorted(lines[:2]) == [
+        ["request=r0", "method=GET", f"{url}/odata/x", "status=200"],
+        ["request=r1", "method=POST", f"{url}/odata/missing", "status=404"],
+    ]  # fmt: skip
+    assert lines[2][:-1] == [*batch, "status=200", "sent=2", "failed=1"] and lines[2][-1].startswith("bytes=")
+    assert lines[3] == [*batch, "status=400", "code=F02", "sent=0", "failed=0"]
+
+
+def test_metrics_at_a_port_of_their_own(upstream, running):
+    with socket.create_server(("127.0.0.1", 0)) as free:
+        port = free.getsockname()[1]
+    it = running("--upstream", upstream().url, "--metrics", str(port))
+    it.statuses({"url": "x"})
+    assert it.ask("GET", "/metrics")[0] == 404
+    other = Asked()
+    other.port = port
+    status, _, text = other.ask("GET", "/metrics")
+    assert status == 200 and b"odb_gateway_requests_running 0" in text
+
+
+# SIGKILL
+
+
+def requests_of(key):
+    """Chains of POSTs and GETs, and a group, on paths of their own."""
+    post = lambda id, **more: {"id": id, "method": "post", "url": f"{key}-{id}", "body": {"n": 1.50}, **more}
+    group = {"atomicityGroup": "g"}
+    return [
+        post("a"), {"id": "b", "method": "get", "url": f"{key}-b", "dependsOn": ["a"]}, post("c", dependsOn=["b"]),
+        post("d", **group), post("e", **group), post("f", dependsOn=["g"]), post("h", dependsOn=["f", "c"]),
+    ]  # fmt: skip
+
+
+class Counting:
+    """A service that counts what it performs, and at some request ends a process, before it performs it or after."""
+
+    def __init__(self):
+        self.performed, self.left, self.process, self.is_before = Counter(), 0, None, False
+
+    def __call__(self, seen):
+        return self.answer(seen)
+
+    async def answer(self, seen):
+        from aiohttp import web
+
+        from support.gateways import usual
+
+        self.left -= 1
+        ends = self.left == 0
+        if ends and self.is_before:
+            self.process.kill()
+        await asyncio.sleep(0.02)
+        if seen.path.endswith("/$batch"):
+            given = json.loads(seen.body)["requests"]
+            self.performed.update(it["url"].rpartition("/")[2] for it in given)
+            answers = [{"id": it["id"], "status": 201, "atomicityGroup": "g"} for it in given]
+            found = web.Response(text=json.dumps({"responses": answers}), content_type="application/json")
+        else:
+            found = usual(seen)
+            self.performed[seen.path.rpartition("/")[2]] += seen.method == "POST"
+        if ends and not self.is_before:
+            self.process.kill()
+        return found
+
+
+@pytest.mark.slow
+def test_sigkill_at_twenty_moments(upstream, running, tmp_path):
+    """No POST is performed twice, and what was answered stays so. At least one moment is within a group."""
+    service = Counting()
+    words = ["--upstream", upstream(service).url, "--groups", "forward", "--journal", str(tmp_path), "--log", "none"]
+    it, answered, lost = running(*words), {}, Counter()
+
+    def ask(key):
+        headers = {**CONTINUE, "Repeatability-Request-ID": key}
+        try:
+            return key, it.ask("POST", "/odata/$batch", json.dumps({"requests": requests_of(key)}), headers)
+        except (OSError, HTTPException):
+            return key, None
+
+    with ThreadPoolExecutor(4) as clients:
+        for moment in range(20):
+            service.process, service.left, service.is_before = it.process, moment + 1, moment % 2 == 0
+            keys = [secrets.token_hex(4) for _ in range(4)]
+            answered.update((key, found) for key, found in clients.map(ask, keys) if found)
+            it.process.wait(SECONDS)
+            it = running(*words)
+            for key, (status, _, text) in clients.map(ask, keys):
+                assert status == 200 and text == answered.setdefault(key, (status, _, text))[2]
+                lost.update(judged(service, key, json.loads(text)["responses"]))
+        assert len(answered) == 80
+        assert all(found[2] == answered[key][2] for key, found in clients.map(ask, answered))
+    assert set(service.performed.values()) <= {0, 1}
+    assert lost["a"] > 0 and lost["d"] == lost["e"] > 0, lost
+
+
+def judged(service, key, responses):
+    """The requests of a batch that are lost; any other one was performed once if it was answered 2xx, else never."""
+    lost, statuses = [], {it["id"]: it["status"] for it in responses}
+    for it in responses:
+        count = service.performed[f"{key}-{it['id']}"]
+        if it["status"] == 500:
+            assert it["body"]["error"]["code"] == "Lost" and count <= 1
+            lost.append(it["id"])
+        elif it["id"] != "b":
+            assert count == (it["status"] == 201), statuses
+    return lost

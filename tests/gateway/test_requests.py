@@ -1,0 +1,229 @@
+"""Requests of batches through the gateway: routes, what services see, and services that break."""
+
+import json
+import re
+import socket
+from concurrent.futures import ThreadPoolExecutor
+
+import pytest
+
+from support.servers import CONTINUE, JSON
+
+
+ELEVEN = json.dumps({"requests": [{"id": str(k), "method": "get", "url": "x"} for k in range(11)]})
+
+
+def code_of(response):
+    return response["body"]["error"]["code"]
+
+
+def test_a_batch_over_two_services(upstream, front):
+    orders, main = upstream(), upstream()
+    it = front("--route", f"/odata/Orders={orders.url}/v2/Orders", "--upstream", main.url)
+    found = it.batch(
+        {"method": "post", "url": "Orders", "body": {"n": 1}},
+        {"url": "$r0/Lines?$top=1", "dependsOn": ["r0"]},
+        {"method": "post", "url": "Books", "body": {"n": 1}},
+        {"method": "patch", "url": "$r2", "dependsOn": ["r2", "r1"], "headers": {"If-Match": "$r1"}, "body": {}},
+        {"url": "/odata/OrdersOld"},
+        {"url": f"{it.url}Books?$filter=Price lt 9.5 and Title eq 'ä'"},
+    )
+    assert [it["status"] for it in found.values()] == [201, 200, 201, 200, 200, 200]
+    assert (found["r0"]["headers"]["location"], found["r2"]["headers"]["location"]) == (
+        "/odata/Orders(1)",
+        "/odata/Books(1)",
+    )
+    assert orders.paths == ["/v2/Orders", "/v2/Orders(1)/Lines?$top=1"]
+    assert sorted(main.paths) == [
+        "/odata/Books", "/odata/Books(1)", "/odata/Books?$filter=Price%20lt%209.5%20and%20Title%20eq%20'%C3%A4'",
+        "/odata/OrdersOld",
+    ]  # fmt: skip
+    (patched,) = [it for it in main.seen if it.method == "PATCH"]
+    assert patched.headers["if-match"] == '"1"'
+
+
+def test_bodies_keep_their_bytes(upstream, front):
+    service = upstream()
+    document = '{"requests":[{"id":"a","method":"post","url":"X","body": {"n": 1.50,  "m": 12345678901234567890123}}]}'
+    status, _, text = front("--upstream", service.url).ask("POST", "/odata/$batch", document, CONTINUE)
+    assert status == 200 and b'"price": 9.990}' in text
+    assert service.seen[0].body == b'{"n": 1.50,  "m": 12345678901234567890123}'
+
+
+URLS = [
+    "../x", "%2e%2e/x", "..%2fx", "a/..;/x", "a\\..\\x", "/other", "//evil/odata/x", "http://evil/odata/x",
+    "/odata%2f../x", "http://169.254.169.254/latest/", "http://127.0.0.1:1/odata/x", "file:///etc/passwd", "/ODATA/x",
+    "a%00/x", "http://[", "ftp://127.0.0.1/odata/x", "//127.0.0.1:1/odata/x",
+]  # fmt: skip
+
+
+def test_nothing_outside_of_the_routes_is_sent(upstream, front):
+    service = upstream()
+    it = front("--upstream", service.url + "/odata/")
+    users = it.url.replace("//", "//user@") + "x"
+    *found, last = it.statuses(*({"url": url} for url in [*URLS, users]), {"url": "Books"})
+    assert (set(found), last, service.paths) == ({400, 404}, 200, ["/odata/Books"])
+
+
+@pytest.mark.parametrize("place, status", [
+    ("http://169.254.169.254/latest", 404), ("http://127.0.0.1:1/odata/x", 404), ("/odata/../x", 404),
+    ("/odata/$batch", 400),
+    ("//evil/odata/x", 404), ("/other", 404), ("http://[", 400), ("/odata/x", 200),
+])  # fmt: skip
+def test_no_location_of_a_service_leads_out(upstream, front, place, status):
+    from aiohttp import web
+
+    service = upstream(
+        lambda seen: web.Response(status=201, headers={"Location": place}) if seen.method == "POST" else web.Response()
+    )
+    it = front("--upstream", service.url + "/odata/")
+    found = it.statuses(
+        {"method": "post", "url": "X"}, {"url": "$r0", "dependsOn": ["r0"]}, {"url": "$r0/y", "dependsOn": ["r0"]}
+    )
+    assert found[:2] == [201, status]
+    assert service.paths == [
+        "/odata/X",
+        *(["/odata/x", "/odata/x/y"] if status == 200 else ["/odata/$batch/y"] * (status == 400 and "$" in place)),
+    ]
+
+
+def test_a_host_of_the_client_is_not_that_of_the_service(upstream, front):
+    service = upstream()
+    headers = {
+        **CONTINUE,
+        "Host": "public",
+        "X-Forwarded-Proto": "https",
+        "Connection": "x-hop",
+        "X-Hop": "1",
+        "User-Agent": "u",
+    }
+    headers |= {"Authorization": "Bearer 1", "X-Forwarded-For": "1.2.3.4", "Accept-Encoding": "gzip", "Cookie": "a=b"}
+    it = front("--upstream", service.url)
+    found = it.batch({"url": "https://public/odata/Books"}, {"url": "http://evil/odata/Books"}, headers=headers)
+    assert [it["status"] for it in found.values()] == [200, 404]
+    (seen,) = service.seen
+    wanted = {
+        "host": f"127.0.0.1:{service.port}", "x-forwarded-host": "public", "x-forwarded-proto": "https",
+        "x-forwarded-for": "1.2.3.4, 127.0.0.1", "authorization": "Bearer 1", "accept-encoding": "identity",
+        "cookie": "a=b", "user-agent": "u",
+    }  # fmt: skip
+    assert {name: seen.headers.get(name) for name in wanted} == wanted
+    assert not {"x-hop", "prefer", "content-type", "accept"} & seen.headers.keys()
+
+
+BROKEN = {
+    "hang-up": (502, "BadGateway"), "half": (502, "BadGateway"), "gzip": (502, "Encoded"), "hang": (504, "Timeout"),
+    "big": (507, "TooLong"),
+}  # fmt: skip
+
+
+def test_services_that_break(upstream, front):
+    service = upstream()
+    with socket.socket() as closed:
+        closed.bind(("127.0.0.1", 0))
+        gone = f"/odata/gone=http://127.0.0.1:{closed.getsockname()[1]}/gone"
+        it = front("--upstream", service.url, "--route", gone, "--timeout", "0.5", "--max-size", "200000")
+        odd = [*BROKEN, "gone", "html", "no-json", "elsewhere", "missing", "cookie"]
+        asked = [{"url": url} for url in odd]
+        more = {"method": "post", "url": "big"}, {"url": "x", "dependsOn": ["r0"]}, {"url": "x"}
+        found = dict(zip([*odd, "posted", "after", "last"], it.batch(*asked, *more).values()))
+    for name, wanted in {**BROKEN, "gone": (503, "Unreachable")}.items():
+        assert (found[name]["status"], code_of(found[name])) == wanted
+    shown = {
+        name: (found[name]["status"], found[name].get("body")) for name in ("html", "no-json", "missing", "posted")
+    }
+    assert shown == {"html": (200, "<p>no"), "no-json": (200, "<p>no"), "missing": (404, None), "posted": (201, None)}
+    assert found["elsewhere"]["headers"]["location"] == "http://elsewhere/odata/Books(1)"
+    assert "set-cookie" not in found["cookie"]["headers"]
+    assert [found[name]["status"] for name in ("after", "last")] == [424, 200]
+    counted = dict(re.findall('faults_total{code="(.*)"} (.*)', it.metrics()))
+    assert counted == {"BadGateway": "2", "Encoded": "1", "Timeout": "1", "TooLong": "1", "Unreachable": "1"}
+
+
+def test_a_service_that_speaks_no_http(loop, front):
+    import asyncio
+
+    async def garbage(reader, writer):
+        writer.write(b"SSH-2.0-OpenSSH\r\n\r\n")
+        writer.close()
+
+    server = loop.run(asyncio.start_server(garbage, "127.0.0.1", 0))
+    it = front("--upstream", f"http://127.0.0.1:{server.sockets[0].getsockname()[1]}")
+    assert it.statuses({"url": "x"}) == [502]
+    server.close()
+
+
+@pytest.mark.parametrize("method, path, body, headers, status, code", [
+    ("POST", "/odata/$batch", '{"requests": 7}', JSON, 400, "F04"),
+    ("POST", "/odata/$batch", "{}", {"Content-Type": "multipart/mixed; boundary=b"}, 415, "BadMediaType"),
+    ("GET", "/odata/$batch", None, {}, 405, "NotAllowed"), ("POST", "/odata/Books", "{}", JSON, 404, "NotFound"),
+    ("POST", "/odata/$batch", b" " * 100_001, JSON, 413, "TooLong"),
+    ("POST", "/odata/$batch", b" " * 100_000, JSON, 400, "F02"),
+    ("POST", "/odata/$batch", ELEVEN, JSON, 413, "TooManyRequests"),
+    ("POST", "/odata/$batch", "{}", {**JSON, "Host": "a b"}, 400, "BadHost"),
+    ("POST", "/odata/$batch", "{}", {**JSON, "X": b"\xff"}, 400, "BadHeader"),
+], ids=range(9))  # fmt: skip
+def test_what_is_refused(upstream, front, method, path, body, headers, status, code):
+    service = upstream()
+    it = front("--upstream", service.url, "--max-size", "100000", "--limit", "10")
+    found, _, text = it.ask(method, path, body, headers)
+    assert (found, json.loads(text)["error"]["code"], service.seen) == (status, code, [])
+
+
+def test_headers_that_a_proxy_would_set(upstream, front):
+    service = upstream()
+    found = front("--upstream", service.url).batch({"url": "Books", "headers": {"X-Forwarded-For": "127.0.0.1"}})
+    assert (found["r0"]["status"], code_of(found["r0"]), service.seen) == (400, "HeaderNotAllowed", [])
+
+
+def test_a_hundred_batches_at_once(upstream, front):
+    service = upstream()
+    it = front("--upstream", service.url, "--connections", "10")
+    asked = [{"method": "post", "url": f"Books{k}"} for k in range(5)]
+    with ThreadPoolExecutor(100) as clients:
+        found = list(clients.map(lambda _: it.statuses(*asked), range(100)))
+    assert found == [[201] * 5] * 100 and len(service.seen) == 500
+
+
+def test_more_batches_than_may_be(upstream, front):
+    service = upstream()
+    it = front("--upstream", service.url, "--batches", "2", "--timeout", "0.5")
+    one = json.dumps({"requests": [{"id": "a", "method": "get", "url": "hang"}]})
+    with ThreadPoolExecutor(4) as clients:
+        found = list(clients.map(lambda _: it.ask("POST", "/odata/$batch", one, CONTINUE), range(4)))
+    assert sorted(status for status, _, _ in found) == [200, 200, 503, 503]
+    assert {headers["retry-after"] for status, headers, _ in found if status == 503} == {"1"}
+
+
+def test_stops_at_the_first_error_without_the_preference(upstream, front):
+    service = upstream()
+    it = front("--upstream", service.url, "--width", "1")
+    asked = [{"url": "missing"}, {"url": "x"}]
+    assert (it.statuses(*asked, headers=JSON), it.statuses(*asked)) == ([404, 424], [404, 200])
+
+
+def test_metrics_and_probes(upstream, front):
+    it = front("--upstream", upstream().url, "--metrics", "/metrics", "--width", "3")
+    it.statuses({"url": "x"}, {"method": "post", "url": "y"}, {"url": "missing"})
+    it.ask("POST", "/odata/$batch", "{", CONTINUE)
+    status, headers, text = it.ask("GET", "/metrics")
+    lines = text.decode().splitlines()
+    assert (status, headers["content-type"]) == (200, "text/plain; version=0.0.4; charset=utf-8")
+    sample = r"odb_gateway_[a-z_]+(\{[a-z]+=\"[^\"]*\"(,[a-z]+=\"[^\"]*\")*\})? [0-9.]+"
+    assert all(
+        re.fullmatch(rf"# HELP odb_\w+ .+|# TYPE odb_\w+ (counter|gauge|histogram)|{sample}", line) for line in lines
+    )
+    wanted = [
+        'batches_total{status="200"} 1',
+        'batches_total{status="400"} 1',
+        'faults_total{code="F02"} 1',
+        "width_limit 3",
+    ]
+    wanted += [
+        'requests_total{method="GET",status="404"} 1',
+        "request_seconds_count 3",
+        'batch_seconds_bucket{le="+Inf"} 2',
+    ]
+    wanted += ["requests_running 0", "batches_running 0"]
+    assert {f"odb_gateway_{it}" for it in wanted} <= set(lines)
+    assert [it.ask("GET", path)[0] for path in ("/health", "/health/ready", "/")] == [200, 200, 404]

@@ -1,0 +1,86 @@
+"""Which service a URL leads to, where nothing is sent, and what the URLs in answers become."""
+
+import pytest
+
+from odb_batch import Refusal
+from odb_batch.gateway._options import options_of
+from odb_batch.gateway._routes import Routes, normalized
+
+WORDS = [
+    "--upstream", "http://main:8101/odata/", "--route", "/odata/Orders=https://orders/v2/Orders",
+    "--route", "/odata/Orders/Old=http://main:8101/old", "--route", "/a%27b/=http://main:8101/quoted/",
+]  # fmt: skip
+ROUTES = Routes(options_of(WORDS).routes)
+BASE = "http://public/odata/"
+
+
+@pytest.mark.parametrize("url, wanted", [
+    ("http://public/odata/Books?$filter=a%20eq%20'b'", "http://main:8101/odata/Books?$filter=a%20eq%20'b'"),
+    ("http://public/odata/Orders", "https://orders/v2/Orders"),
+    ("http://public/odata/Orders(1)/Lines?x=1", "https://orders/v2/Orders(1)/Lines?x=1"),
+    ("http://public/odata/Orders%281%29", "https://orders/v2/Orders(1)"),
+    ("http://public/odata/%4Frders/1", "https://orders/v2/Orders/1"),
+    ("http://public/odata/Orders%2f1", "http://main:8101/odata/Orders%2F1"),
+    ("http://public/odata/OrdersOld", "http://main:8101/odata/OrdersOld"),
+    ("http://public/odata/Orders/Old/x", "http://main:8101/old/x"),
+    ("http://public/odata/", "http://main:8101/odata/"),
+    ("http://public/a'b/c", "http://main:8101/quoted/c"),
+])  # fmt: skip
+def test_the_longest_prefix_counts(url, wanted):
+    assert ROUTES.target(url)[1] == wanted
+
+
+@pytest.mark.parametrize("path, code", [
+    ("/odata", "NoRoute"), ("/Odata/Books", "NoRoute"), ("/", "NoRoute"), ("/x/odata/", "NoRoute"),
+    ("/odata/$batch", "NestedBatch"), ("/odata/%24batch", "NestedBatch"), ("/odata/Orders/$batch", "NestedBatch"),
+])  # fmt: skip
+def test_what_no_route_takes(path, code):
+    with pytest.raises(Refusal) as refused:
+        ROUTES.target("http://public" + path)
+    assert refused.value.answer.body["error"]["code"] == code
+
+
+SENT = "https://orders/v2/Orders"
+
+
+@pytest.mark.parametrize("sent, place, wanted", [
+    (SENT, "https://orders/v2/Orders(1)?x=1", "http://public/odata/Orders(1)?x=1"),
+    (SENT, "https://orders:443/v2/Orders(1)", "http://public/odata/Orders(1)"),
+    (SENT, "/v2/Orders(1)", "/odata/Orders(1)"),
+    (SENT, "Orders(1)", "/odata/Orders(1)"),
+    (SENT, "http://main:8101/old/7", "http://public/odata/Orders/Old/7"),
+    (SENT, "http://public/odata/Orders(1)", "http://public/odata/Orders(1)"),
+    (SENT, "http://public/v2/Orders(1)", "http://public/odata/Orders(1)"),
+    (SENT, "https://orders/v3/Orders(1)", "https://orders/v3/Orders(1)"),
+    (SENT, "http://elsewhere/v2/Orders(1)", "http://elsewhere/v2/Orders(1)"),
+    (SENT, "http://[bad", "http://[bad"),
+    ("http://main:8101/odata/Books", "Books('%C3%BC')", "/odata/Books('%C3%BC')"),
+])  # fmt: skip
+def test_what_a_service_calls_by_its_own_urls(sent, place, wanted):
+    assert ROUTES.public(BASE, sent, place) == wanted
+
+
+def test_a_path_is_normalized_but_for_what_has_a_meaning():
+    assert normalized("/%41%2f%3f%23%25%3B%c3%bc%27%28%29%24") == "/A%2F%3F%23%25%3B%C3%BC'()$"
+
+
+@pytest.mark.parametrize("words", [
+    [], ["--upstream", "localhost:8101"], ["--upstream", "ftp://a/"], ["--upstream", "http://a/?x"],
+    ["--upstream", "http://user@a/"], ["--upstream", "http://a:x/"], ["--upstream", "http:///x/"],
+    ["--route", "Orders=http://a/"], ["--route", "/Orders=a"], ["--route", "/Orders=http://a/x/"],
+    ["--route", "/x/../y=http://a/y"], ["--upstream", "http://a/", "--route", "/=http://b/"],
+    *(["--upstream", "http://a/", *it] for it in (
+        ["--width", "0"], ["--width", "10001"], ["--timeout", "0"], ["--batches", "-1"], ["--listen", "x"],
+        ["--listen", "1:99999"],
+        ["--metrics", "x"], ["--health", "health"], ["--groups", "some"], ["--log", "all"], ["--keep", "nan"], ["--credential", "a b"], ["--no"],
+    )),
+], ids=" ".join)  # fmt: skip
+def test_wrong_arguments(words, capsys):
+    with pytest.raises(SystemExit) as ended:
+        options_of(words)
+    assert ended.value.code == 2 and "usage: python3 -m odb_batch gateway" in capsys.readouterr().err
+
+
+def test_the_same_service_behind_two_routes():
+    found = options_of(["--route", "/odata/A=http://a/v2/A", "--route", "/odata/B/=http://a/v2/"]).routes
+    assert [it.service for it in found] == ["http://a/v2/$batch"] * 2

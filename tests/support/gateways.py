@@ -1,0 +1,209 @@
+"""Gateways and services behind them: in this process, in a loop that runs in a thread; and gateways as processes."""
+
+import asyncio
+import json
+import os
+import subprocess
+import sys
+import threading
+from contextlib import suppress
+from typing import NamedTuple
+
+import aiohttp
+from aiohttp import web
+from yarl import URL
+
+from .commands import with_package
+from .servers import SECONDS, Asked
+
+BIG = 300_000
+OF_CONNECTION = ("connection", "content-length", "date", "keep-alive", "server", "transfer-encoding")
+
+
+class Loop:
+    """A loop that runs in a thread."""
+
+    def __init__(self):
+        self.loop = asyncio.new_event_loop()
+        self.runners = []
+        self.thread = threading.Thread(target=self.loop.run_forever, daemon=True)
+        self.thread.start()
+
+    def run(self, coroutine):
+        return asyncio.run_coroutine_threadsafe(coroutine, self.loop).result(SECONDS)
+
+    def serve(self, app):
+        """Serves an application; returns its port."""
+        return self.run(self._served(app))
+
+    async def _served(self, app):
+        runner = web.AppRunner(app, access_log=None)
+        self.runners.append(runner)
+        await runner.setup()
+        await web.TCPSite(runner, "127.0.0.1", 0, shutdown_timeout=0.1).start()
+        return runner.addresses[0][1]
+
+    def stop(self):
+        for runner in self.runners:
+            self.run(runner.cleanup())
+        self.run(self._cancel_rest())
+        self.loop.call_soon_threadsafe(self.loop.stop)
+        self.thread.join(SECONDS)
+        self.loop.close()
+
+    async def _cancel_rest(self):
+        rest = asyncio.all_tasks() - {asyncio.current_task()}
+        for task in rest:
+            task.cancel()
+        await asyncio.gather(*rest, return_exceptions=True)
+
+
+class Seen(NamedTuple):
+    """A request that a service has seen."""
+
+    method: str
+    path: str
+    headers: dict
+    body: bytes
+
+
+class Upstream(Asked):
+    """A service, which keeps what it has seen, and answers by a function or as the path says."""
+
+    def __init__(self, loop, answer=None):
+        self.seen, self.answer = [], answer or usual
+        app = web.Application(client_max_size=2**25)
+        app.router.add_route("*", "/{path:.*}", self._answer)
+        self.port = loop.serve(app)
+        self.url = f"http://127.0.0.1:{self.port}"
+
+    @property
+    def paths(self):
+        return [it.path for it in self.seen]
+
+    async def _answer(self, request):
+        headers = {name.lower(): value for name, value in request.headers.items()}
+        seen = Seen(request.method, request.raw_path, headers, await request.read())
+        self.seen.append(seen)
+        kind = request.path.rpartition("/")[2]
+        if kind in ODD:
+            return await ODD[kind](request)
+        found = self.answer(seen)
+        return await found if asyncio.iscoroutine(found) else found
+
+
+def usual(seen):
+    """A POST creates what has the number of its turn; other requests show how they were seen."""
+    body = json.dumps({"path": seen.path, "price": "9.99"}).replace('"9.99"', "9.990").encode()
+    if seen.method != "POST":
+        return web.Response(body=body, content_type="application/json", headers={"ETag": '"1"'})
+    return web.Response(status=201, body=body, content_type="application/json", headers={"Location": seen.path + "(1)"})
+
+
+async def hang_up(request):
+    request.transport.close()
+    return web.Response()
+
+
+async def hang(request):
+    await asyncio.sleep(SECONDS)
+
+
+async def half(request):
+    found = web.StreamResponse(headers={"Content-Length": "100"})
+    await found.prepare(request)
+    await found.write(b"half")
+    request.transport.close()
+    return found
+
+
+async def big(request):
+    found = web.StreamResponse(status=201 if request.method == "POST" else 200)
+    await found.prepare(request)
+    with suppress(ConnectionError):
+        for _ in range(BIG // 10_000):
+            await found.write(b"x" * 10_000)
+    return found
+
+
+def always(**options):
+    async def answer(request):
+        return web.Response(**options)
+
+    return answer
+
+
+# How a service answers a path whose last segment is one of these.
+ODD = {
+    "hang-up": hang_up,
+    "hang": hang,
+    "half": half,
+    "big": big,
+    "html": always(text="<p>no", content_type="text/html"),
+    "no-json": always(body=b"<p>no", content_type="application/json"),
+    "gzip": always(body=b"no", headers={"Content-Encoding": "gzip"}),
+    "elsewhere": always(status=302, headers={"Location": "http://elsewhere/odata/Books(1)"}),
+    "missing": always(status=404),
+    "cookie": always(headers={"Set-Cookie": "a=b", "X-Own": "ü"}),
+}
+
+
+class Front(Asked):
+    """A gateway in this process, by the words of its command line."""
+
+    def __init__(self, loop, *words):
+        from odb_batch.gateway._application import Gateway
+        from odb_batch.gateway._options import options_of
+
+        self.gateway = Gateway(options_of([*words, "--log", "none"]))
+        self.port = loop.serve(self.gateway.application())
+        self.url = f"http://127.0.0.1:{self.port}/odata/"
+
+    def metrics(self):
+        return self.gateway._metrics.text()
+
+
+class Proxy(Asked):
+    """What stands before a gateway and its service: batches go to the first, all else to the second."""
+
+    def __init__(self, loop, gateway, service):
+        self.gateway, self.service = gateway, service
+        app = web.Application(client_max_size=2**25)
+        app.router.add_route("*", "/{path:.*}", self._answer)
+        app.cleanup_ctx.append(self._opened)
+        self.port = loop.serve(app)
+        self.url = f"http://127.0.0.1:{self.port}/odata/"
+
+    async def _opened(self, app):
+        async with aiohttp.ClientSession(auto_decompress=False, cookie_jar=aiohttp.DummyCookieJar()) as self.session:
+            yield
+
+    async def _answer(self, request):
+        port = self.gateway.port if request.path.endswith("/$batch") else self.service.port
+        url = URL(f"http://127.0.0.1:{port}{request.raw_path}", encoded=True)
+        options = {"headers": request.headers, "data": await request.read(), "allow_redirects": False}
+        async with self.session.request(request.method, url, **options) as answer:
+            kept = [(name, value) for name, value in answer.headers.items() if name.lower() not in OF_CONNECTION]
+            return web.Response(status=answer.status, headers=kept, body=await answer.read())
+
+
+class Running(Asked):
+    """A gateway as a process."""
+
+    def __init__(self, *words):
+        command = [sys.executable, "-m", "odb_batch", "gateway", "--listen", "127.0.0.1:0", *words]
+        self.process = subprocess.Popen(command, env=with_package(), stderr=subprocess.PIPE, text=True)
+        line = self.process.stderr.readline()
+        assert line.startswith("listening on "), line
+        self.port = int(line.rpartition(":")[2])
+        self.url = f"http://127.0.0.1:{self.port}/odata/"
+
+    def stop(self, number):
+        """Sends a signal; returns the exit status and what else was written."""
+        if self.process.poll() is None:
+            os.kill(self.process.pid, number)
+        try:
+            _, text = self.process.communicate(timeout=SECONDS)
+        finally:
+            self.process.kill()
+        return self.process.returncode, text
