@@ -161,17 +161,15 @@ class Gateway:
             id = headers.get("repeatability-request-id", "").encode()
             if self._journals is None or not id:
                 return performed(await performance.response(batch, None), performance.mode)
-            # What has to be the same beside the document and the mode, or a client would read the answers of another.
-            same = [
-                request.path,
-                str(self._options.forwards),
-                *(headers.get(it, "") for it in self._options.credentials),
-            ]
-            sender = digest(*map(str.encode, same))
-            first = identity(batch=digest(batch), mode=performance.mode, sender=sender)
+            first = identity(batch=digest(batch), mode=performance.mode, sender=self._sender(request, headers))
             return await self._repeatable(self._journals, id, first, batch, performance)
         finally:
             self._metrics.batches_running -= 1
+
+    def _sender(self, request: web.Request, headers: Dict[str, str]) -> str:
+        """What has to be the same beside the batch if it is sent again; else a client could read answers of another."""
+        credentials = (headers.get(name, "") for name in self._options.credentials)
+        return digest(*map(str.encode, (request.path, str(self._options.forwards), *credentials)))
 
     async def _repeatable(
         self, journals: Journals, id: bytes, first: bytes, batch: bytes, performance: Performance
