@@ -75,22 +75,28 @@ function isSuccess({ status }) {
   return status >= 200 && status <= 299
 }
 
-/** Why nothing was answered, in place of an exception. */
-function refusalOf(error) {
+function broken() {
+  return new Refusal(BAD_GATEWAY, 'BadGateway', 'The connection broke before an answer came')
+}
+
+function failed() {
+  return new Refusal(500, 'InternalError', 'The request failed; the log says why')
+}
+
+/** Why nothing was answered, in place of an exception; `other` makes the refusal for one that says nothing of the connection. */
+function refusalOf(error, other = failed) {
   if (error instanceof Refusal) return error
   const codes = [error?.code, error?.cause?.code].map(String)
   if (error?.name === 'TimeoutError' || codes.some((it) => LATE.test(it))) {
     return new Refusal(504, 'Timeout', 'No answer came in time')
   }
-  if (codes.some((it) => BROKEN.test(it))) {
-    return new Refusal(BAD_GATEWAY, 'BadGateway', 'The connection broke before an answer came')
-  }
-  return new Refusal(500, 'InternalError', 'The request failed; the log says why')
+  return codes.some((it) => BROKEN.test(it)) ? broken() : other()
 }
 
 module.exports = {
   GroupFailed,
   Refusal,
+  broken,
   charsetOf,
   finalStatus,
   foldedOf,
