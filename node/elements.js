@@ -2,7 +2,9 @@
 
 // The text of a batch that is made of requests (OData JSON Format 4.01, section 19.1), and the units of a plan.
 
+const { check } = require('./commands.js')
 const { jsonOf } = require('./documents.js')
+const { Fault } = require('./faults.js')
 
 const END = Buffer.from('}')
 const BODY = Buffer.from(',"body":')
@@ -29,6 +31,19 @@ function batchText(elements) {
 }
 
 /**
+ * Whether a URL may be that of a request that refers to no other: it neither begins with `$` and an id, nor leads to a `$batch`.
+ * What takes the place of a reference comes from a service, which may send anything.
+ */
+function isPlain(url) {
+  try {
+    return check({ requests: [{ id: 'a', method: 'get', url }] }).requests === 1
+  } catch (error) {
+    if (error instanceof Fault) return false
+    throw error
+  }
+}
+
+/**
  * The units of a plan: groups, and requests without one, each with the ids of its requests in order, and the numbers of the
  * units that these depend on, which are earlier ones.
  */
@@ -45,4 +60,4 @@ function unitsOf(planned) {
   return units
 }
 
-module.exports = { batchText, elementText, unitsOf }
+module.exports = { batchText, elementText, isPlain, unitsOf }

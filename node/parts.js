@@ -4,7 +4,7 @@
 
 const { match, numbersOf, plan } = require('./commands.js')
 const { arrayOf, bytesOf, jsonOf } = require('./documents.js')
-const { batchText, elementText, unitsOf } = require('./elements.js')
+const { batchText, elementText, isPlain, unitsOf } = require('./elements.js')
 const { Refusal, broken, finalStatus, isSuccess, refusalOf } = require('./messages.js')
 const { References } = require('./references.js')
 const { requests } = require('./requests.js')
@@ -112,11 +112,19 @@ class Parts {
   #elementsOf({ group, ids }, names) {
     for (const name of [...ids, group ?? ids[0]]) names.add(name)
     try {
-      return ids.map((id) => elementText(this.#references.member(id, names), this.#needs.get(id).filter((it) => names.has(it))))
+      return ids.map((id) => elementText(this.#memberOf(id, names), this.#needs.get(id).filter((it) => names.has(it))))
     } catch (error) {
       if (error instanceof Refusal) return error
       throw error
     }
+  }
+
+  #memberOf(id, names) {
+    const { reference } = this.#references.of(id)
+    const member = this.#references.member(id, names)
+    if (reference === null || names.has(reference) || isPlain(member.url)) return member
+    const message = `${reference} was answered with a URL that cannot be used`
+    throw new Refusal(424, 'NoLocation', message, { target: reference })
   }
 
   /** Takes what the part that is out was answered. */

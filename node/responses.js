@@ -60,11 +60,18 @@ function headersOf(value) {
   return foldedOf(Object.fromEntries(given.filter(([, it]) => ['string', 'number', 'boolean'].includes(typeof it))))
 }
 
+/** Whether a text is base64url, or base64, with its `=` or without. */
+function isBase64(text) {
+  return /^[\w+/-]*={0,2}$/.test(text) && text.replace(/=+$/, '').length % 4 !== 1
+}
+
 /** The bytes on the wire of a body; where it is not what its media type says, those of its JSON or its text. */
 function wireOf(text, headers) {
-  if (isJson(mediaTypeOf(headers))) return text
+  const kind = mediaTypeOf(headers)
+  if (isJson(kind)) return text
   const value = JSON.parse(text.toString())
   if (typeof value !== 'string') return text
+  if (!kind.startsWith('text/') && !isBase64(value)) return Buffer.from(value)
   try {
     return toWire(text, headers)
   } catch (error) {

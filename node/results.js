@@ -8,7 +8,7 @@ const { isSuccess } = require('./messages.js')
 function errorText(body) {
   try {
     const { code, message } = JSON.parse(body.toString()).error
-    return ` ${code}: ${message}`
+    return code === undefined || message === undefined ? '' : ` ${code}: ${message}`
   } catch {
     return ''
   }

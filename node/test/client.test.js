@@ -162,6 +162,14 @@ for (const limit of [1, 2, 10]) {
   })
 }
 
+test('says of a failure what its error object says', async () => {
+  const bodies = ['', '[]', '{', '{"error":7}', '{"error":{"code":"A"}}', '['.repeat(100000)]
+  for (const body of bodies) {
+    const [result] = await Batch.read(described(['a'])).send(() => ({ status: 500, body }))
+    assert.throws(() => result.raiseForStatus(), { message: 'a 500' })
+  }
+})
+
 test('asks a service to continue, unless it stops', async () => {
   const batch = Batch.read(described(['a'], ['b']))
   const asked = []

@@ -159,6 +159,9 @@ const ANSWERS = [
   ['a body', { body: { '@odata.context': 'https://h/s/$metadata', '@id': 'Orders(5)' } }, 'post', 'https://h/s/Orders(5)/Lines'],
   ['a get', {}, 'get', 'Orders/Lines'],
   ['nothing', {}, 'post', undefined],
+  ['a reference', { headers: { Location: '$2' } }, 'post', undefined],
+  ['an encoded one', { headers: { Location: '%242' } }, 'post', undefined],
+  ['a batch', { headers: { Location: '/odata/$batch' } }, 'post', undefined, ''],
 ]
 
 test('stops at a request that a service has answered 424, but not at one that was skipped', async () => {
@@ -173,10 +176,10 @@ test('stops at a request that a service has answered 424, but not at one that wa
 })
 
 test('replaces references to earlier parts', async () => {
-  for (const [name, answer, method, expected] of ANSWERS) {
+  for (const [name, answer, method, expected, tail = '/Lines'] of ANSWERS) {
     const batch = new Batch()
     const order = batch.request(method, 'Orders')
-    const line = batch.get(`${order}/Lines`)
+    const line = batch.get(`${order}${tail}`)
     const urls = []
     const results = await batch.send(({ body }) => {
       const [{ id, url, dependsOn }] = JSON.parse(body).requests
@@ -203,13 +206,14 @@ test('sends what comes before a request that cannot be sent, and what comes afte
 })
 
 test('shows bodies as they are on the wire', async () => {
-  const batch = Batch.read(described(['a'], ['b'], ['c'], ['d'], ['e'], ['f']))
+  const batch = Batch.read(described(['a'], ['b'], ['c'], ['d'], ['e'], ['f'], ['g']))
   const responses = [
     '"id":"a","status":200,"body": {"Price": 1.50, "No": 12345678901234567890, "x": "\\"]}"} ',
     '"body":"\\u00e9","id":"b","headers":{"Content-Type":"text/plain;charset=iso-8859-1"},"status":200',
     '"id":"c","status":200,"body":"_-8","headers":{"content-type":"image/png"}',
     '"id":"d","status":200,"headers":{"content-type":"text/plain;charset=us-ascii","Age":7,"Via":null,"Odd":{}},"body":"\\u00e9"',
     '"id":"e","status":204,"body":null',
+    '"id":"g","status":200,"headers":{"content-type":"image/png"},"body":"A"',
     '"id":"\\u0066","status":200,"more":[[],{}, "]"],"headers":{"content-type":"image/png"},"body":[1.0]',
   ]
   const body = `\ufeff{"other":{"a":[1,"}"]},"responses": [{${responses.join('},\n{')} }]}`
@@ -217,7 +221,7 @@ test('shows bodies as they are on the wire', async () => {
   const found = Array.from(results, (it) => it.body)
   const bytes = (...values) => Buffer.from(values)
   const expected = [Buffer.from('{"Price": 1.50, "No": 12345678901234567890, "x": "\\"]}"}'), bytes(0xe9), bytes(255, 239)]
-  assert.deepEqual(found, [...expected, Buffer.from('é'), bytes(), Buffer.from('[1.0]')])
+  assert.deepEqual(found, [...expected, Buffer.from('é'), bytes(), Buffer.from('[1.0]'), Buffer.from('A')])
   assert.deepEqual(results.get('d').headers, { 'content-type': 'text/plain;charset=us-ascii', age: '7' })
 })
 
