@@ -121,8 +121,8 @@ function dispatcher(handler) {
     res.on('close', cut)
     res.on('finish', () => {
       res.off('close', cut)
-      const { body, ...head } = parsed(socket.bytes)
-      resolve(socket.isCut || body.length > most ? head : { ...head, body })
+      const { status, headers, body } = parsed(socket.bytes)
+      resolve({ status, headers, body: socket.isCut || body.length > most ? undefined : body })
       if (req.readableFlowing === null) req.resume() // nobody reads the body
       process.nextTick(() => socket.destroy())
     })

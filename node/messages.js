@@ -40,13 +40,13 @@ function valueOf(value) {
 
 /** Headers by their names in lower case, as strings. Values of one name are joined by commas. */
 function foldedOf(headers) {
-  const found = new Map()
+  const found = { __proto__: null } // so that each name is free
   for (const [given, value] of Object.entries(headersOf(headers) ?? {})) {
     if (value === undefined || value === null) continue
     const name = given.toLowerCase()
-    found.set(name, found.has(name) ? `${found.get(name)}, ${valueOf(value)}` : valueOf(value))
+    found[name] = name in found ? `${found[name]}, ${valueOf(value)}` : valueOf(value)
   }
-  return Object.fromEntries(found)
+  return found
 }
 
 /** The media type of a message in lower case, without parameters; empty if it names none. */

@@ -71,13 +71,14 @@ class Room {
    * The answer with its body, if there is room for it. If not, a GET is answered 507; any other request was performed, so its
    * answer keeps the status and the headers.
    */
-  fitting({ method }, { body, ...head }) {
+  fitting({ method }, answer) {
+    const { status, headers, body } = answer
     if (body?.length <= this.#left) {
       this.#left -= body.length
-      return { ...head, body }
+      return answer
     }
     if (method === 'GET') throw new Refusal(507, 'TooLong', 'The answers to the batch are too long together')
-    return head
+    return { status, headers }
   }
 }
 

@@ -16,7 +16,9 @@ const OF_CONNECTION = new Set([
 
 /** The headers that a response shows. */
 function shown(headers) {
-  return Object.fromEntries(Object.entries(headers).filter(([name]) => !OF_CONNECTION.has(name)))
+  const found = { __proto__: null }
+  for (const name in headers) if (!OF_CONNECTION.has(name)) found[name] = headers[name]
+  return found
 }
 
 /** Headers of an answer that the library takes whatever they hold. */
