@@ -11,7 +11,7 @@ const { Parts } = require('./parts.js')
 const { OF_ETAGS } = require('./references.js')
 const { requests } = require('./requests.js')
 const { RequestFailed, Result, Results } = require('./results.js')
-const { unquoted } = require('./urls.js')
+const { firstSegment } = require('./urls.js')
 
 const OF_REQUEST = ['after', 'headers', 'id']
 const OF_GROUP = ['id']
@@ -72,7 +72,7 @@ function bodyText(body, headers) {
 
 /** What follows a `$` at the beginning of a URL and of conditions. */
 function referredBy(url, headers) {
-  const values = [unquoted(url.split(/[/?#]/, 1)[0]), ...OF_ETAGS.map((name) => headers[name] ?? '')]
+  const values = [firstSegment(url), ...OF_ETAGS.map((name) => headers[name] ?? '')]
   return values.filter((it) => it.startsWith('$')).map((it) => it.slice(1))
 }
 

@@ -5,6 +5,7 @@
 const { check } = require('./commands.js')
 const { jsonOf } = require('./documents.js')
 const { Fault } = require('./faults.js')
+const { firstSegment } = require('./urls.js')
 
 const END = Buffer.from('}')
 const BODY = Buffer.from(',"body":')
@@ -31,12 +32,12 @@ function batchText(elements) {
 }
 
 /**
- * Whether a URL may be that of a request that refers to no other: it neither begins with `$` and an id, nor leads to a `$batch`.
- * What takes the place of a reference comes from a service, which may send anything.
+ * Whether a URL may take the place of a reference: it does not begin with `$`, and does not lead to a `$batch`. It comes from a
+ * service, which may send anything.
  */
 function isPlain(url) {
   try {
-    return check({ requests: [{ id: 'a', method: 'get', url }] }).requests === 1
+    return !firstSegment(url).startsWith('$') && check({ requests: [{ id: 'a', method: 'get', url }] }).requests === 1
   } catch (error) {
     if (error instanceof Fault) return false
     throw error

@@ -161,6 +161,7 @@ const ANSWERS = [
   ['nothing', {}, 'post', undefined],
   ['a reference', { headers: { Location: '$2' } }, 'post', undefined],
   ['an encoded one', { headers: { Location: '%242' } }, 'post', undefined],
+  ['what is none yet', { headers: { Location: '$all' } }, 'post', undefined],
   ['a batch', { headers: { Location: '/odata/$batch' } }, 'post', undefined, ''],
 ]
 
