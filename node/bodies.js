@@ -79,4 +79,4 @@ function entityOf(text) {
   }
 }
 
-module.exports = { MOST_BYTES, asText, entityOf, toJson, toWire }
+module.exports = { MOST_BYTES, asText, entityOf, isJson, toJson, toWire }

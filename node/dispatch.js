@@ -1,6 +1,6 @@
 'use strict'
 
-// Has a handler of node:http answer a request in this process, over a connection that only keeps what is written.
+// Has a handler of node:http answer requests in this process, over connections that only keep what is written.
 
 const { IncomingMessage, ServerResponse } = require('node:http')
 const { Duplex } = require('node:stream')
@@ -67,12 +67,27 @@ for (const name of CALLS_WITHOUT_EFFECT) {
   }
 }
 
+/**
+ * A class of node:http with the prototype that an app has for its objects, or the class itself if the app has none. An app of
+ * Express gives its prototypes to all requests and responses. If that changes the prototype of an object, V8 gives it a hidden
+ * class of its own with the next new member, and every access to its members misses all caches: 40 percent of the time of a batch.
+ */
+function ofApp(Class, prototype) {
+  if (!(prototype instanceof Class)) return Class
+  function OfApp(given) {
+    Class.call(this, given)
+  }
+  Object.setPrototypeOf(OfApp, Class) // V8 leaves as much room for properties as in the class
+  OfApp.prototype = prototype
+  return OfApp
+}
+
 /** The request as a handler reads it. */
-function incoming(socket, { method, url, headers, body = Buffer.alloc(0) }) {
+function incoming(Request, socket, { method, url, headers, body = Buffer.alloc(0) }) {
   const given = body.length > 0 ? { ...headers, 'content-length': String(body.length) } : headers
   const rawHeaders = Object.entries(given).flat()
   const http = { httpVersion: '1.1', httpVersionMajor: 1, httpVersionMinor: 1 }
-  const req = Object.assign(new IncomingMessage(socket), { method, url, headers: given, rawHeaders, ...http })
+  const req = Object.assign(new Request(socket), { method, url, headers: given, rawHeaders, ...http })
   req.push(body)
   req.push(null)
   req.complete = true
@@ -80,23 +95,25 @@ function incoming(socket, { method, url, headers, body = Buffer.alloc(0) }) {
 }
 
 /** The response that a handler writes to a connection, which ends with it. */
-function outgoing(req, socket) {
-  const res = new ServerResponse(req)
+function outgoing(Response, req, socket) {
+  const res = new Response(req)
   res.shouldKeepAlive = false
   res.assignSocket(socket)
   return res
 }
 
 /**
- * Has a handler answer a request, and is fulfilled with the answer, without its body if that has more than `most` bytes. It is
- * rejected if the handler throws before it has answered, or ends the connection in place of an answer; an aborted signal ends
- * it, too. What a handler holds may wait until its request and its response are closed, so both are in the end.
+ * Returns a function that has a handler answer a request, and is fulfilled with the answer, without its body if that has more
+ * than `most` bytes. It is rejected if the handler throws before it has answered, or ends the connection in place of an answer;
+ * an aborted signal ends it, too. What a handler holds may wait until its request and its response are closed, so both are in
+ * the end.
  */
-function dispatch(handler, client, request, most) {
-  return new Promise((resolve, reject) => {
+function dispatcher(handler) {
+  const [Request, Response] = [ofApp(IncomingMessage, handler.request), ofApp(ServerResponse, handler.response)]
+  return (client, request, most) => new Promise((resolve, reject) => {
     const socket = new Kept(client, most + MOST_OF_HEAD)
-    const req = incoming(socket, request)
-    const res = outgoing(req, socket)
+    const req = incoming(Request, socket, request)
+    const res = outgoing(Response, req, socket)
     const cut = () => {
       req.destroy()
       reject(Object.assign(new Error('the handler ended the connection'), { code: 'ECONNRESET' }))
@@ -104,8 +121,8 @@ function dispatch(handler, client, request, most) {
     res.on('close', cut)
     res.on('finish', () => {
       res.off('close', cut)
-      const { body, ...head } = parsed(socket.bytes)
-      resolve(socket.isCut || body.length > most ? head : { ...head, body })
+      const { status, headers, body } = parsed(socket.bytes)
+      resolve({ status, headers, body: socket.isCut || body.length > most ? undefined : body })
       if (req.readableFlowing === null) req.resume() // nobody reads the body
       process.nextTick(() => socket.destroy())
     })
@@ -117,4 +134,4 @@ function dispatch(handler, client, request, most) {
   })
 }
 
-module.exports = { dispatch }
+module.exports = { dispatcher }

@@ -40,13 +40,13 @@ function valueOf(value) {
 
 /** Headers by their names in lower case, as strings. Values of one name are joined by commas. */
 function foldedOf(headers) {
-  const found = new Map()
+  const found = { __proto__: null } // so that each name is free
   for (const [given, value] of Object.entries(headersOf(headers) ?? {})) {
     if (value === undefined || value === null) continue
     const name = given.toLowerCase()
-    found.set(name, found.has(name) ? `${found.get(name)}, ${valueOf(value)}` : valueOf(value))
+    found[name] = name in found ? `${found[name]}, ${valueOf(value)}` : valueOf(value)
   }
-  return Object.fromEntries(found)
+  return found
 }
 
 /** The media type of a message in lower case, without parameters; empty if it names none. */
@@ -75,22 +75,28 @@ function isSuccess({ status }) {
   return status >= 200 && status <= 299
 }
 
-/** Why nothing was answered, in place of an exception. */
-function refusalOf(error) {
+function broken() {
+  return new Refusal(BAD_GATEWAY, 'BadGateway', 'The connection broke before an answer came')
+}
+
+function failed() {
+  return new Refusal(500, 'InternalError', 'The request failed; the log says why')
+}
+
+/** Why nothing was answered, in place of an exception; `other` makes the refusal for one that says nothing of the connection. */
+function refusalOf(error, other = failed) {
   if (error instanceof Refusal) return error
   const codes = [error?.code, error?.cause?.code].map(String)
   if (error?.name === 'TimeoutError' || codes.some((it) => LATE.test(it))) {
     return new Refusal(504, 'Timeout', 'No answer came in time')
   }
-  if (codes.some((it) => BROKEN.test(it))) {
-    return new Refusal(BAD_GATEWAY, 'BadGateway', 'The connection broke before an answer came')
-  }
-  return new Refusal(500, 'InternalError', 'The request failed; the log says why')
+  return codes.some((it) => BROKEN.test(it)) ? broken() : other()
 }
 
 module.exports = {
   GroupFailed,
   Refusal,
+  broken,
   charsetOf,
   finalStatus,
   foldedOf,

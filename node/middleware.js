@@ -5,7 +5,7 @@
 
 const { MOST_BYTES } = require('./bodies.js')
 const { optionsOf } = require('./commands.js')
-const { dispatch } = require('./dispatch.js')
+const { dispatcher } = require('./dispatch.js')
 const { Fault } = require('./faults.js')
 const { Refusal, refusalOf } = require('./messages.js')
 const { Outer, folderOf } = require('./outer.js')
@@ -71,35 +71,39 @@ class Room {
    * The answer with its body, if there is room for it. If not, a GET is answered 507; any other request was performed, so its
    * answer keeps the status and the headers.
    */
-  fitting({ method }, { body, ...head }) {
+  fitting({ method }, answer) {
+    const { status, headers, body } = answer
     if (body?.length <= this.#left) {
       this.#left -= body.length
-      return { ...head, body }
+      return answer
     }
     if (method === 'GET') throw new Refusal(507, 'TooLong', 'The answers to the batch are too long together')
-    return head
+    return { status, headers }
   }
 }
 
-/** Has an app answer a request by its own call for that, as Fastify has one. */
-async function injected(app, client, { method, url, headers, body }) {
-  const { remoteAddress } = client
-  const answer = await app.inject({ method, url, headers, payload: body, remoteAddress })
-  return { status: answer.statusCode, headers: answer.headers, body: answer.rawPayload }
+/** Has an app answer requests by its own call for that, as Fastify has one. */
+function injector(app) {
+  return async ({ remoteAddress }, { method, url, headers, body }) => {
+    const answer = await app.inject({ method, url, headers, payload: body, remoteAddress })
+    return { status: answer.statusCode, headers: answer.headers, body: answer.rawPayload }
+  }
 }
 
-/** Has an app answer a request in this process. */
-function answered(app, client, request, most) {
-  return typeof app === 'function' ? dispatch(app, client, request, most) : injected(app, client, request)
+/** Has an app answer requests in this process: a function of a client, a request, and how long a body is kept. */
+function answererOf(app) {
+  if (typeof app === 'function') return dispatcher(app)
+  if (typeof app?.inject === 'function') return injector(app)
+  throw new TypeError('the app must be a handler of node:http, or have inject')
 }
 
 /** The answer to a request that carries a batch. */
-async function answerOf(app, req, { path, root, allowed, maxSize, performed }) {
+async function answerOf(answered, req, { path, root, allowed, maxSize, performed }) {
   const outer = new Outer(req, path, allowed)
   const { mode, base } = outer
   const document = await bodyOf(req, maxSize)
   const room = new Room(maxSize)
-  const send = async (request) => room.fitting(request, await answered(app, req.socket, outer.inner(request), room.left))
+  const send = async (request) => room.fitting(request, await answered(req.socket, outer.inner(request), room.left))
   const body = await perform(document, send, { ...performed, mode, base, roots: outer.rootsOf(root) })
   const applied = mode === 'continue' ? { 'preference-applied': 'continue-on-error' } : {}
   return { status: 200, headers: { 'content-type': 'application/json', ...applied }, body }
@@ -117,15 +121,13 @@ function failedOf(error, log) {
 }
 
 function batch(app, options = {}) {
-  if (typeof app !== 'function' && typeof app?.inject !== 'function') {
-    throw new TypeError('the app must be a handler of node:http, or have inject')
-  }
+  const answered = answererOf(app)
   const settings = settingsOf(options)
   const { log = logged } = settings.performed
   return function answerBatch(req, res, next = () => app(req, res)) {
     const [path] = (req.originalUrl ?? req.url).split('?', 1)
     if (unquoted(path) !== settings.path) return next()
-    answerOf(app, req, settings)
+    answerOf(answered, req, settings)
       .catch((error) => failedOf(error, log))
       .then(({ status, headers, body }) => {
         res.writeHead(status, { 'odata-version': '4.01', ...headers, 'content-length': body.length })

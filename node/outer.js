@@ -122,9 +122,9 @@ class Outer {
 
   /** A request of the batch as the service has it, with what it inherits; or a refusal if it may not be sent. */
   inner(request) {
-    const { pathname, search } = new URL(request.url)
-    if (unquoted(pathname) === this.path) throw new Refusal(400, 'NestedBatch', 'A batch has no batches')
-    return { ...request, url: pathname + search, headers: { ...this.#inherited, ...this.#ownOf(request.headers) } }
+    const url = request.url.slice(request.url.indexOf('/', request.url.indexOf('://') + '://'.length))
+    if (unquoted(url.split('?', 1)[0]) === this.path) throw new Refusal(400, 'NestedBatch', 'A batch has no batches')
+    return { ...request, url, headers: { ...this.#inherited, ...this.#ownOf(request.headers) } }
   }
 
   /** The headers that a request has for itself. */

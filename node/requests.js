@@ -9,26 +9,19 @@ const { settle } = require('./faults.js')
 // How many numbers a request has: a start and a length for each of seven parts, and a position.
 const NUMBERS = 15
 
-/** The bytes of a part, or none if there is no such part. */
-function partOf(bytes, [start, length]) {
-  return start < 0 ? undefined : bytes.subarray(start, start + length)
+/** The request whose parts lie there, from a number on; its reference is missing yet. `partOf` is a text by start and length. */
+function requestOf(document, partOf, all, from) {
+  const [id, method, url, rest, headers, group] = [0, 2, 4, 6, 8, 10].map((at) => partOf(all[from + at], all[from + at + 1]))
+  const [start, length] = [all[from + 12], all[from + 13]]
+  const body = start < 0 ? undefined : document.subarray(start, start + length)
+  return { id, method, url, reference: null, rest, headers: JSON.parse(headers), group, body }
 }
 
-/** The request whose parts lie there; its reference is missing yet. */
-function requestOf(document, text, numbers) {
-  const [id, method, url, rest, headers, group] = Array.from({ length: 6 }, (_, at) =>
-    partOf(text, numbers.subarray(2 * at))?.toString(),
-  )
-  return {
-    id,
-    method,
-    url,
-    reference: null,
-    rest,
-    headers: JSON.parse(headers),
-    group: group ?? null,
-    body: partOf(document, numbers.subarray(12)),
-  }
+/** What returns the part of a text by its start and its length in bytes; null if there is no such part. */
+function partsOf(text) {
+  const all = text.toString()
+  if (all.length === text.length) return (start, length) => (start < 0 ? null : all.slice(start, start + length))
+  return (start, length) => (start < 0 ? null : text.toString('utf8', start, start + length))
 }
 
 function requests(batch) {
@@ -36,11 +29,11 @@ function requests(batch) {
   const document = Buffer.from(given.buffer, given.byteOffset, given.length)
   const [status, text, all] = addon.requests(document)
   settle('requests', status, text)
-  const numbers = Array.from({ length: all.length / NUMBERS }, (_, at) => all.subarray(NUMBERS * at, NUMBERS * (at + 1)))
-  const found = numbers.map((it) => requestOf(document, text, it))
-  numbers.forEach((it, at) => {
-    const reference = it[NUMBERS - 1]
-    if (reference >= 0) found[at].reference = found[reference].id
+  const partOf = partsOf(text)
+  const found = Array.from({ length: all.length / NUMBERS }, (_, at) => requestOf(document, partOf, all, NUMBERS * at))
+  found.forEach((request, at) => {
+    const reference = all[NUMBERS * (at + 1) - 1]
+    if (reference >= 0) request.reference = found[reference].id
   })
   return found
 }

@@ -103,7 +103,9 @@ class Run {
 
   /** The ids of the requests at positions. */
   #idsOf(positions) {
-    return Array.from(positions, (position) => this.#ids[position])
+    const ids = []
+    for (const position of positions) ids.push(this.#ids[position])
+    return ids
   }
 
   /** The ids of the requests that a call lists, in the order of the batch. */

@@ -15,6 +15,11 @@ function unquoted(part) {
   return Buffer.from(bytes, 'latin1').toString()
 }
 
+/** The first segment of a URL: `$book` of `$book/Loans`, and of `%24book`. */
+function firstSegment(url) {
+  return unquoted(url.split(/[/?#]/, 1)[0])
+}
+
 /** A URL that is relative to another one, which is absolute. */
 function joined(url, base) {
   try {
@@ -93,4 +98,4 @@ function isBelow(url, root) {
   return isSame && path.startsWith(unquoted(root.pathname)) && !climbs && !NOT_PRINTABLE.test(path)
 }
 
-module.exports = { Service, entityUrl, followed, unquoted }
+module.exports = { Service, entityUrl, firstSegment, followed, unquoted }

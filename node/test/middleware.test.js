@@ -6,6 +6,7 @@ const assert = require('node:assert/strict')
 const { AsyncLocalStorage } = require('node:async_hooks')
 const net = require('node:net')
 const { once } = require('node:events')
+const { IncomingMessage, ServerResponse } = require('node:http')
 const { Readable } = require('node:stream')
 const { test } = require('node:test')
 const { batch: mounted } = require('../middleware.js')
@@ -386,6 +387,20 @@ test('express: is found in a folder of the app', WITHOUT_EXPRESS, async () => {
     const answer = await post(JSON.stringify(batch(['a', 'get', 'status?is=204'])))
     assert.equal((await answer.json()).responses[0].status, 204)
   })
+})
+
+test('makes requests and responses with the prototypes that an app has for them', async () => {
+  const found = []
+  const app = (req, res) => res.end(String(found.push([req.own, res.own])))
+  app.request = Object.create(IncomingMessage.prototype, { own: { value: 'of the app' } })
+  app.response = { own: 'no prototype for responses' }
+  for (const expected of [['of the app', undefined], ['of the app', 7]]) {
+    await listening(mounted(app, { path: PATH }), async ({ post }) => {
+      const { responses } = await (await post(JSON.stringify(batch(['a'])))).json()
+      assert.deepEqual([responses[0].status, found.pop()], [200, expected])
+    })
+    app.response = Object.create(ServerResponse.prototype, { own: { value: 7 } })
+  }
 })
 
 test('has an app answer by its own call for that, as Fastify has one', async () => {

@@ -43,7 +43,7 @@ def test_the_addon_of_gyp(library, environment, module, tmp_path):
 
 
 @pytest.mark.needs("tsc")
-@pytest.mark.parametrize("program", ["typed.ts", "performing.ts", "newer.ts"])
+@pytest.mark.parametrize("program", ["typed.ts", "performing.ts", "posting.ts", "newer.ts"])
 def test_its_types(program, tmp_path):
     """Compiles calls against index.d.ts, alone and beside what newer types declare."""
     alone = ["--typeRoots", tmp_path]  # no types of other packages

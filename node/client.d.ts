@@ -1,0 +1,157 @@
+// The entry `odb-batch/client`.
+
+import type { Bytes, Counts, Document } from './index'
+import type { Answer, Fetched } from './perform'
+
+/** A request of a {@link Batch}. As a text it is the reference `$id`, for URLs and conditions of later requests. */
+export class Reference {
+  private constructor()
+  readonly id: string
+  toString(): string
+}
+
+/** An atomicity group of a {@link Batch}, which later requests may depend on. */
+export class Group {
+  private constructor()
+  /** Its name. */
+  readonly id: string
+}
+
+/** What a request depends on: a request or a group, or its name. */
+export type Name = Reference | Group | string
+
+export interface RequestOptions {
+  /** What it depends on, beside what its URL, `If-Match` and `If-None-Match` refer to. */
+  after?: Name | readonly Name[]
+  /** Its headers. In `If-Match` and `If-None-Match` a reference stands for an ETag. */
+  headers?: Record<string, string | Reference> | Iterable<readonly [string, string | Reference]>
+  /** Its id; without it that is the first free number. */
+  id?: string
+}
+
+export interface SendOptions {
+  /** How many requests the service takes in a batch, from 1 to 10,000, which is the default. */
+  limit?: number
+  /**
+   * `stop` is for a service that stops at its first error: it is not asked to continue, and nothing is sent after an error;
+   * `continue` is the default.
+   */
+  mode?: 'continue' | 'stop'
+}
+
+/** A batch as it is posted. With the URL of the service it is the second argument of `fetch`. */
+export interface PostedBatch {
+  method: 'POST'
+  /** `Content-Type`, `Accept`, and in mode `continue` the preference `continue-on-error` (OData Protocol 4.01, section 8.2.8.3). */
+  headers: Record<string, string>
+  body: Bytes
+}
+
+/** Posts a batch, and returns what that is answered. The body is the response document: bytes, a text or an object. */
+export type Post = (batch: PostedBatch) => Answer | Fetched | Promise<Answer | Fetched>
+
+/**
+ * A batch of requests (OData JSON Format 4.01, section 19), made by calls.
+ *
+ * Each call that adds a request returns a {@link Reference}. A request that refers to an earlier one, by its URL as
+ * `${order}/Lines` or by `If-Match`, depends on it without further ado; `after` is for other dependencies. What depends on a
+ * request of a group depends on the group, too.
+ */
+export class Batch {
+  /** Returns the batch of a document, to be sent or to be extended. Throws a `Fault` if it is refused. */
+  static read(document: Document): Batch
+
+  /** How many requests it has. */
+  readonly size: number
+
+  get(url: string | Reference, options?: RequestOptions): Reference
+  post(url: string | Reference, body?: unknown, options?: RequestOptions): Reference
+  put(url: string | Reference, body?: unknown, options?: RequestOptions): Reference
+  patch(url: string | Reference, body?: unknown, options?: RequestOptions): Reference
+  delete(url: string | Reference, options?: RequestOptions): Reference
+
+  /**
+   * Adds a request, and returns the reference to it.
+   *
+   * Throws a `RangeError` if the id is one that no URL can refer to, as `metadata`, or if what is in `after` is of another
+   * batch; and a `TypeError` for a body that has no JSON, and for an option with another name.
+   *
+   * @param url Its URL, relative to the service or absolute, or with a reference.
+   * @param body Its body: bytes as they are on the wire, of JSON with all digits of its numbers; or a value that
+   *   `JSON.stringify` writes, a string too. null, undefined and no bytes are no body. Without `Content-Type` it is
+   *   `application/json`.
+   */
+  request(method: string, url: string | Reference, body?: unknown, options?: RequestOptions): Reference
+
+  /**
+   * Makes the requests that a function adds an atomicity group: all of them are performed, or none. Calls the function once,
+   * and returns the group. If the function throws, none of its requests is added. Throws a `TypeError` for an async function,
+   * and an `Error` in the function of another group.
+   *
+   * @param options `id` is the name of the group; without it that is a free one.
+   */
+  group(add: (group: Group) => void, options?: { id?: string }): Group
+
+  /** Returns the document of the batch, as JSON. */
+  document(): Bytes
+
+  /** Returns its counts. Throws a `Fault` if it is refused; the place says which request is wrong. */
+  check(): Counts
+
+  /**
+   * Sends the batch, if need be in parts, and is fulfilled with what each request was answered.
+   *
+   * Units are sent in the order of the batch: groups, and requests without one. A part has as many as the limit allows. A unit is
+   * sent if all that it depends on is in the same part or has succeeded; else its requests are 424. In a later part `$a` is
+   * replaced by the URL of what `a` has created or returned (`Location`, `OData-EntityId`, `@id`), or its own unless it is a POST,
+   * and `If-Match: $a` by its ETag. If there is none, the request is 424.
+   *
+   * If a part is answered as a whole, by a status that is not 2xx, each of its requests has that answer. If `post` throws, or if
+   * what it returns is not the response to the part, each has 504 for a timeout, else 502, or the answer of a `Refusal`. Then
+   * nothing more is sent, and the other requests are 424.
+   *
+   * Rejects, and nothing was sent, with a `Fault` if the batch is refused, with a `RangeError` if a group has more requests than
+   * the limit or an option has none of its values, and with a `TypeError` for an option with another name.
+   */
+  send(post: Post, options?: SendOptions): Promise<Results>
+}
+
+/** What one request was answered. */
+export class Result {
+  private constructor()
+  readonly id: string
+  /** 424 is also the status of a request that was skipped or undone, since another one failed. */
+  readonly status: number
+  /** By their names in lower case. */
+  readonly headers: Record<string, string>
+  /** The bytes of the body as on the wire: of JSON with all digits of its numbers, of another type decoded; empty without one. */
+  readonly body: Bytes
+  /** Whether the status is one from 200 to 299. */
+  readonly ok: boolean
+  /** Returns the value of the body. Throws a `SyntaxError` if it is not JSON. */
+  json(): any
+  /** Returns the result itself if it is a success; else throws {@link RequestFailed}. */
+  raiseForStatus(): this
+}
+
+/**
+ * A request of a batch did not succeed. Its message has the id, the status, and what the error object of OData says (OData JSON
+ * Format 4.01, section 21.1), as `order 409 Sold: no copy is left`.
+ */
+export class RequestFailed extends Error {
+  private constructor()
+  readonly result: Result
+}
+
+/** What the requests of a batch were answered: a {@link Result} for each, in the order of the batch. */
+export class Results implements Iterable<Result> {
+  private constructor()
+  /** The result of a request, by what the batch has returned for it or by its id; undefined if the batch has none. */
+  get(request: Reference): Result
+  get(id: string): Result | undefined
+  /** How many they are. */
+  readonly size: number
+  /** What `post` threw, or why what it returned is not the response to a part; undefined if each part was answered. */
+  readonly error: unknown
+  [Symbol.iterator](): Iterator<Result>
+}

@@ -1,0 +1,180 @@
+'use strict'
+
+// A batch on its way in parts: which part is next, and what its requests are answered. It does not send.
+
+const { match, numbersOf, plan } = require('./commands.js')
+const { arrayOf, bytesOf, jsonOf } = require('./documents.js')
+const { batchText, elementText, isPlain, unitsOf } = require('./elements.js')
+const { Refusal, broken, finalStatus, isSuccess, refusalOf } = require('./messages.js')
+const { References } = require('./references.js')
+const { requests } = require('./requests.js')
+const { answersOf } = require('./responses.js')
+const { Service } = require('./urls.js')
+
+// How many requests a batch may have.
+const MOST = 10000
+// What a request is answered that was not sent, or left out by a service that stops.
+const SKIPPED = { status: 424, headers: {}, body: Buffer.alloc(0) }
+const MARK = '\ufeff'
+
+/** The bytes of a body, as they are on the wire. */
+function wireOf(body) {
+  if (body === undefined || body === null) return Buffer.alloc(0)
+  if (typeof body === 'string') return Buffer.from(body)
+  const bytes = arrayOf(body)
+  return bytes === undefined ? jsonOf(body) : Buffer.from(bytes)
+}
+
+/** The bytes of a document, without the mark that a text may begin with. */
+function unmarked(document) {
+  const bytes = Buffer.from(bytesOf(document))
+  const { length } = Buffer.from(MARK)
+  return bytes.toString('utf8', 0, length) === MARK ? bytes.subarray(length) : bytes
+}
+
+/** Throws unless a part may have as many requests as a limit, and each of some units has a place in it. */
+function requireLimit(limit, units) {
+  if (!Number.isInteger(limit) || limit < 1 || limit > MOST) {
+    throw new RangeError(`limit must be a whole number from 1 to ${MOST}, not ${String(limit)}`)
+  }
+  const { group, ids } = units.find((unit) => unit.ids.length > limit) ?? {}
+  if (ids) throw new RangeError(`the group ${group} has ${ids.length} requests, and a batch may have ${limit}`)
+}
+
+/**
+ * Whether a service stops at what it has answered a unit: at a status from 400 to 599. 424 is one only if it does not come from
+ * another request, which has failed in the unit or has had the unit skipped.
+ */
+function isError(answers, isSkipped) {
+  const failed = answers.filter((it) => !isSuccess(it))
+  const others = failed.filter(({ status }) => status !== SKIPPED.status)
+  return others.some(({ status }) => status >= 400) || (failed.length > 0 && others.length === 0 && !isSkipped)
+}
+
+class Parts {
+  /** What the requests were answered, by their ids, in the order of the batch. */
+  answers
+  /** The exception by which a part was not answered, or undefined. */
+  error
+  #limit
+  #mode
+  #needs
+  #units
+  #references
+  // The number of the next unit, and of those that have succeeded or are in the part that is out.
+  #at = 0
+  #sound = new Set()
+  // The part that is out, and the numbers of its units.
+  #part
+  #out = []
+  #isStopped = false
+
+  /** Throws a Fault for a batch that is refused, and a RangeError for a limit that cannot be kept. */
+  constructor(document, { limit = MOST, mode = 'continue' }) {
+    numbersOf({ mode })
+    const planned = plan(document)
+    this.#units = unitsOf(planned)
+    requireLimit(limit, this.#units)
+    this.#limit = limit
+    this.#mode = mode
+    this.#needs = new Map(planned.map(({ id, needs }) => [id, needs]))
+    this.#references = new References(requests(document), new Service())
+    this.answers = new Map(planned.map(({ id }) => [id, SKIPPED]))
+  }
+
+  /** The next part, or undefined if nothing more is to be sent. */
+  next() {
+    const [elements, names] = [[], new Set()]
+    this.#out = []
+    for (; this.#at < this.#units.length && !this.#isStopped; this.#at++) {
+      const unit = this.#units[this.#at]
+      if (![...unit.needs].every((number) => this.#sound.has(number))) continue
+      if (elements.length + unit.ids.length > this.#limit) break
+      const added = this.#elementsOf(unit, names)
+      if (added instanceof Refusal) {
+        if (elements.length > 0) break // what comes before it is sent first
+        this.#settle(this.#at, this.#same(unit.ids, added.answer))
+        names.clear()
+      } else {
+        elements.push(...added)
+        this.#out.push(this.#at)
+        this.#sound.add(this.#at)
+      }
+    }
+    this.#part = batchText(elements)
+    return elements.length > 0 ? this.#part : undefined
+  }
+
+  /**
+   * The texts of the requests of a unit, or the refusal of a reference that stands for nothing; adds its names to those of the
+   * part. What the part does not have has succeeded, so that it is not depended on, and references to it are replaced.
+   */
+  #elementsOf({ group, ids }, names) {
+    for (const name of [...ids, group ?? ids[0]]) names.add(name)
+    try {
+      return ids.map((id) => elementText(this.#memberOf(id, names), this.#needs.get(id).filter((it) => names.has(it))))
+    } catch (error) {
+      if (error instanceof Refusal) return error
+      throw error
+    }
+  }
+
+  #memberOf(id, names) {
+    const { reference } = this.#references.of(id)
+    const member = this.#references.member(id, names)
+    if (reference === null || names.has(reference) || isPlain(member.url)) return member
+    const message = `${reference} was answered with a URL that cannot be used`
+    throw new Refusal(424, 'NoLocation', message, { target: reference })
+  }
+
+  /** Takes what the part that is out was answered. */
+  take({ status, headers, body }) {
+    if (!isSuccess({ status })) {
+      this.#end({ status: finalStatus(status), headers, body })
+      return
+    }
+    let found
+    try {
+      const text = unmarked(body)
+      match(this.#part, text, { mode: this.#mode })
+      found = answersOf(text)
+    } catch (error) {
+      this.fail(error)
+      return
+    }
+    for (const number of this.#out) this.#settle(number, found)
+  }
+
+  /** Takes the exception by which the part that is out was not answered. */
+  fail(error) {
+    this.error = error
+    this.#end(refusalOf(error, broken).answer)
+  }
+
+  /** Gives each request of the part that is out the same answer. Nothing more is sent. */
+  #end(answer) {
+    for (const number of this.#out) this.#settle(number, this.#same(this.#units[number].ids, answer))
+    this.#isStopped = true
+  }
+
+  /** The same answer to each of some requests. */
+  #same(ids, { status, headers, body }) {
+    const answer = { status, headers, body: wireOf(body) }
+    return new Map(ids.map((id) => [id, answer]))
+  }
+
+  /** Notes what the requests of a unit were answered; one without an answer was skipped. */
+  #settle(number, answers) {
+    const { ids, needs } = this.#units[number]
+    for (const id of ids) {
+      const answer = answers.get(id) ?? SKIPPED
+      this.answers.set(id, answer)
+      if (isSuccess(answer)) this.#references.keep(id, answer.headers, answer.body)
+      else this.#sound.delete(number)
+    }
+    const isSkipped = [...needs].some((it) => !this.#sound.has(it))
+    this.#isStopped ||= this.#mode === 'stop' && isError(ids.map((id) => this.answers.get(id)), isSkipped)
+  }
+}
+
+module.exports = { Parts }
