@@ -213,7 +213,7 @@ def test_another_batch_under_the_same_id(pair, change):
 
 def test_a_second_client_at_once(upstream, front, tmp_path):
     service = upstream()
-    words = ["--upstream", service.url, "--journal", str(tmp_path), "--timeout", "0.7"]
+    words = ["--upstream", service.url, "--journal", str(tmp_path), "--timeout", "2"]
     fronts = [front(*words), front(*words)]
     batch = json.dumps({"requests": [{"id": "a", "method": "post", "url": "hang"}]})
     headers = {**CONTINUE, "Repeatability-Request-ID": "x"}
@@ -257,7 +257,7 @@ def test_a_start_is_synced_before_it_is_sent(pair, monkeypatch):
 
 
 @pytest.mark.parametrize("is_torn", [False, True])
-@pytest.mark.parametrize("at", range(2, 9))
+@pytest.mark.parametrize("at", [2, 4, 6, 8])
 def test_a_disk_that_is_full(pair, monkeypatch, at, is_torn):
     """It fails at one line; nothing comes after that, and sent again the batch goes on."""
     service, ask = pair
