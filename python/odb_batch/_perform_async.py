@@ -93,7 +93,8 @@ async def perform_async(
             request, however many others wait for that lock.
         groups: Sends a group as one, and returns what each of its requests is answered, in order. A
             :class:`PreparedGroup` has the batch to send, and reads its response.
-        journal: Where the events of the batch are kept. It is synced before each request that is sent.
+        journal: Where the events of the batch are kept. It is synced before each request that is sent. An exception of it
+            ends the batch and is raised.
 
     Raises:
         Fault: The batch is refused; nothing was sent.

@@ -125,7 +125,7 @@ def test_services_that_break_within_a_group(upstream, front, monkeypatch, kind, 
 
     service = upstream()
     monkeypatch.setitem(ODD, "$batch", ODD[kind])
-    it = front("--upstream", service.url, "--groups", "forward", "--timeout", "0.5", "--max-size", "200000")
+    it = front("--upstream", service.url, "--groups", "forward", "--timeout", "2", "--max-size", "200000")
     assert it.statuses(*group({"url": "a"}, {"url": "b"}), {"url": "c", "dependsOn": ["g"]}, {"url": "d"}) == [
         *statuses,
         424,

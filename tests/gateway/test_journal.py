@@ -213,7 +213,7 @@ def test_another_batch_under_the_same_id(pair, change):
 
 def test_a_second_client_at_once(upstream, front, tmp_path):
     service = upstream()
-    words = ["--upstream", service.url, "--journal", str(tmp_path), "--timeout", "0.7"]
+    words = ["--upstream", service.url, "--journal", str(tmp_path), "--timeout", "2"]
     fronts = [front(*words), front(*words)]
     batch = json.dumps({"requests": [{"id": "a", "method": "post", "url": "hang"}]})
     headers = {**CONTINUE, "Repeatability-Request-ID": "x"}
@@ -256,20 +256,26 @@ def test_a_start_is_synced_before_it_is_sent(pair, monkeypatch):
     assert max(count for count, _ in seen) == len(service.seen)
 
 
-def test_a_disk_that_is_full(pair, monkeypatch):
+@pytest.mark.parametrize("is_torn", [False, True])
+@pytest.mark.parametrize("at", [2, 4, 6, 8])
+def test_a_disk_that_is_full(pair, monkeypatch, at, is_torn):
+    """It fails at one line; nothing comes after that, and sent again the batch goes on."""
     service, ask = pair
     write, lines = os.write, []
 
     def failing(file, line):
         lines.extend([line] if line.startswith(b"{") else [])
-        if len(lines) == 7:
-            raise OSError(28, "No space left on device")
-        return write(file, line)
+        if len(lines) != at:
+            return write(file, line)
+        if is_torn:
+            return write(file, line[:9])
+        raise OSError(28, "No space left on device")
 
     with monkeypatch.context() as patched:
         patched.setattr(_journal.os, "write", failing)
         status, _, text = ask("x")
     assert (status, json.loads(text)["error"]["code"]) == (500, "BadJournal")
+    assert len(lines) == at
     status, _, text = ask("x")
     assert status == 200
     posts = Counter(it.path for it in service.seen if it.method != "GET")

@@ -8,6 +8,7 @@ import signal
 import socket
 import subprocess
 import sys
+import threading
 import time
 from collections import Counter
 from concurrent.futures import ThreadPoolExecutor
@@ -46,14 +47,16 @@ def test_help_names_each_option_once():
     assert len(options) == len(set(options)) == 17
 
 
-def slow(seen):
+def waiting(event):
+    """Answers in the usual way, but what is slow only after an event."""
     from support.gateways import usual
 
-    async def answer():
-        await asyncio.sleep(0.6)
+    async def answer(seen):
+        while "slow" in seen.path and not event.is_set():
+            await asyncio.sleep(0.01)
         return usual(seen)
 
-    return answer() if "slow" in seen.path else usual(seen)
+    return answer
 
 
 def until(condition):
@@ -65,7 +68,8 @@ def until(condition):
 
 def test_sigterm(upstream, running):
     """What runs is answered, nothing more starts, and a new batch is refused."""
-    service = upstream(slow)
+    event = threading.Event()
+    service = upstream(waiting(event))
     it = running("--upstream", service.url, "--width", "1", "--log", "none")
     with ThreadPoolExecutor(1) as clients:
         asked = clients.submit(
@@ -77,6 +81,7 @@ def test_sigterm(upstream, running):
         assert it.ask("GET", "/health")[0] == 200
         status, _, text = it.ask("POST", "/odata/$batch", '{"requests": []}', JSON)
         assert (status, json.loads(text)["error"]["code"]) == (503, "Stopping")
+        event.set()
         assert asked.result(SECONDS) == [201, 424, 424]
     assert (it.stop(0), service.paths) == ((0, ""), ["/odata/slow"])
 
@@ -88,9 +93,10 @@ def test_sigterm_breaks_off_what_takes_too_long(upstream, running, grace, signal
     with ThreadPoolExecutor(1) as clients:
         asked = clients.submit(it.batch, {"url": "hang"}, {"url": "waits"}, {"url": "after", "dependsOn": ["r0"]})
         until(lambda: service.seen)
-        for _ in range(signals):
+        it.process.send_signal(signal.SIGTERM)
+        if signals == 2:
+            until(lambda: it.ask("GET", "/health/ready")[0] == 503)
             it.process.send_signal(signal.SIGTERM)
-            time.sleep(0.1)
         found = asked.result(SECONDS)
     codes = [(it["status"], it.get("body", {}).get("error", {}).get("code")) for it in found.values()]
     assert codes == [(504, "Stopped"), (503, "Stopping"), (424, None)]

@@ -122,7 +122,7 @@ def test_services_that_break(upstream, front):
     with socket.socket() as closed:
         closed.bind(("127.0.0.1", 0))
         gone = f"/odata/gone=http://127.0.0.1:{closed.getsockname()[1]}/gone"
-        it = front("--upstream", service.url, "--route", gone, "--timeout", "0.5", "--max-size", "200000")
+        it = front("--upstream", service.url, "--route", gone, "--timeout", "2", "--max-size", "200000")
         odd = [*BROKEN, "gone", "html", "no-json", "elsewhere", "missing", "cookie"]
         asked = [{"url": url} for url in odd]
         more = {"method": "post", "url": "big"}, {"url": "x", "dependsOn": ["r0"]}, {"url": "x"}
@@ -187,7 +187,7 @@ def test_a_hundred_batches_at_once(upstream, front):
 
 def test_more_batches_than_may_be(upstream, front):
     service = upstream()
-    it = front("--upstream", service.url, "--batches", "2", "--timeout", "0.5")
+    it = front("--upstream", service.url, "--batches", "2", "--timeout", "2")
     one = json.dumps({"requests": [{"id": "a", "method": "get", "url": "hang"}]})
     with ThreadPoolExecutor(4) as clients:
         found = list(clients.map(lambda _: it.ask("POST", "/odata/$batch", one, CONTINUE), range(4)))

@@ -42,14 +42,17 @@ class FileJournal:
     def __init__(self, path: str, file: int, events: List[JournalEvent], folder: int) -> None:
         self._path, self._file, self._folder, self.events = path, file, folder, events
         self._written = self._synced = 0
-        self._is_new = not events
+        self._is_new, self._is_broken = not events, False
         self._turn = asyncio.Lock()
 
     def write(self, event: JournalEvent) -> None:
         line = _line(event)
         self._written += 1
-        if os.write(self._file, line) < len(line):
-            raise OSError("the journal is full")
+        # After an event that is lost there may be no other one.
+        was_broken, self._is_broken = self._is_broken, True
+        if was_broken or os.write(self._file, line) < len(line):
+            raise OSError("an event could not be written")
+        self._is_broken = False
 
     async def sync(self) -> None:
         wanted = self._written

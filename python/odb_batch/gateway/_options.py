@@ -123,13 +123,8 @@ def parser() -> argparse.ArgumentParser:
         help="where requests go whose path begins so; of several the longest prefix counts")  # fmt: skip
     add("--groups", choices=("refuse", "forward"), default="refuse",
         help="a batch with atomicity groups is answered 501, or each group is sent as one; refuse")  # fmt: skip
-    add(
-        "--listen",
-        metavar="HOST:PORT",
-        type=_address,
-        default=usual.listen,
-        help="127.0.0.1:8090; port 0 is any free one",
-    )
+    add("--listen", metavar="HOST:PORT", type=_address, default=usual.listen,
+        help="127.0.0.1:8090; port 0 is any free one")  # fmt: skip
     add("--width", metavar="N", type=_width, default=usual.width, help="requests or groups of a batch at once; 8")
     add("--timeout", metavar="S", type=_seconds, default=usual.timeout, help="seconds for an answer, else 504; 30")
     add("--batches", metavar="N", type=_number, default=usual.batches, help="batches at once, else 503; 128")
