@@ -1,5 +1,11 @@
 -- What is given to the caller is what an engine has found.
-use Rattle.std.proofs.Common.{ℕ, List, IfOk, Result, Ok, Err, String, sym, subst}
+use Rattle.std.proofs.Common.{◌≡◌, ℕ, List, IfOk, Result, Ok, Err, Some, String, string_bytes, sym, subst}
+use Rattle.serde_json.specs.Read.{read}
+use Rattle.odb_sched.specs.run.Answers.{answer}
+use Rattle.odb_reply.specs.BodyTexts.{value_with}
+use Rattle.odb_reply.specs.Readable.{HasShallowValues}
+use Rattle.odb_engine.specs.Live.{Live, Shows}
+use Rattle.odb_ffi.specs.Live.{Responds}
 use Rattle.std.specs.declared.alloc.AllocError.{AllocError}
 use Rattle.std.specs.declared.alloc.Global.{Global}
 use Rattle.odb_doc.specs.Refusals.{Printed, printed}
@@ -34,3 +40,11 @@ pub answer-reported : (Is : Printed → Type 0) (halt : Halt) (answer : Result A
     → IfOk answer (λ a. Reports Is a.ended a.text.items)
 answer-reported Is halt (Err error) is so = tt
 answer-reported Is halt (Ok a) is so = reported Is halt a.ended a.text.items is so
+
+-- what is shown of a live run is its response
+pub responds : (live : Live) (found : Result (String Global) Halt) → Found (Shows live) found
+    → IfOk found (λ text. HasShallowValues live.texts live.run → read (string_bytes text) ≡ Some (value_with live.labels live.texts (answer live.run))) → Found (Responds live) found
+responds live (Ok text) so reads = record { shows = so; reads_back = λ done. reads }
+responds live (Err (halts.Refused refusal)) so reads = record { shows = so; reads_back = λ done. absurd (cc done) }
+responds live (Err halts.Read) so reads = tt
+responds live (Err halts.OutOfMemory) so reads = tt

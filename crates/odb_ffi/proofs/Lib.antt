@@ -4,3 +4,4 @@ mod OutcomeLemmas
 mod PositionLemmas
 mod RequestLemmas
 mod ReturnLemmas
+mod SessionLemmas

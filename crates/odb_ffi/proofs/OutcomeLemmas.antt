@@ -1,7 +1,11 @@
 -- Why a report has no outcome.
-use Rattle.std.proofs.Common.{◌≡◌, Option, None, Result, Ok, Err, ap, inl, inr}
+use Rattle.std.proofs.Common.{◌≡◌, Option, None, Result, Ok, Err, [], String, IfOk, ap, inl, inr, refl}
+use Rattle.std.proofs.lemmas.List.Sorted.{IsPermutation-refl}
+use Rattle.std.specs.BTreeMap.{BTreeMap}
+use Rattle.std.specs.declared.alloc.Global.{Global}
+use Rattle.std.specs.List.Sorted.{IsStrictlySortedBy}
 use Rattle.serde_json.specs.Data.{Data}
-use Rattle.odb_doc.specs.Headers.{IsHeaders}
+use Rattle.odb_doc.specs.Headers.{HoldsHeaders, IsHeaders, headers_in}
 use Rattle.odb_doc.specs.recorded.Parts.{AreNoParts}
 
 abbrev error-or : {T E : Type 0} → E → Result T E → E
@@ -15,3 +19,13 @@ same-error a b same = ap (error-or a) same
 pub no-headers : (headers : Option Data) → AreNoParts headers None → ¬ IsHeaders headers
 no-headers headers (inl none) = none
 no-headers headers (inr none) = absurd (none tt)
+
+-- an empty map has no headers
+pub none-held : (m : BTreeMap (String Global) (String Global)) → m.entries ≡ [] → HoldsHeaders None (headers_in m)
+unfolding IsStrictlySortedBy
+none-held m none = rw none (record { listed = []; are = refl; same = IsPermutation-refl []; ordered = tt })
+
+-- what follows from what holds of a result
+pub also-ok : {T E : Type 0} (P Q : T → Type 0) (result : Result T E) → ((x : T) → P x → Q x) → IfOk result P → IfOk result Q
+also-ok P Q (Ok x) more is = more x is
+also-ok P Q (Err error) more is = tt

@@ -6,5 +6,6 @@ pub mod Live
 pub mod Units
 pub mod Requests
 pub mod Handles
+pub mod Sessions
 -- What a slot owns.
 pub mod Owned

@@ -1,6 +1,7 @@
 -- What a call on a live run returns, and how the run changes.
 use Rattle.std.specs.Prelude.{◌≡◌, ◌≢◌, ◌<◌, ◌≤◌, ◌+◌, ℕ, List, [], Option, Some, None, min, true, false}
 use Rattle.serde_json.specs.Data.{Data}
+use Rattle.serde_json.specs.Read.{read}
 use Rattle.odb_doc.specs.declared.fault.DocFault.{DocFault}
 use Rattle.odb_doc.specs.declared.fault.DocFault.TheVariants as faults
 use Rattle.odb_doc.specs.declared.recorded.outcome.Outcome.{Outcome}
@@ -11,13 +12,16 @@ use Rattle.odb_sched.specs.declared.policy.Policy.{Policy}
 use Rattle.odb_sched.specs.declared.refusal.StartRefusal.{StartRefusal}
 use Rattle.odb_sched.specs.declared.refusal.ReportRefusal.{ReportRefusal}
 use Rattle.odb_sched.specs.run.Steps.{IsStartCause, IsReportCause, start_number, report_number, is_finished, may_start, may_report}
-use Rattle.odb_sched.specs.run.Answers.{undone}
+use Rattle.odb_sched.specs.run.Answers.{answer, undone}
 use Rattle.odb_sched.specs.run.State.{State, size, started, reported}
-use Rattle.odb_reply.specs.BodyTexts.{IsBody, IsNoBody}
+use Rattle.odb_reply.specs.BodyTexts.{IsBody, IsNoBody, value_with}
+use Rattle.odb_reply.specs.Readable.{HasShallowValues}
 use Rattle.odb_engine.specs.Cascade as cascade
+use Rattle.odb_engine.specs.declared.ending.Ended.{Ended}
+use Rattle.odb_engine.specs.declared.ending.Ended.TheVariants.{Done}
 use Rattle.odb_engine.specs.declared.live.LiveRun.{LiveRun}
 use Rattle.odb_engine.specs.Labels.{position_of}
-use Rattle.odb_engine.specs.Live.{Opens, IsLeastOfOpening, with_run, with_text}
+use Rattle.odb_engine.specs.Live.{Opens, IsLeastOfOpening, Shows, with_run, with_text}
 use Rattle.odb_ffi.specs.Positions.{Are, GivesPositions}
 use Rattle.odb_ffi.specs.Returns.{IsOutOfMemory, Returns}
 
@@ -39,6 +43,12 @@ pub data GivesUndone (run : State) (status count : ℕ) (old new : List ℕ) : T
 pub data GivesPosition (live : LiveRun) (id : List ℕ) (status old new : ℕ) : Type 0 where
   Found : position_of live.labels id ≡ Some new → status ≡ 0 → GivesPosition live id status old new
   NoRequest : position_of live.labels id ≡ None → status ≡ 2 → new ≡ old → GivesPosition live id status old new
+
+-- What the response of a live run is: what is shown of it. Of a finished run it is read as the value of the response, if no body
+-- that is a value nests more than 124 deep.
+pub record Responds (live : LiveRun) (ended : Ended) (text : List ℕ) : Type 0 where
+  pub shows : Shows live ended text
+  pub reads_back : ended ≡ Done → HasShallowValues live.texts live.run → read text ≡ Some (value_with live.labels live.texts (answer live.run))
 
 -- What the start of a request returns: 0 if it may come, and the run has gone on; the first cause against it, or that there
 -- is no such request, and nothing has changed.
@@ -75,15 +85,16 @@ pub data IsReportedBody (bytes : List ℕ) (text : Option (List ℕ)) : Type 0 w
   Absent : bytes ≡ [] → text ≡ None → IsReportedBody bytes text
   Present : IsBody bytes text → IsReportedBody bytes text
 
--- What the report of a request with an outcome and with a body in these bytes returns. Nothing has changed but with 0.
+-- What the report of a request with an outcome and with a body in these bytes returns. Nothing has changed but with 0. Without a
+-- body no memory is needed.
 pub data TakesBody (old new : LiveRun) (i : ℕ) (outcome : Outcome) (body : List ℕ) (returned : ℕ) : Type 0 where
   Taken : (text : Option (List ℕ)) → IsReportedBody body text → Takes old new i outcome text returned → TakesBody old new i outcome body returned
   Refused : IsNoBody body → returned ≡ 1 → new ≡ old → TakesBody old new i outcome body returned
-  OutOfMemory : returned ≡ 4 → new ≡ old → TakesBody old new i outcome body returned
+  OutOfMemory : body ≢ [] → returned ≡ 4 → new ≡ old → TakesBody old new i outcome body returned
 
--- What the report of a request returns. Nothing has changed but with 0.
+-- What the report of a request returns. Nothing has changed but with 0. A report of a status alone needs no memory.
 pub data Reports (old new : LiveRun) (i status : ℕ) (headers body : List ℕ) (returned : ℕ) : Type 0 where
   Taken : (outcome : Outcome) → i < size old.run → IsReported status headers outcome → TakesBody old new i outcome body returned → Reports old new i status headers body returned
   Refused : HasNoHeaders headers → returned ≡ 1 → new ≡ old → Reports old new i status headers body returned
   NoRequest : size old.run ≤ i → returned ≡ 2 → new ≡ old → Reports old new i status headers body returned
-  OutOfMemory : returned ≡ 4 → new ≡ old → Reports old new i status headers body returned
+  OutOfMemory : headers ≢ [] → returned ≡ 4 → new ≡ old → Reports old new i status headers body returned

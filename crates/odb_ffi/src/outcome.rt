@@ -1,19 +1,19 @@
 //! An outcome of headers as JSON, and its body as JSON text.
 
-ghost use Rattle.std.specs.Prelude.{◌≡◌, ◌≢◌, None, Err, option_map, min, IfOk, IfErr};
+ghost use Rattle.std.specs.Prelude.{◌≡◌, ◌≢◌, [], None, Some, Err, min, IfOk};
 ghost use Rattle.serde_json.specs.View.{view};
 ghost use Rattle.odb_doc.specs.declared.fault.DocFault.TheVariants as faults;
-ghost use Rattle.odb_doc.specs.Documents.{RefusesDocument};
 ghost use Rattle.odb_doc.specs.Headers.{IsHeaders};
 ghost use Rattle.odb_doc.specs.recorded.Parts.{HasParts};
 ghost use Rattle.odb_reply.specs.BodyTexts.{IsNoBody};
-ghost use Rattle.odb_ffi.specs.Live.{HasNoHeaders, IsPart, IsReported, IsReportedBody};
+ghost use Rattle.odb_ffi.specs.Live.{HasNoHeaders, IsReported, IsReportedBody};
 ghost use Rattle.odb_ffi.specs.declared.outcome.NoOutcome.TheVariants as none;
 
 use odb_doc::{DocFault, Outcome, parse};
 use odb_reply::{BodyFault, JsonText};
 use serde_json::Value;
 use std::alloc::Global;
+use std::collections::BTreeMap;
 
 /// Why a report has no outcome.
 #[derive(Clone, Copy)]
@@ -35,20 +35,6 @@ fn status_of(status: u32) -> u16
     }
 }
 
-/// Returns the value in these bytes, or `None` if there are none.
-fn part_of(alloc: Global, bytes: &[u8]) -> Result<Option<Value>, DocFault>
-    ensures part { IfOk result (λ value. IsPart bytes.now (option_map view value)) }
-    ensures fault { IfErr result (λ fault. RefusesDocument fault bytes.now) }
-{
-    if bytes.is_empty() {
-        return Ok(None);
-    }
-    match parse(alloc, bytes) {
-        Ok(value) => Ok(Some(value)),
-        Err(fault) => Err(fault),
-    }
-}
-
 /// Returns why there is no outcome by the fault of its headers.
 fn without(fault: DocFault) -> NoOutcome
     ensures { result ≡ none.Refused → fault ≢ faults.OutOfMemory }
@@ -59,12 +45,23 @@ fn without(fault: DocFault) -> NoOutcome
     }
 }
 
-/// Returns the outcome with this status, these headers and no body.
-fn outcome_with(alloc: Global, status: u16, headers: Option<Value>) -> Result<Outcome, NoOutcome>
-    ensures some { IfOk result (HasParts status (option_map view headers) None) }
-    ensures refused { result ≡ Err none.Refused → ¬ IsHeaders (option_map view headers) }
+/// Returns the outcome with this status alone. It allocates nothing.
+fn bare(alloc: Global, status: u16) -> Outcome
+    ensures { HasParts status None None result }
 {
-    match Outcome::of_parts(alloc, status, headers, None) {
+    Outcome {
+        status,
+        headers: BTreeMap::new(alloc),
+        body: None,
+    }
+}
+
+/// Returns the outcome with this status, these headers and no body.
+fn outcome_with(alloc: Global, status: u16, headers: Value) -> Result<Outcome, NoOutcome>
+    ensures some { IfOk result (HasParts status (Some (view headers)) None) }
+    ensures refused { result ≡ Err none.Refused → ¬ IsHeaders (Some (view headers)) }
+{
+    match Outcome::of_parts(alloc, status, Some(headers), None) {
         Ok(Some(outcome)) => Ok(outcome),
         Ok(None) => Err(NoOutcome::Refused),
         Err(_) => Err(NoOutcome::OutOfMemory),
@@ -76,9 +73,13 @@ fn outcome_with(alloc: Global, status: u16, headers: Option<Value>) -> Result<Ou
 pub fn outcome_of(alloc: Global, status: u32, headers: &[u8]) -> Result<Outcome, NoOutcome>
     ensures some { IfOk result (IsReported status headers.now) }
     ensures refused { result ≡ Err none.Refused → HasNoHeaders headers.now }
+    ensures memory { result ≡ Err none.OutOfMemory → headers.now ≢ [] }
 {
-    match part_of(alloc, headers) {
-        Ok(headers) => outcome_with(alloc, status_of(status), headers),
+    if headers.is_empty() {
+        return Ok(bare(alloc, status_of(status)));
+    }
+    match parse(alloc, headers) {
+        Ok(value) => outcome_with(alloc, status_of(status), value),
         Err(fault) => Err(without(fault)),
     }
 }
@@ -87,6 +88,7 @@ pub fn outcome_of(alloc: Global, status: u32, headers: &[u8]) -> Result<Outcome,
 pub fn body_of(alloc: Global, bytes: &[u8]) -> Result<Option<JsonText>, NoOutcome>
     ensures some { IfOk result (IsReportedBody bytes.now) }
     ensures refused { result ≡ Err none.Refused → IsNoBody bytes.now }
+    ensures memory { result ≡ Err none.OutOfMemory → bytes.now ≢ [] }
 {
     if bytes.is_empty() {
         return Ok(None);

@@ -2,12 +2,12 @@
 //!
 //! A handle by reference is the address of a `void *` for C, and by value it is the pointer.
 
-ghost use Rattle.std.specs.Prelude.{◌≡◌, ◌≢◌, IfOk, IfErr};
+ghost use Rattle.std.specs.Prelude.{◌≡◌, ◌≢◌, ◌<◌, ◌≤◌, ◌↔◌, ℕ, false, IfOk, IfErr};
 ghost use Rattle.odb_dense.specs.Lists.{ListsOnce};
 ghost use Rattle.odb_engine.specs.Cascade.{Prints};
 ghost use Rattle.odb_engine.specs.Halts.{Halted};
 ghost use Rattle.odb_engine.specs.Labels.{id_lines};
-ghost use Rattle.odb_engine.specs.Live.{IsLeastOfOpening, Opens, Shows};
+ghost use Rattle.odb_engine.specs.Live.{IsLeastOfOpening, Opens};
 ghost use Rattle.odb_sched.specs.run.State as state;
 ghost use Rattle.odb_sched.specs.run.Steps as steps;
 ghost use Rattle.odb_ffi.specs.Live as calls;
@@ -98,12 +98,14 @@ pub extern "C" fn odb_run_ready(run: &mut Handle, positions: &mut [u32], count: 
     give_positions(run.live().run().ready(), positions, count)
 }
 
-/// Copies the positions of the requests that run now to a buffer, as [`odb_run_ready`] does.
+/// Copies the positions of the requests that run now to a buffer, as [`odb_run_ready`] does. They are no more
+/// than the width allows, where a unit that was sent as one counts as one.
 #[unsafe(no_mangle)]
 pub extern "C" fn odb_run_running(run: &mut Handle, positions: &mut [u32], count: &mut usize) -> u32
     ensures positions { GivesPositions (ListsOnce (state.size run.old.value.run)
         (λ i. state.is_running (state.phase_at run.old.value.run i)))
         result count.new positions.old positions.new }
+    ensures width { count.new ≤ steps.places run.old.value.run }
     ensures same { run.new.value ≡ run.old.value }
 {
     give_positions(run.live().run().running(), positions, count)
@@ -171,9 +173,9 @@ pub extern "C" fn odb_run_start(run: &mut Handle, position: u32) -> u32
 ///
 /// Returns 0; or, with the run as it was, 21 for P1 or 22 for P2, the first that applies; 2 if there is
 /// no such position; 1 if the headers are not an object of strings whose names differ in lower case, if
-/// the body is not JSON, or if it nests more than 124 deep; and 4 if an allocation fails. All reports of a
-/// run together take O(requests + dependencies), beside O(n) for n bytes of bodies and O(n log n) for n
-/// bytes of headers.
+/// the body is not JSON, or if it nests more than 124 deep; and 4 if an allocation fails: without headers
+/// and body nothing is allocated. All reports of a run together take O(requests + dependencies), beside
+/// O(n) for n bytes of bodies and O(n log n) for n bytes of headers.
 #[unsafe(no_mangle)]
 pub extern "C" fn odb_run_report(
     alloc: Global,
@@ -188,10 +190,14 @@ pub extern "C" fn odb_run_report(
     live::report(run.live(), alloc, position, status, headers, body)
 }
 
-/// Returns 1 if no event may come any more, else 0. Takes constant time.
+/// Returns 1 if no event may come any more: no request may start, and none is running. Else it returns 0. Takes
+/// constant time.
 #[unsafe(no_mangle)]
 pub extern "C" fn odb_run_finished(run: &mut Handle) -> u32
     ensures value { result ≡ options.flag_number (steps.is_finished run.old.value.run) }
+    ensures idle { (result ≡ 1) ↔ ((i : ℕ) → i < state.size run.old.value.run
+        → (steps.may_start run.old.value.run i ≡ false)
+        × (state.is_running (state.phase_at run.old.value.run i) ≡ false)) }
     ensures same { run.new.value ≡ run.old.value }
 {
     if run.live().run().is_finished() { 1 } else { 0 }
@@ -226,7 +232,7 @@ pub extern "C" fn odb_run_response(
     text: &mut [u8],
     text_length: &mut usize,
 ) -> u32
-    ensures text { Returns (Shows run.old.value) result text_length.new text.old text.new }
+    ensures text { Returns (calls.Responds run.old.value) result text_length.new text.old text.new }
     ensures same { run.new.value ≡ run.old.value }
 {
     give(live::response(run.live(), alloc), text, text_length)

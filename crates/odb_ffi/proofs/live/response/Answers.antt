@@ -1,6 +1,6 @@
-use Rattle.odb_engine.specs.Live.{Shows}
-use Rattle.odb_ffi.proofs.AnswerLemmas.{answer-written}
+use Rattle.odb_ffi.specs.Live.{Responds}
+use Rattle.odb_ffi.proofs.AnswerLemmas.{answer-written, responds}
 use Rattle.odb_ffi.proofs.live.response.Goals as goal
 
 pub returns : goal.returns
-returns c = answer-written (Shows c.args.live.now) c.response.result c.of.result c.response.ensures.found c.of.ensures
+returns c = answer-written (Responds c.args.live.now) c.response.result c.of.result (responds c.args.live.now c.response.result c.response.ensures.found c.response.ensures.reads_back) c.of.ensures

@@ -1,0 +1,75 @@
+-- What a caller makes of a handle by its calls, one after another (OData JSON Format 4.01, sections 19.1, 19.4 and 19.5; OData
+-- Protocol 4.01, section 11.7).
+use Rattle.std.specs.Prelude.{◌≡◌, ◌≢◌, ◌⊎◌, ℕ, true, List, [], ◌∷◌, ◌++◌, map}
+use Rattle.odb_doc.specs.batch.Records.{Record}
+use Rattle.odb_doc.specs.declared.recorded.outcome.Outcome.{Outcome}
+use Rattle.odb_check.specs.Units.{unit_at}
+use Rattle.odb_sched.specs.declared.event.Event.TheVariants as single
+use Rattle.odb_sched.specs.declared.policy.Policy.{Policy}
+use Rattle.odb_sched.specs.run.State.{stopped}
+use Rattle.odb_sched.specs.run.Steps.{is_finished}
+use Rattle.odb_sched.specs.run.Answers.{answer}
+use Rattle.odb_sched.specs.run.LiveEvents.{LiveEvent, Single, live_state}
+use Rattle.odb_sched.specs.run.LiveEvents as live_event
+use Rattle.odb_sched.specs.run.LiveLaws.{KeepsPromises}
+use Rattle.odb_reply.specs.BodyTexts.{value_with}
+use Rattle.odb_reply.specs.Fits.{ListsFit}
+use Rattle.odb_reply.specs.OnePerId.{HasOnePerId}
+use Rattle.odb_engine.specs.Live.{IsAfter, Live, with_run}
+use Rattle.odb_ffi.specs.Live.{IsReported, Reports, Starts}
+use Rattle.odb_ffi.specs.Units.{StartsUnit}
+
+-- A call on a handle that was opened: what it is passed, and what it returns. `Ask` is each call that asks something of the run, as
+-- which requests are ready.
+pub data Call : Type 0 where
+  Start : (position returned : ℕ) → Call
+  StartUnit : (position returned : ℕ) → Call
+  Report : (position status : ℕ) (headers body : List ℕ) (returned : ℕ) → Call
+  Stop : Call
+  Ask : Call
+
+-- what a call does, as the clause of its export has it
+abbrev pub Does : Call → Live → Live → Type 0
+Does (Start position returned) old new = Starts old new position returned
+Does (StartUnit position returned) old new = StartsUnit old new position returned
+Does (Report position status headers body returned) old new = Reports old new position status headers body returned
+Does Stop old new = new ≡ with_run old (stopped old.run)
+Does Ask old new = new ≡ old
+
+-- the calls lead from the one run to the other
+abbrev pub IsSession : Live → List Call → Live → Type 0
+IsSession first [] last = last ≡ first
+IsSession first (call ∷ calls) last = (next : Live) × Does call first next × IsSession next calls last
+
+-- the call is taken: it returns 0, and is this event
+abbrev pub IsTakenAs : List Record → Call → LiveEvent → Type 0
+IsTakenAs requests (Start position returned) event = (returned ≡ 0) × (event ≡ Single (single.Start position))
+IsTakenAs requests (StartUnit position returned) event = (returned ≡ 0) × (event ≡ live_event.StartUnit (unit_at requests position))
+IsTakenAs requests (Report position status headers body returned) event = (returned ≡ 0) × (outcome : Outcome) × IsReported status headers outcome × (event ≡ Single (single.Report position outcome))
+IsTakenAs requests Stop event = event ≡ live_event.Stop
+IsTakenAs requests Ask event = ⊥
+
+-- the call is no event: it is refused, or asks
+abbrev pub IsNoEvent : Call → Type 0
+IsNoEvent (Start position returned) = returned ≢ 0
+IsNoEvent (StartUnit position returned) = returned ≢ 0
+IsNoEvent (Report position status headers body returned) = returned ≢ 0
+IsNoEvent Stop = ⊥
+IsNoEvent Ask = Unit {0}
+
+-- the events are those of the calls that are taken, in order
+pub data AreTaken (requests : List Record) : List Call → List LiveEvent → Type 0 where
+  None : AreTaken requests [] []
+  Taken : (call : Call) (event : LiveEvent) (calls : List Call) (events : List LiveEvent) → IsTakenAs requests call event → AreTaken requests calls events → AreTaken requests (call ∷ calls) (event ∷ events)
+  Passed : (call : Call) (calls : List Call) (events : List LiveEvent) → IsNoEvent call → AreTaken requests calls events → AreTaken requests (call ∷ calls) events
+
+-- What calls keep on a handle that was opened after the events in a document: the run is that of these events and of those that
+-- were taken since, which keeps what is promised of every live run, and so has a response with one element per id, which fits.
+pub record KeepsSession (policy : Policy) (requests : List Record) (bytes : List ℕ) (first : Live) (calls : List Call) (last : Live) : Type 0 where
+  pub opened : IsAfter policy requests bytes first.run
+  pub events : List LiveEvent
+  pub taken : AreTaken requests calls events
+  pub state : last.run ≡ live_state requests policy (map Single opened.events ++ events)
+  pub promises : KeepsPromises requests policy (map Single opened.events ++ events)
+  pub one_per_id : HasOnePerId requests (value_with last.labels last.texts (answer last.run))
+  pub fits : ListsFit requests (value_with last.labels last.texts (answer last.run))
