@@ -1,5 +1,5 @@
 -- What is given to the caller is what the command writes.
-use Rattle.std.proofs.Common.{◌≡◌, ℕ, List, Result, Ok, Err, IfOk, OnErr, sym, subst}
+use Rattle.std.proofs.Common.{ℕ, List, Result, Ok, Err, IfOk, OnErr, sym, subst}
 use Rattle.std.specs.declared.alloc.AllocError.{AllocError}
 use Rattle.odb_engine.specs.declared.ending.Ended.{Ended}
 use Rattle.odb_engine.specs.Cascade.{Writes}

@@ -1,15 +1,14 @@
 -- Calls on a handle, one after another: those that are taken are a live run, and the others change nothing.
-use Rattle.std.proofs.Common.{◌≡◌, ◌≢◌, ◌∙◌, ◌⊎◌, ℕ, ◌<◌, ◌+◌, refl, sym, ap, subst, arith, true, List, [], ◌∷◌, length, inl, inr}
+use Rattle.std.proofs.Common.{◌≡◌, ◌∙◌, ◌⊎◌, ℕ, ◌<◌, refl, sym, ap, subst, arith, true, List, [], ◌∷◌, inl, inr}
 use Rattle.odb_doc.specs.batch.Records.{Record}
-use Rattle.odb_doc.specs.declared.recorded.outcome.Outcome.{Outcome}
-use Rattle.odb_check.specs.PlanGraph.{PlanGraph, IsPlan, IsPlanGraphOf, unit_of}
+use Rattle.odb_check.specs.PlanGraph.{IsPlan, IsPlanGraphOf, unit_of}
 use Rattle.odb_sched.specs.declared.event.Event.TheVariants as single
-use Rattle.odb_sched.specs.run.State.{State, size}
+use Rattle.odb_sched.specs.run.State.{State}
 use Rattle.odb_sched.specs.run.LiveEvents.{LiveEvent, Single, IsKnownTo, IsLiveRunFrom, after_live, after_all_live, may_take}
 use Rattle.odb_sched.specs.run.LiveEvents as live_event
 use Rattle.odb_sched.proofs.LiveLemmas.{plan_graph-after_live}
 use Rattle.odb_engine.specs.Live.{Live}
-use Rattle.odb_ffi.specs.Live.{IsReported, Reports, Starts, Takes, TakesBody}
+use Rattle.odb_ffi.specs.Live.{Reports, Starts}
 use Rattle.odb_ffi.specs.Live.Reports.{Taken as ReportTaken, Refused as ReportRefused, NoRequest as ReportUnknown, OutOfMemory as ReportOutOfMemory}
 use Rattle.odb_ffi.specs.Live.Starts.{Started, Refused as StartRefused, NoRequest as StartUnknown}
 use Rattle.odb_ffi.specs.Live.Takes.{Taken as OutcomeTaken, Refused as OutcomeRefused}

@@ -1,13 +1,12 @@
 -- What a caller makes of a handle by its calls, one after another (OData JSON Format 4.01, sections 19.1, 19.4 and 19.5; OData
 -- Protocol 4.01, section 11.7).
-use Rattle.std.specs.Prelude.{◌≡◌, ◌≢◌, ◌⊎◌, ℕ, true, List, [], ◌∷◌, ◌++◌, map}
+use Rattle.std.specs.Prelude.{◌≡◌, ◌≢◌, ℕ, List, [], ◌∷◌, ◌++◌, map}
 use Rattle.odb_doc.specs.batch.Records.{Record}
 use Rattle.odb_doc.specs.declared.recorded.outcome.Outcome.{Outcome}
 use Rattle.odb_check.specs.Units.{unit_at}
 use Rattle.odb_sched.specs.declared.event.Event.TheVariants as single
 use Rattle.odb_sched.specs.declared.policy.Policy.{Policy}
 use Rattle.odb_sched.specs.run.State.{stopped}
-use Rattle.odb_sched.specs.run.Steps.{is_finished}
 use Rattle.odb_sched.specs.run.Answers.{answer}
 use Rattle.odb_sched.specs.run.LiveEvents.{LiveEvent, Single, live_state}
 use Rattle.odb_sched.specs.run.LiveEvents as live_event

@@ -169,13 +169,13 @@ pub extern "C" fn odb_run_start(run: &mut Handle, position: u32) -> u32
 
 /// Takes the outcome of the request at a position: a status, and headers and a body as JSON, each of
 /// which may be empty, as `null`, for none. The response repeats the bytes of the body as they are,
-/// whatever numbers it has.
+/// whatever numbers it has. A report of a status alone, with both empty, allocates nothing.
 ///
 /// Returns 0; or, with the run as it was, 21 for P1 or 22 for P2, the first that applies; 2 if there is
 /// no such position; 1 if the headers are not an object of strings whose names differ in lower case, if
-/// the body is not JSON, or if it nests more than 124 deep; and 4 if an allocation fails: without headers
-/// and body nothing is allocated. All reports of a run together take O(requests + dependencies), beside
-/// O(n) for n bytes of bodies and O(n log n) for n bytes of headers.
+/// the body is not JSON, or if it nests more than 124 deep; and 4 if an allocation fails. All reports of a
+/// run together take O(requests + dependencies), beside O(n) for n bytes of bodies and O(n log n) for n
+/// bytes of headers.
 #[unsafe(no_mangle)]
 pub extern "C" fn odb_run_report(
     alloc: Global,

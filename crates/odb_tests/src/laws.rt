@@ -2,6 +2,7 @@
 
 mod checks;
 mod documents;
+mod driven;
 pub mod engines;
 mod live;
 mod orders;

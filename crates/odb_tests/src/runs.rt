@@ -40,7 +40,7 @@ const GROUP: &str = r#"{"requests":[{"id":"p","method":"delete","url":"X","atomi
     {"id":"r","method":"delete","url":"X","atomicityGroup":"g"}]}"#;
 
 /// A group of two whose second request depends on another, and a request that depends on the group.
-const PASSED_ON: &str = r#"{"requests":[{"id":"a","method":"get","url":"X"},
+pub const PASSED_ON: &str = r#"{"requests":[{"id":"a","method":"get","url":"X"},
     {"id":"p","method":"delete","url":"X","atomicityGroup":"g"},
     {"id":"q","method":"delete","url":"X","atomicityGroup":"g","dependsOn":["a"]},
     {"id":"r","method":"get","url":"X","dependsOn":["g"]}]}"#;
@@ -74,12 +74,12 @@ pub fn holds_of<T: OnPlan>(alloc: Global, document: &str, task: &T) -> bool {
 }
 
 /// A policy of this width, or a free one where the width is 0.
-fn policy(mode: Mode, width: u32) -> Policy {
+pub fn policy(mode: Mode, width: u32) -> Policy {
     Policy::new(mode, width).unwrap_or(Policy::free(mode))
 }
 
 /// An outcome with this status and the body `true`.
-fn outcome(alloc: Global, status: u16) -> Outcome {
+pub fn outcome(alloc: Global, status: u16) -> Outcome {
     Outcome {
         status,
         headers: BTreeMap::new(alloc),

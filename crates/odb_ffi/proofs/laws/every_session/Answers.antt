@@ -1,11 +1,11 @@
 -- The calls that are taken are a live run after the events of the document.
-use Rattle.std.proofs.Common.{◌≡◌, ◌∙◌, ap, subst, sym, map, ◌++◌, length, List}
+use Rattle.std.proofs.Common.{◌≡◌, ◌∙◌, ap, subst, sym, map, ◌++◌, List}
 use Rattle.odb_check.specs.PlanGraph.{IsPlan, IsPlanGraphOf}
 use Rattle.odb_check.specs.Plans.{plan_records}
 use Rattle.odb_sched.specs.run.Answers.{answer}
 use Rattle.odb_sched.specs.run.Laws.{RestsOnSuccesses}
 use Rattle.odb_sched.specs.run.LiveEvents.{Single, IsLiveRunFrom, after_all_live, first_live, live_state}
-use Rattle.odb_sched.specs.run.State.{State, size, with_requests}
+use Rattle.odb_sched.specs.run.State.{State, with_requests}
 use Rattle.odb_sched.proofs.LiveLemmas.{plan_graph-after_all_live}
 use Rattle.odb_reply.specs.BodyTexts.{value_with, values_of}
 use Rattle.odb_reply.specs.Fits.{ListsFit}

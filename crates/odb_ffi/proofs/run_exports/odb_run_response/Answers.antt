@@ -1,4 +1,4 @@
-use Rattle.std.proofs.Common.{ℕ, List, subst}
+use Rattle.std.proofs.Common.{subst}
 use Rattle.odb_engine.specs.declared.live.LiveRun.{LiveRun}
 use Rattle.odb_ffi.specs.Live.{Responds}
 use Rattle.odb_ffi.specs.Returns.{Returns}

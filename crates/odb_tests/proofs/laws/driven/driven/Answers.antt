@@ -1,0 +1,8 @@
+use Rattle.std.proofs.Common.{[]}
+use Rattle.odb_tests.proofs.laws.driven.driven.Goals as goal
+
+pub returns : goal.returns
+returns c =
+    let policy = c.args.policy in
+    let is = c.takes_all-taken.ensures policy (record { events = []; live = tt; after = c.in-Ok.ensures.state }) in
+    record { events = is.events; after = is.after; keeps = c.every_live_run.ensures.kept policy is.events is.live }
