@@ -19,7 +19,7 @@ LONG_BYTES = 16_777_216
 BATCH = b'{"requests":[{"id":"1","method":"get","url":"A"}]}'
 ACCEPTED = b"ok 1 requests 0 groups\n"
 TOO_LONG = b"fault F01 TooLong batch\n"
-OPTIONS = {"replay": ("json", "stop", "width", "order"), "run": ("json", "stop", "width")}
+OPTIONS = {"plan": ("json", "full"), "replay": ("json", "stop", "width", "order"), "run": ("json", "stop", "width")}
 
 
 @st.composite

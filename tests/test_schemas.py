@@ -50,7 +50,7 @@ def look(name, value):
 
 def look_at_result(program, name, command, *documents):
     """Checks what a command prints as JSON: a result, or the fault of a document."""
-    text, status = call(program, [command, "--json"], documents)
+    text, status = call(program, [*command.split(), "--json"], documents)
     assert status in (0, 1), text
     look("fault" if status else name, json.loads(text))
 
@@ -62,6 +62,7 @@ def test_results_and_second_documents(program, recorded):
     look("outcomes", {"outcomes": outcomes})
     look("counts", json.loads(succeed(program, ["check", "--json"], batch)))
     look("plan", json.loads(succeed(program, ["plan", "--json"], batch)))
+    look("full_plan", json.loads(succeed(program, ["plan", "--full"], batch)))
     *trace, response, _end = succeed(program, ["replay", "--trace"], batch, {"outcomes": outcomes}).split("\n")
     events = {"events": events_of(trace, outcomes)}
     look("responses", json.loads(response))
@@ -75,6 +76,7 @@ def test_results_and_second_documents(program, recorded):
 def test_results_of_damaged_batches(program, batch):
     look_at_result(program, "counts", "check", batch)
     look_at_result(program, "plan", "plan", batch)
+    look_at_result(program, "full_plan", "plan --full", batch)
 
 
 def bytes_of(name):
@@ -85,5 +87,6 @@ def bytes_of(name):
 @pytest.mark.parametrize("name", sorted(it for it in os.listdir(EXAMPLES) if it.endswith(".json")))
 def test_examples(program, name):
     look_at_result(program, "counts", "check", bytes_of(name))
+    look_at_result(program, "full_plan", "plan --full", bytes_of(name))
     for command, form in SECONDS.items():
         look_at_result(program, form, command, bytes_of("usual.json"), bytes_of(name))

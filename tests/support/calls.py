@@ -18,12 +18,12 @@ ALONE = ("check", "plan", "canon")
 # The options of each command, and how often each is given. Those of logs are left to test_lines.py.
 ORDERS = ("first", "last", "wide")
 VALUES = {
-    "json": chance(30), "quiet": chance(10), "dot": chance(40), "trace": chance(60),
+    "json": chance(30), "quiet": chance(10), "full": chance(40), "dot": chance(40), "trace": chance(60),
     "stop": chance(30), "width": of(*5 * [None], 1, 1, 2, 3, 10_000), "order": of(None, *ORDERS),
 }  # fmt: skip
 OPTIONS = {
     **dict.fromkeys(OF_BATCHES, ("json", "quiet")),
-    "plan": ("json", "quiet", "dot"),
+    "plan": ("json", "quiet", "full", "dot"),
     "match": ("json", "quiet", "stop"),
     "replay": ("json", "quiet", "stop", "width", "trace", "order"),
     "run": ("json", "quiet", "stop", "width"),
@@ -94,7 +94,7 @@ def options_of(draw, *names):
     """Some of these options."""
     drawn = {name: draw(VALUES[name]) for name in names}
     if drawn.get("dot"):
-        del drawn["json"]
+        del drawn["json"], drawn["full"]
     return {name: value for name, value in drawn.items() if value}
 
 

@@ -5,7 +5,7 @@ from contextlib import contextmanager
 from dataclasses import dataclass
 from urllib.parse import unquote_to_bytes
 
-from . import rules, rules_of_runs
+from . import full_plans, rules, rules_of_runs
 
 
 @dataclass
@@ -137,6 +137,18 @@ def undone_keeps_its_answer(run, i, failed):
 def empty_headers_written(request):
     """A request without headers is written with empty ones."""
     return right_canonical(request) | {"headers": request.headers}
+
+
+@mistake(full_plans, "rest_of", "plan")
+def rest_of_each_url(request):
+    """The rest of a URL is what follows its first segment, also if that refers to no request."""
+    return re.sub("^[^/?#]*", "", request.url)
+
+
+@mistake(full_plans, "place_of", "plan")
+def places_in_characters(text, start, end):
+    """The place of a body is counted in characters."""
+    return {"length": end - start, "offset": start}
 
 
 @mistake(rules_of_runs, "is_unsound", "match")

@@ -5,6 +5,7 @@ import re
 from dataclasses import dataclass, field
 
 from . import rules
+from .full_plans import full_plan
 from .rules import Fault, first_fault, fold, is_number, is_status, is_whole, json_text
 
 
@@ -320,21 +321,22 @@ def text_of(command, batch, second, options):
     return run_events(batch, read_events(second), **options)
 
 
-def value_of(command, batch, second, options):
+def value_of(command, batch, first, second, options):
     """The result of a command that prints it as JSON, too."""
     if command == "check":
         return rules.checked(batch)
     if command == "plan":
-        return {"requests": rules.planned(batch)}
+        return {"requests": full_plan(batch, first) if options.get("full") else rules.planned(batch)}
     return {"responses": match(batch, read_responses(second), **options)}
 
 
 def printed(command, first, second=b"", json=False, **options):
     """What the program has to print, and its exit status."""
+    json = json or options.get("full", False)
     try:
         batch = rules.check(first)
         if json and command in ("check", "plan", "match"):
-            return (json_text(value_of(command, batch, second, options)) + "\n").encode(), 0
+            return (json_text(value_of(command, batch, first, second, options)) + "\n").encode(), 0
         return text_of(command, batch, second, options).encode(), 0
     except Fault as fault:
         return fault.text(json).encode(), 1

@@ -3,7 +3,7 @@
 use crate::names;
 use crate::parser::program;
 use clap::{ArgMatches, Error};
-use odb_engine::{Form, Task};
+use odb_engine::{Form, Task, Work};
 use odb_sched::{MAX_WIDTH, Mode, Order, Policy};
 use std::alloc::{AllocError, Global};
 
@@ -28,16 +28,16 @@ pub struct LogOptions {
 /// A command over documents.
 #[derive(Clone, Copy)]
 pub struct Job<'a> {
-    pub task: Task,
+    pub work: Work,
     /// Where the batch is read, or the log.
     pub first: Origin<'a>,
-    /// Where the second document is read, if the task takes one.
+    /// Where the second document is read, if the work takes one.
     pub second: Origin<'a>,
     /// The form in which a result or a fault is printed.
     pub form: Form,
     /// Whether nothing is printed: only the exit status reports it.
     pub quiet: bool,
-    /// How a log is answered, if the task is done on each of its lines.
+    /// How a log is answered, if the work is done on each of its lines.
     pub log: Option<LogOptions>,
 }
 
@@ -140,6 +140,14 @@ fn task_of(name: &str, args: &ArgMatches<'_>) -> Result<Option<Task>, BadArgumen
     Ok(Some(task))
 }
 
+/// Returns the work of the command of this name, or `None` if it is not a command over documents.
+fn work_of(name: &str, args: &ArgMatches<'_>) -> Result<Option<Work>, BadArguments> {
+    if name == names::PLAN && args.get_flag(names::FULL) {
+        return Ok(Some(Work::FullPlan));
+    }
+    Ok(task_of(name, args)?.map(Work::Task))
+}
+
 /// Returns where this argument is read: a file, or standard input if it is `-` or absent.
 fn origin_of<'a>(args: &ArgMatches<'a>, id: &str) -> Origin<'a> {
     match args.get_str(id) {
@@ -148,8 +156,11 @@ fn origin_of<'a>(args: &ArgMatches<'a>, id: &str) -> Origin<'a> {
     }
 }
 
-/// Returns where the second document of a task is read.
-fn second_of<'a>(args: &ArgMatches<'a>, task: Task) -> Origin<'a> {
+/// Returns where the second document is read, if the work takes one.
+fn second_of<'a>(args: &ArgMatches<'a>, work: Work) -> Origin<'a> {
+    let Work::Task(task) = work else {
+        return Origin::Nowhere;
+    };
     match task {
         Task::Match { .. } => origin_of(args, names::RESPONSES),
         Task::Replay { .. } => origin_of(args, names::OUTCOMES),
@@ -166,11 +177,12 @@ fn log_of(args: &ArgMatches<'_>) -> Option<LogOptions> {
     })
 }
 
-/// Returns the form in which a task is answered. A plan and a match of a line of a log are always JSON.
-fn form_of(args: &ArgMatches<'_>, task: Task) -> Form {
-    let is_json = match task {
-        Task::Plan | Task::Match { .. } => args.get_flag(names::LINES),
-        _ => false,
+/// Returns the form of an answer. A plan and a match of a line of a log are always JSON, and so is a full plan.
+fn form_of(args: &ArgMatches<'_>, work: Work) -> Form {
+    let is_json = match work {
+        Work::FullPlan => true,
+        Work::Task(Task::Plan | Task::Match { .. }) => args.get_flag(names::LINES),
+        Work::Task(_) => false,
     };
     if is_json || args.get_flag(names::JSON) {
         Form::Json
@@ -179,17 +191,17 @@ fn form_of(args: &ArgMatches<'_>, task: Task) -> Form {
     }
 }
 
-/// Returns this task on the documents that the arguments name.
-fn job_of<'a>(args: &ArgMatches<'a>, task: Task) -> Result<Job<'a>, BadArguments> {
+/// Returns this work on the documents that the arguments name.
+fn job_of<'a>(args: &ArgMatches<'a>, work: Work) -> Result<Job<'a>, BadArguments> {
     let log = log_of(args);
     let job = Job {
-        task,
+        work,
         first: origin_of(args, names::FILE),
         second: match log {
-            None => second_of(args, task),
+            None => second_of(args, work),
             Some(_) => Origin::Nowhere,
         },
-        form: form_of(args, task),
+        form: form_of(args, work),
         quiet: args.get_flag(names::QUIET),
         log,
     };
@@ -227,8 +239,8 @@ fn asked_by<'a>(
     name: &str,
     args: &ArgMatches<'a>,
 ) -> Result<CommandLine<'a>, BadArguments> {
-    match task_of(name, args)? {
-        Some(task) => Ok(CommandLine::Answer(job_of(args, task)?)),
+    match work_of(name, args)? {
+        Some(work) => Ok(CommandLine::Answer(job_of(args, work)?)),
         None => Ok(CommandLine::Print(text_of(alloc, name, args)?)),
     }
 }
@@ -246,7 +258,7 @@ impl<'a> CommandLine<'a> {
             .map_err(BadArguments::Arguments)?;
         match found.subcommand() {
             Some((name, matches)) => asked_by(alloc, name, matches),
-            None => Ok(CommandLine::Answer(job_of(&found, Task::Check)?)),
+            None => Ok(CommandLine::Answer(job_of(&found, Work::Task(Task::Check))?)),
         }
     }
 }

@@ -88,6 +88,12 @@ const DOT: Argument = Argument {
     help: "Print the plan as a drawing, in the language DOT of Graphviz",
 };
 
+const FULL: Argument = Argument {
+    id: names::FULL,
+    kind: Kind::FlagWithout(&[names::DOT]),
+    help: "Print the plan as JSON, with what is to be sent of each request and where its body is",
+};
+
 const ORDER: Argument = Argument {
     id: names::ORDER,
     kind: Kind::Choice("ORDER", &[names::FIRST, names::LAST, names::WIDE]),
@@ -182,7 +188,7 @@ const PLAN: Row = Row {
     notes: "Example: odb_batch plan batch.json\n\n\
         Exit status: 0 for a plan, 1 for a fault of the batch, 2 for wrong arguments, \
         3 if a file or the output fails, 4 if out of memory",
-    arguments: &[FILE, JSON, DOT, LINES, FLUSH, NUMBER, QUIET],
+    arguments: &[FILE, JSON, FULL, DOT, LINES, FLUSH, NUMBER, QUIET],
 };
 
 const CANON: Row = Row {

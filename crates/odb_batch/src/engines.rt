@@ -4,7 +4,7 @@ use crate::command_line::Job;
 use crate::devices::{open, writer_of};
 use crate::ending::{Status, finish};
 use odb_check::Seed;
-use odb_engine::{Disposal, Form, Setup, answer_task};
+use odb_engine::{Disposal, Form, Setup, Work, answer_task, full_plan_batch};
 use odb_io::{Input, Output};
 use std::rt::Runtime;
 
@@ -31,7 +31,7 @@ impl Environment {
     }
 }
 
-/// Does a task on its documents. All files are opened before one is read.
+/// Does a job on its documents. All files are opened before one is read.
 pub fn answer_documents<R: Runtime + AllocGlobal>(
     rt: &R,
     environment: Environment,
@@ -45,13 +45,12 @@ pub fn answer_documents<R: Runtime + AllocGlobal>(
         Ok(document) => document,
         Err(status) => return status,
     };
-    let ended = answer_task(
-        rt.alloc(),
-        &mut Input::new(first),
-        &mut Input::new(second),
-        &mut Output::new(writer_of(rt, job.quiet)),
-        job.task,
-        environment.setup(job.form),
-    );
+    let (alloc, setup) = (rt.alloc(), environment.setup(job.form));
+    let (mut first, mut second) = (Input::new(first), Input::new(second));
+    let mut output = Output::new(writer_of(rt, job.quiet));
+    let ended = match job.work {
+        Work::Task(task) => answer_task(alloc, &mut first, &mut second, &mut output, task, setup),
+        Work::FullPlan => full_plan_batch(alloc, &mut first, &mut output, setup),
+    };
     finish(rt, ended)
 }

@@ -22,7 +22,7 @@ const BUFFER_BYTES: usize = 65_536;
 /// Returns the command on each line of a log. It frees the memory of a line before the next one.
 fn command_of(environment: Environment, job: Job<'_>, numbered: bool) -> NumberedLines {
     let command = EachLine {
-        task: job.task,
+        work: job.work,
         setup: Setup {
             disposal: Disposal::Drop,
             ..environment.setup(job.form)
@@ -74,7 +74,7 @@ fn answer_watched<R: Runtime + AllocGlobal, I: Read + Drop, W: Write>(
     answer(rt.alloc(), reader, output, &command, flush)
 }
 
-/// Does a task on each line of a log, in order.
+/// Does a job on each line of a log, in order.
 pub fn answer_log<R: Runtime + AllocGlobal>(
     rt: &R,
     environment: Environment,

@@ -40,6 +40,8 @@ pub const JSON: &str = "json";
 
 pub const DOT: &str = "dot";
 
+pub const FULL: &str = "full";
+
 pub const ORDER: &str = "order";
 
 pub const STOP: &str = "stop";

@@ -6,7 +6,7 @@ use std::alloc::{AllocError, Global};
 use std::cell::Cell;
 use std::io::Write;
 
-/// A task that is done on each line, and may print the number of the line with a fault.
+/// What is done on each line, which may print the number of the line with a fault.
 #[derive(Drop)]
 pub struct NumberedLines {
     command: EachLine,
@@ -61,12 +61,12 @@ impl LineCommand for NumberedLines {
     ghost use Rattle.std.specs.Prelude.{◌≡◌, ◌⊎◌, true};
     ghost use Rattle.odb_engine.specs.declared.ending.Ended.TheVariants.{Refused};
     ghost use Rattle.odb_engine.specs.Forms.{InForm};
-    ghost use Rattle.odb_engine.specs.Tasks.{OfLine};
+    ghost use Rattle.odb_engine.specs.FullPlans.{OfWork};
 
-    // What the task writes, unless a fault is to be numbered.
+    // What is written of the line, unless a fault is to be numbered.
     ghost writes = { λ self line ended text. ((self.numbered ≡ true) × (ended ≡ Refused))
         ⊎ InForm self.command.setup.form
-        (OfLine self.command.task self.command.setup.form line) ended text };
+        (OfWork self.command.work self.command.setup.form line) ended text };
 
     fn answer<W: Write>(
         &self,
@@ -74,9 +74,9 @@ impl LineCommand for NumberedLines {
         line: &[u8],
         output: &mut Output<W>,
     ) -> Result<Ended, EngineFault> {
-        let EachLine { task, setup } = self.command;
+        let EachLine { work, setup } = self.command;
         let number = self.next();
-        let answer = answer_line(alloc, line, task, setup)?;
+        let answer = answer_line(alloc, line, work, setup)?;
         match answer.ended {
             Ended::Refused if self.numbered => {
                 let text = with_number(alloc, setup.form, number, &answer.text)?;

@@ -3,7 +3,7 @@
 ghost use Rattle.std.specs.Prelude.{◌≡◌, ◌⊎◌, true};
 ghost use Rattle.odb_engine.specs.declared.ending.Ended.TheVariants.{Refused};
 ghost use Rattle.odb_engine.specs.Forms.{InForm};
-ghost use Rattle.odb_engine.specs.Tasks.{OfLine};
+ghost use Rattle.odb_engine.specs.FullPlans.{OfWork};
 
 use crate::numbered::NumberedLines;
 use odb_engine::{Ended, EngineFault, LineCommand};
@@ -105,7 +105,7 @@ impl<'r, R: Runtime> Watched<'r, R> {
 impl<'r, R: Runtime> LineCommand for Watched<'r, R> {
     ghost writes = { λ self line ended text. ((self.command.numbered ≡ true) × (ended ≡ Refused))
         ⊎ InForm self.command.command.setup.form
-        (OfLine self.command.command.task self.command.command.setup.form line) ended text };
+        (OfWork self.command.command.work self.command.command.setup.form line) ended text };
 
     fn answer<W: Write>(
         &self,

@@ -23,3 +23,4 @@ mod ByteLemmas
 mod LineLemmas
 mod EachLineLemmas
 mod EachLineLawLemmas
+mod FullPlanLemmas

@@ -11,6 +11,7 @@ pub mod Runs
 pub mod Matches
 pub mod Contents
 pub mod Tasks
+pub mod FullPlans
 pub mod Labels
 pub mod Live
 pub mod Requests

@@ -4,14 +4,15 @@ ghost use Rattle.std.specs.Prelude.{◌≡◌, ◌≤◌, ◌++◌, ◌↔◌, t
 ghost use Rattle.odb_engine.specs.Cascade.{Answers};
 ghost use Rattle.odb_engine.specs.Contents.Given.{InMemory};
 ghost use Rattle.odb_engine.specs.Forms.{InForm};
+ghost use Rattle.odb_engine.specs.FullPlans.{OfWork};
 ghost use Rattle.odb_engine.specs.Halts.{text_found};
-ghost use Rattle.odb_engine.specs.Tasks.{OfLine, OfTask};
+ghost use Rattle.odb_engine.specs.Tasks.{OfTask};
 
 use crate::command::text_of;
 use crate::ending::{Ended, fault_text};
 use crate::form::Form;
 use crate::halt::Halt;
-use crate::lines::text_of_line;
+use crate::lines::{Work, text_of_work};
 use crate::setup::Setup;
 use crate::task::Task;
 use std::alloc::{AllocError, Global};
@@ -83,8 +84,8 @@ pub fn answer_in_memory(
     Answer::of(alloc, setup.form, found)
 }
 
-/// Does a task on a line of a log: returns what is written of the document in it, or of the two documents in it if
-/// the task takes two, in the form of the setup. The line may be any bytes; they are not copied.
+/// Does a task on a line of a log, or plans it in full: returns what is written of the document in it, or of the two
+/// documents in it if the task takes two, in the form of the setup. The line may be any bytes; they are not copied.
 ///
 /// # Errors
 ///
@@ -92,12 +93,12 @@ pub fn answer_in_memory(
 pub fn answer_line(
     alloc: Global,
     line: &[u8],
-    task: Task,
+    work: Work,
     setup: Setup,
 ) -> Result<Answer, AllocError>
-    ensures { IfOk result (λ answer. InForm setup.form (OfLine task setup.form line.now)
+    ensures { IfOk result (λ answer. InForm setup.form (OfWork work setup.form line.now)
         answer.ended answer.text.items) }
 {
-    let found = text_of_line(alloc, line, task, setup);
+    let found = text_of_work(alloc, line, work, setup);
     Answer::of(alloc, setup.form, found)
 }

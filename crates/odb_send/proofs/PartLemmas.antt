@@ -1,17 +1,21 @@
 -- Where pieces of a growing text lie.
-use Rattle.std.proofs.Common.{◌≡◌, ◌∙◌, ◌+◌, ◌-◌, ◌<◌, ◌≤◌, ℕ, List, [], ◌∷◌, ◌++◌, length, take, Option, Some, None, unwrap_or, inl, inr, refl, sym, ap, subst, arith, append_assoc, get_or, slice_get}
+use Rattle.std.proofs.Common.{◌≡◌, ◌∙◌, ◌+◌, ◌-◌, ◌<◌, ◌≤◌, ℕ, Bool, true, false, if◌then◌else◌, List, [], ◌∷◌, ◌++◌, length, take, drop, Option, Some, None, unwrap_or, inl, inr, refl, sym, ap, subst, arith, append_assoc, get_or, slice_get}
 use Rattle.std.proofs.lemmas.List.{append-nil, length-append, map-append, take_more}
 use Rattle.std.proofs.lemmas.Option.{get_or_from_slice_get, slice_get_cases, slice_get_within}
 use Rattle.std.proofs.lemmas.Slice.Zip.{AllZip-long}
-use Rattle.std.specs.List.{AllZip}
+use Rattle.std.proofs.lemmas.List.Elements.{All-head, All-tail}
+use Rattle.std.proofs.lemmas.Str.{IsCharBoundary-before_ascii}
+use Rattle.std.proofs.Math.Seq.{drop-append_seam, get_or-append_seam}
+use Rattle.std.specs.List.{AllPass, AllZip}
+use Rattle.std.specs.Str.{IsCharBoundary}
 use Rattle.serde_json.specs.Data.{Data}
 use Rattle.odb_doc.specs.batch.Shapes.{elements}
-use Rattle.odb_names.specs.Segments.{IsAfterFirstSegment}
+use Rattle.odb_names.specs.Segments.{IsAfterFirstSegment, is_in_segment}
 use Rattle.odb_doc.specs.batch.Records.{Record, ReadsAs}
 use Rattle.odb_spans.specs.Spans.{HasBodyAt}
 use Rattle.odb_spans.specs.declared.span.Span.{Span}
 use Rattle.odb_send.specs.declared.parts.RequestParts.{RequestParts}
-use Rattle.odb_send.specs.Parts.{HasPart, HasPartIf, HasParts, HasRest, IsRest, bodies_of}
+use Rattle.odb_send.specs.Parts.{HasPart, HasPartIf, HasParts, bodies_of, past_segment, rest_after}
 use Rattle.odb_send.specs.Pieces.{Extends}
 
 -- ---- a text that grows
@@ -59,6 +63,57 @@ part-fits text part span held = omega (arith, held.ends)
 
 -- ---- the rest of a URL
 
+-- the text after a run of a segment is what follows its first segment
+past-run : (run rest : List ℕ) → AllPass is_in_segment run → ((first : ℕ) (more : List ℕ) → rest ≡ first ∷ more → is_in_segment first ≡ false) → past_segment (run ++ rest) ≡ rest
+past-run [] [] passes stops = refl
+past-run [] (byte ∷ rest) passes stops = rw (stops byte rest refl) refl
+past-run (byte ∷ run) rest passes stops = rw (All-head (λ byte. is_in_segment byte ≡ true) byte run passes) (past-run run rest (All-tail (λ byte. is_in_segment byte ≡ true) byte run passes) stops)
+
+pub past-segment : (url rest : List ℕ) → IsAfterFirstSegment url rest → past_segment url ≡ rest
+past-segment url rest after = ap past_segment after.splits.whole ∙ past-run after.segment rest after.splits.passes after.splits.stops
+
+-- a URL ends with its rest
+pub ends-with : (segment url rest : List ℕ) → url ≡ segment ++ rest → drop (length url - length rest) url ≡ rest
+ends-with segment url rest whole =
+    let long : length url - length rest ≡ length segment = omega (arith, ap (λ (t : List ℕ). length t) whole, length-append segment rest) in
+    rw (long, whole) (drop-append_seam segment rest)
+
+ends-segment : (byte : ℕ) → is_in_segment byte ≡ false → byte < 128
+ends-segment byte ends = grind (arith, ends)
+
+-- a character begins where the rest does
+cut-at : (segment rest : List ℕ) → ((first : ℕ) (more : List ℕ) → rest ≡ first ∷ more → is_in_segment first ≡ false) → IsCharBoundary (segment ++ rest) (length segment)
+cut-at segment [] stops = (omega (arith, length-append segment []), λ within. absurd (omega (arith, within, length-append segment [])))
+cut-at segment (byte ∷ rest) stops =
+    IsCharBoundary-before_ascii (segment ++ byte ∷ rest) (length segment) (omega (arith, length-append segment (byte ∷ rest))) (rw (get_or-append_seam segment byte rest 0) (ends-segment byte (stops byte rest refl)))
+
+pub cut-there : (url rest : List ℕ) → IsAfterFirstSegment url rest → IsCharBoundary url (length url - length rest)
+cut-there url rest after =
+    let segment = after.segment in
+    let long : length url - length rest ≡ length segment = omega (arith, ap (λ (t : List ℕ). length t) after.splits.whole, length-append segment rest) in
+    rw (long, after.splits.whole) (cut-at segment rest after.splits.stops)
+
+-- what a URL begins with, before its rest
+abbrev Front : List ℕ → List ℕ → Type 0
+Front url rest = (front : List ℕ) × (url ≡ front ++ rest)
+
+front-with : (inside : Bool) (byte : ℕ) (url : List ℕ) → Front url (past_segment url) → Front (byte ∷ url) (if inside then past_segment url else byte ∷ url)
+front-with true byte url (front, is) = (byte ∷ front, ap (λ (t : List ℕ). byte ∷ t) is)
+front-with false byte url before = ([], refl)
+
+front-of-segment : (url : List ℕ) → Front url (past_segment url)
+front-of-segment [] = ([], refl)
+front-of-segment (byte ∷ url) = front-with (is_in_segment byte) byte url (front-of-segment url)
+
+pub front-of : (reference : Option (List ℕ)) (url : List ℕ) → Front url (rest_after reference url)
+front-of None url = ([], refl)
+front-of (Some id) url = front-of-segment url
+
+pub rest-fits : (reference : Option (List ℕ)) (url : List ℕ) → length (rest_after reference url) ≤ length url
+rest-fits reference url =
+    let front = front-of reference url in
+    omega (arith, ap (λ (t : List ℕ). length t) front.1, length-append front.0 (rest_after reference url))
+
 -- what remains of a part after its first characters
 pub rest-part : (text url first rest : List ℕ) (span rest_span : Span) → HasPart text url span → url ≡ first ++ rest → rest_span.start ≡ span.end - length rest → rest_span.end ≡ span.end → HasPart text rest rest_span
 rest-part text url first rest span rest_span held is starts ends =
@@ -71,26 +126,6 @@ rest-part text url first rest span rest_span held is starts ends =
       ends = omega (arith, ends, held.ends, long, length-append held.before first);
     }
 
--- the rest of a URL that refers to a request
-pub rest-after : (r : Record) (id rest text : List ℕ) (span rest_span : Span) → r.reference ≡ Some id → IsAfterFirstSegment r.url rest → HasPart text r.url span → rest_span.start ≡ span.end - length rest → rest_span.end ≡ span.end
-    → HasRest text r rest_span
-rest-after r id rest text span rest_span refers after held starts ends = record {
-  rest = rest;
-  is = subst (λ (o : Option (List ℕ)). IsRest r.url o rest) (sym refers) after;
-  part = rest-part text r.url after.segment rest span rest_span held after.splits.whole starts ends;
-}
-
--- that of another URL
-pub rest-whole : (r : Record) (text : List ℕ) (span : Span) → r.reference ≡ None → HasPart text r.url span → HasRest text r span
-rest-whole r text span refers held = record {
-  rest = r.url;
-  is = subst (λ (o : Option (List ℕ)). IsRest r.url o r.url) (sym refers) refl;
-  part = held;
-}
-
-pub kept-rest : (old new : List ℕ) (r : Record) (span : Span) → Extends old new → HasRest old r span → HasRest new r span
-kept-rest old new r span grows held = record { rest = held.rest; is = held.is; part = kept-part old new held.rest span grows held.part }
-
 -- ---- the parts of requests
 
 pub kept-parts : (batch : List Record) (old new : List ℕ) (r : Record) (parts : RequestParts) → Extends old new → HasParts batch old r parts → HasParts batch new r parts
@@ -98,7 +133,7 @@ kept-parts batch old new r parts grows held = record {
   id = kept-part old new _ _ grows held.id;
   method = kept-part old new _ _ grows held.method;
   url = kept-part old new _ _ grows held.url;
-  rest = kept-rest old new r _ grows held.rest;
+  rest = kept-part old new _ _ grows held.rest;
   reference = held.reference;
   headers = kept-part old new _ _ grows held.headers;
   group = kept-part-if old new _ _ grows held.group;

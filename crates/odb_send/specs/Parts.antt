@@ -1,17 +1,17 @@
 -- What is to be sent of each request of a batch (OData JSON Format 4.01, section 19.1): where its parts lie in a text, and
 -- where its body lies in the document.
-use Rattle.std.specs.Prelude.{◌≡◌, ◌+◌, ℕ, List, ◌++◌, length, map, Option, Some, None, option_and_then, ⊤, string_bytes}
+use Rattle.std.specs.Prelude.{◌≡◌, ◌+◌, ℕ, List, [], ◌∷◌, ◌++◌, length, map, Option, Some, None, option_and_then, ⊤, string_bytes, if◌then◌else◌}
 use Rattle.std.specs.List.{AllZip}
 use Rattle.serde_json.specs.Data.{Data, object}
 use Rattle.serde_json.specs.Written.{compact_text}
 use Rattle.odb_names.specs.Methods.{http_name}
-use Rattle.odb_names.specs.Segments.{IsAfterFirstSegment}
+use Rattle.odb_names.specs.Segments.{is_in_segment}
 use Rattle.odb_doc.specs.Documents.{IsJson}
 use Rattle.odb_doc.specs.canonical.Canonical.{header_members}
 use Rattle.odb_doc.specs.batch.Records.{Record, IsBatchOf}
 use Rattle.odb_doc.specs.batch.Shapes.{elements}
 use Rattle.odb_check.specs.Units.{position_of}
-use Rattle.odb_spans.specs.Spans.{HasBodyAt}
+use Rattle.odb_spans.specs.Spans.{EachSpan, HasBodyAt, IsPlaceOfBody}
 use Rattle.odb_spans.specs.declared.span.Span.{Span}
 use Rattle.odb_send.specs.declared.parts.RequestParts.{RequestParts}
 use Rattle.odb_send.specs.declared.requests.Requests.{Requests}
@@ -31,17 +31,18 @@ HasPartIf text None (Some span) = ⊥
 HasPartIf text (Some part) None = ⊥
 HasPartIf text (Some part) (Some span) = HasPart text part span
 
--- What follows the id that the URL refers to, which is its first segment. Of a URL that refers to no request it is the
--- whole URL.
-abbrev pub IsRest : List ℕ → Option (List ℕ) → List ℕ → Type 0
-IsRest url None rest = rest ≡ url
-IsRest url (Some id) rest = IsAfterFirstSegment url rest
+-- the URL from its first `/`, `?` or `#` on
+abbrev pub past_segment : List ℕ → List ℕ
+past_segment [] = []
+past_segment (byte ∷ url) = if is_in_segment byte then past_segment url else byte ∷ url
 
--- the span of the text is the rest of the URL of the request
-pub record HasRest (text : List ℕ) (r : Record) (span : Span) : Type 0 where
-  pub rest : List ℕ
-  pub is : IsRest r.url r.reference rest
-  pub part : HasPart text rest span
+-- what follows the id that the URL refers to, which is its first segment; the whole URL if it refers to no request
+abbrev pub rest_after : Option (List ℕ) → List ℕ → List ℕ
+rest_after None url = url
+rest_after (Some id) url = past_segment url
+
+abbrev pub url_rest : Record → List ℕ
+url_rest r = rest_after r.reference r.url
 
 -- the headers as a JSON object: names in lower case, in byte order
 abbrev pub headers_text : Record → List ℕ
@@ -56,7 +57,7 @@ pub record HasParts (batch : List Record) (text : List ℕ) (r : Record) (parts 
   pub id : HasPart text r.id parts.id
   pub method : HasPart text (http_name r.method) parts.method
   pub url : HasPart text r.url parts.url
-  pub rest : HasRest text r parts.rest
+  pub rest : HasPart text (url_rest r) parts.rest
   pub reference : parts.reference ≡ reference_of batch r
   pub headers : HasPart text (headers_text r) parts.headers
   pub group : HasPartIf text r.group parts.group
@@ -69,6 +70,7 @@ bodies_of parts = map (λ p. p.body) parts
 pub record AreRequestsOf (document : List ℕ) (d : Data) (batch : List Record) (found : Requests) : Type 0 where
   pub parts : AllZip (HasParts batch (string_bytes found.text)) batch found.parts.items
   pub bodies : AllZip (HasBodyAt document) (elements d) (bodies_of found.parts.items)
+  pub places : EachSpan (IsPlaceOfBody document d) 0 (bodies_of found.parts.items)
 
 -- the bytes are the JSON text of the batch
 pub record IsBatchIn (document : List ℕ) (d : Data) (batch : List Record) : Type 0 where

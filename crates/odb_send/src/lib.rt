@@ -10,5 +10,5 @@ mod parts;
 mod piece;
 mod requests;
 
-pub use parts::RequestParts;
+pub use parts::{RequestParts, rest_of};
 pub use requests::{Requests, requests_of};

@@ -3,7 +3,7 @@
 ghost use Rattle.std.specs.Prelude.{◌≡◌, ◌≤◌, ◌<◌, ℕ, List, length, slice_get, Some, IfOk, OnOk, string_bytes};
 ghost use Rattle.odb_doc.specs.batch.Records.{Record, record_of};
 ghost use Rattle.odb_check.specs.Plans.{plan_records};
-ghost use Rattle.odb_send.specs.Parts.{HasPart, HasPartIf, HasParts, HasRest, headers_text, reference_of};
+ghost use Rattle.odb_send.specs.Parts.{HasPart, HasPartIf, HasParts, headers_text, reference_of, url_rest};
 ghost use Rattle.odb_send.specs.Pieces.{Extends};
 
 use crate::piece::{push_part, push_part_if};
@@ -50,18 +50,29 @@ fn push_headers(alloc: Global, text: &mut String, request: &Request<'_>) -> Resu
     })
 }
 
+/// Returns the part of the URL of a request after the id that it refers to: `/Lines?x=1` of `$a/Lines?x=1`. It is
+/// the whole URL if that refers to no request (OData JSON Format 4.01, section 19.1).
+pub fn rest_of<'a>(request: &Request<'a>) -> &'a str
+    ensures { result.now ≡ url_rest (record_of request.now) }
+{
+    match &request.reference {
+        Some(_) => {
+            let length = after_first_segment(request.url).len();
+            &request.url[request.url.len() - length..]
+        }
+        None => request.url,
+    }
+}
+
 /// Returns where the rest of the URL lies, by where the URL lies.
 fn rest_in(request: &Request<'_>, url: Span) -> Span
     requires { length (record_of request.now).url ≤ url.end }
     ensures { (text : List ℕ) → HasPart text (record_of request.now).url url
-        → HasRest text (record_of request.now) result }
+        → HasPart text (url_rest (record_of request.now)) result }
 {
-    match &request.reference {
-        Some(_) => Span {
-            start: url.end - after_first_segment(request.url).len(),
-            end: url.end,
-        },
-        None => url,
+    Span {
+        start: url.end - rest_of(request).len(),
+        end: url.end,
     }
 }
 

@@ -14,6 +14,7 @@ pub mod devices;
 mod disposal;
 mod embedding;
 mod failures;
+mod full_plans;
 
 use odb_check::Seed;
 use odb_engine::{

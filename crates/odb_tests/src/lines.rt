@@ -4,6 +4,7 @@ ghost use Rattle.std.specs.Prelude.{◌≡◌, IfSome};
 ghost use Rattle.odb_engine.specs.lines.Answers.{AnswersEach, OfAnyLine};
 ghost use Rattle.odb_engine.specs.lines.Lines.{lines_of};
 ghost use Rattle.odb_engine.specs.declared.form.Form.TheVariants.{Lines};
+ghost use Rattle.odb_engine.specs.declared.lines.work.Work.TheVariants as works;
 ghost use Rattle.odb_engine.specs.Tasks.{OfLine};
 ghost use Rattle.odb_tests.specs.Readings.{AreOne};
 
@@ -12,7 +13,7 @@ use crate::laws::Two;
 use crate::laws::engines::Written;
 use odb_engine::lines::laws::one_text;
 use odb_engine::{
-    EachLine, Ended, EngineFault, LineCommand, LineInput, Setup, Task, answer_lines, laws,
+    EachLine, Ended, EngineFault, LineCommand, LineInput, Setup, Task, Work, answer_lines, laws,
 };
 use odb_io::Output;
 use std::alloc::{AllocError, Global};
@@ -103,11 +104,11 @@ const LOG: &str = r#"{"requests":[{"id":"1","method":"get","url":"A"}]}
 
 /// Returns the task on each line, whose answers are lines of words.
 fn on_each_line(task: Task) -> EachLine
-    ensures task { result.task ≡ task }
+    ensures work { result.work ≡ works.Task task }
     ensures form { result.setup.form ≡ Lines }
 {
     EachLine {
-        task,
+        work: Work::Task(task),
         setup: Setup::plain(),
     }
 }

@@ -2,3 +2,4 @@ mod DrawingLemmas
 mod RowLemmas
 mod ShownLemmas
 mod ResultLemmas
+mod FullPlanLemmas

@@ -4,6 +4,7 @@ pub mod Drawings
 pub mod Rows
 pub mod Shown
 pub mod Results
+pub mod FullPlans
 pub mod Traces
 -- What serves invariants and private clauses alone: the results as JSON by their parts.
 pub mod ResultParts

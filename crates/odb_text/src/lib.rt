@@ -7,6 +7,7 @@
 #![tactic(auto)]
 
 mod drawing;
+mod full_plan;
 mod json;
 mod lines;
 mod plan;
@@ -15,6 +16,7 @@ mod shown;
 mod trace;
 
 pub use drawing::drawing_text;
+pub use full_plan::full_plan_json;
 pub use json::{counts_json, fault_json, match_json};
 pub use lines::{accepted_line, fault_line, match_lines};
 pub use plan::plan_json;

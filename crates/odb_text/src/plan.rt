@@ -16,7 +16,7 @@ use std::alloc::{AllocError, Global};
 use std::fmt::Write;
 
 /// Appends the names of what is needed as the elements of an array, and the end of the array.
-fn push_needs(
+pub(crate) fn push_needs(
     alloc: Global,
     text: &mut String,
     plan: &Plan<'_>,
@@ -34,7 +34,11 @@ fn push_needs(
 }
 
 /// Appends the member `group`, if there is a group.
-fn push_group(alloc: Global, text: &mut String, group: Option<&str>) -> Result<(), AllocError>
+pub(crate) fn push_group(
+    alloc: Global,
+    text: &mut String,
+    group: Option<&str>,
+) -> Result<(), AllocError>
     ensures { OnOk result (string_bytes text.new ≡ string_bytes text.old
         ++ group_part (option_copied group.entry)) }
 {
@@ -48,7 +52,12 @@ fn push_group(alloc: Global, text: &mut String, group: Option<&str>) -> Result<(
 }
 
 /// Appends the members `id` and `level`.
-fn push_id(alloc: Global, text: &mut String, id: &str, level: u32) -> Result<(), AllocError>
+pub(crate) fn push_id(
+    alloc: Global,
+    text: &mut String,
+    id: &str,
+    level: u32,
+) -> Result<(), AllocError>
     ensures { OnOk result (string_bytes text.new ≡ string_bytes text.old ++ id_part id.now level) }
 {
     push_string(alloc, text, "\"id\":", id)?;

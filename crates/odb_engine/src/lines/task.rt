@@ -1,6 +1,6 @@
-//! The tasks, done on each line: it holds a batch document, or an array of a batch and a second document.
+//! A task on a line: it holds a batch document, or an array of a batch and a second document.
 
-ghost use Rattle.std.specs.Prelude.{◌≡◌, ◌≢◌, false, None, Err, IfSome};
+ghost use Rattle.std.specs.Prelude.{◌≡◌, ◌≢◌, None, Err, IfSome};
 ghost use Rattle.serde_json.specs.Data.{Data};
 ghost use Rattle.serde_json.specs.View.{view};
 ghost use Rattle.odb_engine.specs.declared.halt.Halt.TheVariants as halts;
@@ -9,17 +9,13 @@ ghost use Rattle.odb_engine.specs.Halts.{Found};
 ghost use Rattle.odb_engine.specs.Tasks.{IsPair, OfLine, OfPair, OfTask};
 
 use crate::command::text_of;
-use crate::ending::{Ended, EngineFault, end};
 use crate::halt::Halt;
 use crate::input::value_in;
-use crate::lines::command::LineCommand;
 use crate::setup::Setup;
 use crate::task::Task;
 use odb_doc::{Place, Refusal};
-use odb_io::Output;
 use serde_json::Value;
 use std::alloc::Global;
-use std::io::Write;
 
 /// F07: the line of a task over two documents is not an array of two elements.
 const NOT_PAIR: Halt = Halt::Refused(Refusal {
@@ -73,29 +69,4 @@ pub fn text_of_line(alloc: Global, line: &[u8], task: Task, setup: Setup) -> Res
     }
     let (mut line, mut none, mut task): (_, &[u8], _) = (line, &[], task);
     text_of(alloc, &mut line, &mut none, &mut task, setup)
-}
-
-/// A task that is done on each line. What it writes of a line is held in memory until
-/// it is whole.
-#[derive(Clone, Copy)]
-pub struct EachLine {
-    pub task: Task,
-    pub setup: Setup,
-}
-
-impl LineCommand for EachLine {
-    ghost use Rattle.odb_engine.specs.Forms.{InForm};
-
-    ghost writes = { λ self line.
-        InForm self.setup.form (OfLine self.task self.setup.form line) };
-
-    fn answer<W: Write>(
-        &self,
-        alloc: Global,
-        line: &[u8],
-        output: &mut Output<W>,
-    ) -> Result<Ended, EngineFault> {
-        let found = text_of_line(alloc, line, self.task, self.setup);
-        end(alloc, self.setup.form, found, output)
-    }
 }

@@ -15,7 +15,7 @@ ghost use Rattle.odb_tests.specs.Readings.{AreOne};
 use crate::engines::{EVENTS, EXAMPLES, Example, FREE, OUTCOMES, PAIR, called_plainly};
 use crate::laws::Two;
 use odb_engine::laws::{one_document, one_text, read_again};
-use odb_engine::{Ended, Setup, Task, answer_in_memory, answer_line};
+use odb_engine::{Ended, Setup, Task, Work, answer_in_memory, answer_line};
 use odb_io::{Input, Output};
 use odb_sched::{Mode, Order, Policy};
 use std::alloc::{AllocError, Global};
@@ -77,7 +77,7 @@ fn answered_twice(alloc: Global, batch: &[u8], second: &[u8], task: Task) -> Two
 fn line_answered(alloc: Global, line: &[u8], task: Task) -> Option<Written>
     ensures { IfSome result (λ it. OfLine task Lines line.now it.0 it.1.items) }
 {
-    match answer_line(alloc, line, task, Setup::plain()) {
+    match answer_line(alloc, line, Work::Task(task), Setup::plain()) {
         Ok(answer) => Some((answer.ended, answer.text)),
         Err(_) => None,
     }

@@ -3,7 +3,7 @@ use Rattle.std.proofs.Common.{ℕ, List, string_bytes, subst}
 use Rattle.odb_doc.specs.batch.Records.{record_of}
 use Rattle.odb_check.specs.Plans.{plan_records}
 use Rattle.odb_send.specs.Parts.{HasPart}
-use Rattle.odb_send.proofs.PartLemmas.{kept-part, kept-rest, of-same, same-record, twice}
+use Rattle.odb_send.proofs.PartLemmas.{kept-part, of-same, same-record, twice}
 use Rattle.odb_send.proofs.parts.push_request.Goals as goal
 
 pub returns-clause-parts : goal.returns-clause-parts
@@ -22,7 +22,7 @@ returns-clause-parts c = λ r at.
       id = kept-part after_id end _ _ from_id c.in_ok-id.ensures.part;
       method = kept-part after_method end _ _ from_method (subst (λ (name : List ℕ). HasPart after_method name c.in_ok-method.method) c.http_name.ensures c.in_ok-method.ensures.part);
       url = kept-part after_url end _ _ from_url c.in_ok-url.ensures.part;
-      rest = kept-rest after_url end x _ from_url (c.rest_in.ensures after_url c.in_ok-url.ensures.part);
+      rest = kept-part after_url end _ _ from_url (c.rest_in.ensures after_url c.in_ok-url.ensures.part);
       reference = c.reference_in.ensures;
       headers = kept-part after_headers end _ _ c.in_ok-group.ensures.text c.in_ok-headers.ensures.part;
       group = c.in_ok-group.ensures.part;

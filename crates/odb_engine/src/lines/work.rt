@@ -1,0 +1,65 @@
+//! What is done on each line: a task, or the full plan.
+
+ghost use Rattle.std.specs.Prelude.{◌≢◌, Err};
+ghost use Rattle.odb_engine.specs.declared.halt.Halt.TheVariants as halts;
+ghost use Rattle.odb_engine.specs.FullPlans.{OfWork};
+ghost use Rattle.odb_engine.specs.Halts.{Found};
+
+use crate::ending::{Ended, EngineFault, end};
+use crate::full_plan::full_plan_text;
+use crate::halt::Halt;
+use crate::lines::command::LineCommand;
+use crate::lines::task::text_of_line;
+use crate::setup::Setup;
+use crate::task::Task;
+use odb_io::Output;
+use std::alloc::Global;
+use std::io::Write;
+
+/// What is done on the bytes of a line.
+#[derive(Clone, Copy, Debug)]
+pub enum Work {
+    /// A task, on the document in it, or on the two documents in it if the task takes two.
+    Task(Task),
+    /// Write the plan with what is to be sent of each request, and where its body is in the line.
+    FullPlan,
+}
+
+/// Returns what is written of a line. The line may be any bytes; they are not copied.
+///
+/// # Errors
+///
+/// Those of the task; `Refused` by the least fault of the batch, or `OutOfMemory`. Never `Read`.
+pub fn text_of_work(alloc: Global, line: &[u8], work: Work, setup: Setup) -> Result<String, Halt>
+    ensures found { Found (OfWork work setup.form line.now) result }
+    ensures read { result ≢ Err halts.Read }
+{
+    match work {
+        Work::Task(task) => text_of_line(alloc, line, task, setup),
+        Work::FullPlan => full_plan_text(alloc, line, setup),
+    }
+}
+
+/// What is done on each line. What it writes of a line is held in memory until it is whole.
+#[derive(Clone, Copy)]
+pub struct EachLine {
+    pub work: Work,
+    pub setup: Setup,
+}
+
+impl LineCommand for EachLine {
+    ghost use Rattle.odb_engine.specs.Forms.{InForm};
+
+    ghost writes = { λ self line.
+        InForm self.setup.form (OfWork self.work self.setup.form line) };
+
+    fn answer<W: Write>(
+        &self,
+        alloc: Global,
+        line: &[u8],
+        output: &mut Output<W>,
+    ) -> Result<Ended, EngineFault> {
+        let found = text_of_work(alloc, line, self.work, self.setup);
+        end(alloc, self.setup.form, found, output)
+    }
+}
