@@ -27,6 +27,7 @@ TESTS = f"-m pytest -n {os.cpu_count()} -q --hypothesis-profile gate --durations
 PARTS = [
     ("the program, if it is older", ["bin/odb_batch", "--version"]),
     ("the library, if it is older", ["bin/odb_library", "dist/library"]),
+    ("the WebAssembly modules, if they are older", ["bin/odb_wasm", "dist/wasm"]),
     ("versions", ["tools/version.py", "--program"]),
     ("the places of the faults", ["tools/places.py"]),
     ("the questions of the edits", ["tools/edits.py"]),

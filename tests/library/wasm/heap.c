@@ -13,7 +13,7 @@
 #include <string.h>
 #include <sys/mman.h>
 
-#include "../../wasm/heap.c"
+#include "../../../wasm/heap.c"
 
 #define MOST_MEMORY (1ul << 28)
 #define BLOCKS 3000
