@@ -50,11 +50,6 @@ class Instance {
     return this.#hasTrapped || this.#bytes.byteLength > LARGE
   }
 
-  /** How many bytes of the memory are in use. */
-  get allocated() {
-    return Number(this.#exports.odb_allocated())
-  }
-
   // It is another one once the memory has grown.
   get #bytes() {
     return this.#exports.memory.buffer
@@ -297,7 +292,7 @@ function libraryOf(module, crypto) {
     }
   }
 
-  return { version, ...commandsOf(use, seed), ...runsOf(use, seed), allocated: () => instance?.allocated ?? 0 }
+  return { version, ...commandsOf(use, seed), ...runsOf(use, seed) }
 }
 
 module.exports = { libraryOf }

@@ -24,6 +24,10 @@ MORE_PAGES = 24  # of a module with too little memory
 IMPORTS, GLOBALS, MEMORY = 2, 6, 5  # sections
 
 WITH_LITTLE = """\
+many objects 0
+the next call 0
+a start 0
+instances more 1
 a great batch 4
 a batch of many objects 4
 the next call 0
@@ -125,7 +129,9 @@ const send = async ({ method, url, body }) => {
 }
 const performed = await perform(batch, send, { base: 'https://host/odata/' })
 const worker = new Worker('/worker.mjs', { type: 'module' })
-const counted = await new Promise((resolve, reject) => Object.assign(worker, { onmessage: (it) => resolve(it.data), onerror: reject }))
+const counted = await new Promise((resolve, reject) => {
+  Object.assign(worker, { onmessage: (it) => resolve(it.data), onerror: reject })
+})
 return [version, check(batch), String(live.response()), sent, String(performed), counted]"""
 WORKER = b"import { check } from '/odb_batch.mjs'\npostMessage(check('{\"requests\":[]}'))\n"
 PNG = '{"body":"AQL_","headers":{"content-type":"image/png","location":"X(1)"},"id":'
@@ -176,7 +182,7 @@ def test_too_little_memory_and_stack(portable, wasm, tmp_path):
     data = read(wasm, MODULE32)
     for name, kind, change in [("memory", MEMORY, with_little_memory), ("stack", GLOBALS, with_little_stack)]:
         (tmp_path / name).write_bytes(with_section(data, kind, change))
-    words = [portable, tmp_path / "memory", tmp_path / "stack", str(LITTLE_STACK)]
+    words = [portable, os.path.join(wasm, MODULE32), tmp_path / "memory", tmp_path / "stack", str(LITTLE_STACK)]
     run("node", os.path.join(HERE, "limits.mjs"), *words, wanted=WITH_LITTLE)
 
 

@@ -31,10 +31,11 @@ class Chromium:
         words = [PROGRAM, *FLAGS, f"--user-data-dir={profile}", "about:blank"]
         # The shell puts both where the browser looks for them. The first is the least descriptor of the four.
         script = f'exec "$@" 3<&{commands} 4>&{answers}'
+        silent = {it: subprocess.DEVNULL for it in ("stdin", "stdout", "stderr")}
+        words = ["bash", "-c", script, "bash", *words]
         self.process = subprocess.Popen(
-            ["bash", "-c", script, "bash", *words], pass_fds=(commands, answers),
-            stdin=subprocess.DEVNULL, stdout=subprocess.DEVNULL, stderr=subprocess.DEVNULL, env={**os.environ, "HOME": str(profile)},
-        )  # fmt: skip
+            words, pass_fds=(commands, answers), env={**os.environ, "HOME": str(profile)}, **silent
+        )
         os.close(commands)
         os.close(answers)
         self.read, self.count, self.session = b"", 0, None

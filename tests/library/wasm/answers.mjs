@@ -32,10 +32,20 @@ async function lineOf(numbers, bytes) {
   return [...numbers, bytes.length, Array.from(hash, (it) => it.toString(16).padStart(2, '0')).join('')].join(' ')
 }
 
-/** Throws if a module has not given all memory back; the addon has no such call. */
-function expectFreed(library) {
-  const left = library.allocated?.() ?? 0
-  if (left !== 0) throw new Error(`${left} bytes are allocated after a call`)
+/** The instances of a module that were made, in order. */
+export const instances = []
+
+WebAssembly.Instance = class extends WebAssembly.Instance {
+  constructor(module) {
+    super(module)
+    instances.push(this)
+  }
+}
+
+/** Throws if a module has not given all memory back. The addon makes no instance. */
+function expectFreed() {
+  const left = instances.at(-1)?.exports.odb_allocated() ?? 0n
+  if (left !== 0n) throw new Error(`${left} bytes are allocated after a call`)
 }
 
 /** The lines of the answers to the calls, in both forms, and of the requests of their batches. */
@@ -43,11 +53,11 @@ async function* answers(library, file) {
   for (const { numbers: [command, ...options], batch, second } of callsOf(file)) {
     for (const form of FORMS) {
       const [status, text] = library.call(command, batch, second, ...options, form)
-      expectFreed(library)
+      expectFreed()
       yield lineOf([status], text)
     }
     const [status, text, parts] = library.requests(batch)
-    expectFreed(library)
+    expectFreed()
     yield lineOf([status, text.length], new Uint8Array(parts.buffer))
   }
 }
@@ -105,7 +115,7 @@ async function* lives(library, file, count) {
     note(status, ...text)
     drive(library, run, next, note)
     library.close(run)
-    expectFreed(library)
+    expectFreed()
     yield lineOf([i], new Uint8Array(Uint32Array.from(numbers).buffer))
   }
 }

@@ -1,11 +1,12 @@
-// Calls over modules that have too little memory, or too little stack: node limits.mjs FOLDER MEMORY.wasm STACK.wasm STACK_BYTES,
-// by the package in a folder. Prints a line for each call.
+// Calls over a module, and over the same with too little memory, or too little stack, by the package in a folder:
+// node limits.mjs FOLDER MODULE.wasm MEMORY.wasm STACK.wasm STACK_BYTES. Prints a line for each call.
 
 import { readFileSync } from 'node:fs'
 import { createRequire } from 'node:module'
 import { webcrypto } from 'node:crypto'
+import { instances } from './answers.mjs'
 
-const [folder, smallMemory, smallStack, stackBytes] = process.argv.slice(2)
+const [folder, whole, smallMemory, smallStack, stackBytes] = process.argv.slice(2)
 const { libraryOf } = createRequire(import.meta.url)(`${folder}/module.js`)
 
 const STACK_END = 2 ** 20 // where the stack begins that the module has by itself; it grows down to 0
@@ -28,6 +29,17 @@ function show(title, call) {
 const moduleOf = (path) => new WebAssembly.Module(readFileSync(path))
 const open = (library, batch) => library.open(batch, Buffer.from('{"events":[]}'), 0, 1)
 
+function afterGreatBatches() {
+  const library = libraryOf(moduleOf(whole), webcrypto)
+  const check = (batch) => library.call(0, batch, NONE, 0, 1, 0, 0, 0)[0]
+  const [, , run] = open(library, FEW)
+  const before = instances.length
+  show('many objects', () => check(MANY))
+  show('the next call', () => check(FEW))
+  show('a start', () => library.start(run, 0))
+  console.log('instances more', instances.length - before)
+}
+
 function withLittleMemory() {
   const library = libraryOf(moduleOf(smallMemory), webcrypto)
   const check = (batch) => library.call(0, batch, NONE, 0, 1, 0, 0, 0)[0]
@@ -43,7 +55,7 @@ function withLittleMemory() {
   show('a report', () => report(NONE))
   show('a response', () => String(library.response(run, 0)[1]).trim())
   library.close(run)
-  show('allocated', () => library.allocated())
+  show('allocated', () => String(instances.at(-1).exports.odb_allocated()))
 }
 
 function withLittleStack() {
@@ -69,6 +81,7 @@ function bytesChanged() {
   return above.filter((it) => it !== FILL).length + document.filter((it, at) => it !== DEEP[at]).length
 }
 
+afterGreatBatches()
 withLittleMemory()
 withLittleStack()
 console.log('changed', bytesChanged())
