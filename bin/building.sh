@@ -52,8 +52,8 @@ is_left_by_ci() {
     done
 }
 
-# Proves and compiles the crate, a static library, over what is proved of the crates below it, by a toolchain:
-# build_over_proofs TOOLCHAIN OUT [FLAG..]
+# Proves and compiles the crate, a static library, over what is proved of the crates below it and kept of itself, by a
+# toolchain: build_over_proofs TOOLCHAIN OUT [FLAG..]
 build_over_proofs() {
     local kit name toolchain=$1 out=$2 words
     shift 2
@@ -69,9 +69,10 @@ build_over_proofs() {
     for name in $(below); do
         words+=(-L "dependency=$root/crates/$name/out/rlib")
     done
-    words+=(--antt-project "$kit/rattle/logic/antt-project.json" --logic-built "$kit/logic_built")
-    mkdir -p "$root/crates/$top/out"
-    (cd "$root/crates/$top" && "$kit/bin/rattle" build "${words[@]}" --jobs 2 --toolchain "$toolchain" -o "$out" "$@")
+    words+=(--antt-project "$kit/rattle/logic/antt-project.json" --logic-built "$kit/logic_built" --links "$top=")
+    mkdir -p "$root/crates/$top/out/incremental"
+    (cd "$root/crates/$top" &&
+        "$kit/bin/rattle" build "${words[@]}" --jobs 2 --incremental out/incremental --toolchain "$toolchain" -o "$out" "$@")
 }
 
 # Builds what is made, by `build`, unless it is current.
