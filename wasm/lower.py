@@ -15,140 +15,16 @@ Reads what LLVM's linker writes of the compiled crates, and ends with a line for
 import sys
 from dataclasses import dataclass, field
 
-I32, I64, F32, F64, NO_TYPE = 0x7F, 0x7E, 0x7D, 0x7C, 0x40
+import instructions as wasm
+from instructions import Instruction, Reader, Unknown, instructions_of, signed, sized, unsigned
+
 MOST_PAGES = 65536
-
-# Opcodes, by their names in the standard.
-UNREACHABLE, BLOCK, LOOP, IF, ELSE, END, BR, BR_IF, BR_TABLE, RETURN = 0x00, 0x02, 0x03, 0x04, 0x05, 0x0B, 0x0C, 0x0D, 0x0E, 0x0F
-CALL, CALL_INDIRECT, DROP, SELECT, LOCAL_GET, LOCAL_SET, LOCAL_TEE = 0x10, 0x11, 0x1A, 0x1B, 0x20, 0x21, 0x22
-GLOBAL_GET, GLOBAL_SET, I32_CONST, I64_CONST, F32_CONST, F64_CONST = 0x23, 0x24, 0x41, 0x42, 0x43, 0x44
-LOADS, STORES, MEMORY_SIZE, MEMORY_GROW = range(0x28, 0x36), range(0x36, 0x3F), 0x3F, 0x40
-MEMORY_COPY, MEMORY_FILL = 0xFC0A, 0xFC0B
-LT_U, SHR_U, WRAP, EXTEND_S, EXTEND_U = 0x54, 0x88, 0xA7, 0xAC, 0xAD
-LEAVES = (UNREACHABLE, BR, BR_TABLE, RETURN)
-
-# How many operands an instruction takes and gives, of those that need no more than that: first opcode, last, takes, gives.
-ARITHMETIC = [
-    (0x01, 0x01, 0, 0), (0x1A, 0x1A, 1, 0), (0x1B, 0x1B, 3, 1), (0x20, 0x20, 0, 1), (0x21, 0x21, 1, 0), (0x22, 0x22, 1, 1),
-    (0x23, 0x23, 0, 1), (0x24, 0x24, 1, 0), (0x28, 0x35, 1, 1), (0x36, 0x3E, 2, 0), (0x3F, 0x3F, 0, 1), (0x40, 0x40, 1, 1),
-    (0x41, 0x44, 0, 1), (0x45, 0x45, 1, 1), (0x46, 0x4F, 2, 1), (0x50, 0x50, 1, 1), (0x51, 0x66, 2, 1), (0x67, 0x69, 1, 1),
-    (0x6A, 0x78, 2, 1), (0x79, 0x7B, 1, 1), (0x7C, 0x8A, 2, 1), (0x8B, 0x91, 1, 1), (0x92, 0x98, 2, 1), (0x99, 0x9F, 1, 1),
-    (0xA0, 0xA6, 2, 1), (0xA7, 0xC4, 1, 1), (0xFC00, 0xFC07, 1, 1), (0xFC0A, 0xFC0B, 3, 0),
-]  # fmt: skip
-OPERANDS = {op: counts for first, last, *counts in ARITHMETIC for op in range(first, last + 1)}
-
-
-class Unknown(Exception):
-    """What the linker does not write of the compiled crates."""
-
-
-class Reader:
-    """Reads numbers and bytes of a module from a place on."""
-
-    def __init__(self, data, at=0):
-        self.data, self.at = data, at
-
-    def byte(self):
-        self.at += 1
-        return self.data[self.at - 1]
-
-    def bytes(self, size):
-        self.at += size
-        return self.data[self.at - size : self.at]
-
-    def unsigned(self):
-        found = shift = 0
-        while True:
-            byte = self.byte()
-            found |= (byte & 127) << shift
-            shift += 7
-            if byte < 128:
-                return found
-
-    def signed(self):
-        start = self.at
-        found, bits = self.unsigned(), 7 * (self.at - start)
-        return found - (1 << bits) if found >> (bits - 1) else found
-
-
-def unsigned(number):
-    out = bytearray()
-    while number > 127:
-        out.append(number & 127 | 128)
-        number >>= 7
-    return bytes([*out, number])
-
-
-def signed(number):
-    out = bytearray()
-    while not -64 <= number < 64:
-        out.append(number & 127 | 128)
-        number >>= 7
-    return bytes([*out, number & 127])
-
-
-def sized(data):
-    return unsigned(len(data)) + data
-
-
-@dataclass
-class Instruction:
-    """An instruction, its immediates, what is added behind it, and of a local which of its values it gives."""
-
-    op: int
-    immediates: tuple = ()
-    after: bytes = b""
-    value: int = 0
-
-    def encoded(self):
-        op, numbers = self.op, self.immediates
-        head = bytes([0xFC]) + unsigned(op & 0xFF) if op > 0xFF else bytes([op])
-        if op in (BLOCK, LOOP, IF, F32_CONST, F64_CONST):
-            return head + numbers[0] + self.after
-        if op in (I32_CONST, I64_CONST):
-            return head + signed(numbers[0]) + self.after
-        if op == BR_TABLE:
-            return head + unsigned(len(numbers) - 1) + b"".join(map(unsigned, numbers)) + self.after
-        return head + b"".join(map(unsigned, numbers)) + self.after
-
-
-def immediates_of(op, reader):
-    """Reads the immediates of an instruction."""
-    if op in (BLOCK, LOOP, IF):
-        return (reader.bytes(1),)
-    if op == BR_TABLE:
-        return tuple(reader.unsigned() for _ in range(reader.unsigned() + 1))
-    if op in (I32_CONST, I64_CONST):
-        return (reader.signed(),)
-    if op in (F32_CONST, F64_CONST):
-        return (reader.bytes(4 if op == F32_CONST else 8),)
-    if op in LOADS or op in STORES:
-        alignment, offset = reader.unsigned(), reader.unsigned()
-        if offset >> 32:
-            raise Unknown("an offset of more than 32 bits")
-        return (alignment, offset)
-    if op in (CALL_INDIRECT, MEMORY_COPY):
-        return (reader.unsigned(), reader.unsigned())
-    if op in (BR, BR_IF, CALL, MEMORY_SIZE, MEMORY_GROW, MEMORY_FILL) or LOCAL_GET <= op <= GLOBAL_SET:
-        return (reader.unsigned(),)
-    if op not in OPERANDS and op not in (ELSE, END, UNREACHABLE, RETURN):
-        raise Unknown(f"the instruction {op:#x}")
-    return ()
-
-
-def instructions_of(reader, end):
-    found = []
-    while reader.at < end:
-        op = reader.byte()
-        if op == 0xFC:
-            op = 0xFC00 | reader.unsigned()
-        found.append(Instruction(op, immediates_of(op, reader)))
-    return found
+LEAVES = (wasm.UNREACHABLE, wasm.BR, wasm.BR_TABLE, wasm.RETURN)
 
 
 @dataclass
 class Frame:
-    """A block that is open: where its operands begin, and which locals hold tested addresses where."""
+    """A block that is open: how many operands are below it, and which locals hold tested addresses at its start and its end."""
 
     op: int
     results: int
@@ -174,13 +50,13 @@ class Function:
 
     def lower(self):
         changed = changed_by_loops(self.body)
-        self.frames = [Frame(BLOCK, self.result_count, 0)]
+        self.frames = [Frame(wasm.BLOCK, self.result_count, 0)]
         for place, it in enumerate(self.body):
-            if it.op in (BLOCK, LOOP, IF):
+            if it.op in (wasm.BLOCK, wasm.LOOP, wasm.IF):
                 self.open(place, changed.get(place, frozenset()))
-            elif it.op in (ELSE, END):
+            elif it.op in (wasm.ELSE, wasm.END):
                 self.close(place)
-            elif it.op in (BR, BR_IF, BR_TABLE, RETURN, UNREACHABLE):
+            elif it.op in (wasm.BR, wasm.BR_IF, wasm.BR_TABLE, wasm.RETURN, wasm.UNREACHABLE):
                 self.branch(it)
             else:
                 self.plain(place, it)
@@ -196,13 +72,13 @@ class Function:
     def open(self, place, changed):
         it = self.body[place]
         kind = it.immediates[0][0]
-        if kind not in (I32, I64, F32, F64, NO_TYPE):
+        if kind not in (wasm.I32, wasm.I64, wasm.F32, wasm.F64, wasm.NO_TYPE):
             raise Unknown("a block with parameters")
-        if it.op == IF:
+        if it.op == wasm.IF:
             self.pop()
-        if it.op == LOOP:
+        if it.op == wasm.LOOP:
             self.tested -= changed
-        frame = Frame(it.op, int(kind != NO_TYPE), len(self.operands), self.tested)
+        frame = Frame(it.op, int(kind != wasm.NO_TYPE), len(self.operands), self.tested)
         frame.is_left = self.frames[-1].is_left
         self.frames.append(frame)
 
@@ -212,13 +88,13 @@ class Function:
         if not frame.is_left:
             self.meet(frame)
         del self.operands[frame.height :]
-        if self.body[place].op == ELSE:
-            frame.op, frame.is_left, self.tested = ELSE, self.frames[-2].is_left, frame.at_start
+        if self.body[place].op == wasm.ELSE:
+            frame.op, frame.is_left, self.tested = wasm.ELSE, self.frames[-2].is_left, frame.at_start
             return
-        if frame.op == IF:
+        if frame.op == wasm.IF:
             self.tested = frame.at_start
             self.meet(frame)
-        if frame.op == LOOP and not frame.is_left:
+        if frame.op == wasm.LOOP and not frame.is_left:
             frame.at_end = self.tested
         self.frames.pop()
         self.tested = frame.at_end if frame.at_end is not None else frozenset()
@@ -229,11 +105,11 @@ class Function:
         frame.at_end = self.tested if frame.at_end is None else frame.at_end & self.tested
 
     def branch(self, it):
-        if it.op in (BR_IF, BR_TABLE):
+        if it.op in (wasm.BR_IF, wasm.BR_TABLE):
             self.pop()
         for depth in it.immediates:
             frame = self.frames[-1 - depth]
-            if frame.op != LOOP:
+            if frame.op != wasm.LOOP:
                 self.meet(frame)
         if it.op in LEAVES:
             frame = self.frames[-1]
@@ -244,33 +120,33 @@ class Function:
         taken, given = self.counts(it)
         operands = [self.pop() for _ in range(taken)][::-1]
         self.operands += [place] * given
-        if it.op in LOADS or it.op in STORES:
+        if it.op in wasm.LOADS or it.op in wasm.STORES:
             self.cut(operands[0])
-        elif it.op in (MEMORY_COPY, MEMORY_FILL):
-            for which in (0, 1, 2) if it.op == MEMORY_COPY else (0, 2):
+        elif it.op in (wasm.MEMORY_COPY, wasm.MEMORY_FILL):
+            for which in (0, 1, 2) if it.op == wasm.MEMORY_COPY else (0, 2):
                 self.cut(operands[which])
-        elif it.op == CALL_INDIRECT:
+        elif it.op == wasm.CALL_INDIRECT:
             self.cut(operands[-1])
-        elif it.op == MEMORY_SIZE:
-            it.after = bytes([EXTEND_U])
-        elif it.op == MEMORY_GROW:
+        elif it.op == wasm.MEMORY_SIZE:
+            it.after = bytes([wasm.EXTEND_U])
+        elif it.op == wasm.MEMORY_GROW:
             self.limit(operands[0])
-            it.after = bytes([EXTEND_S])
-        elif it.op == GLOBAL_SET:
+            it.after = bytes([wasm.EXTEND_S])
+        elif it.op == wasm.GLOBAL_SET:
             self.test_stack(operands[0])
-        if it.op in (LOCAL_SET, LOCAL_TEE):
+        if it.op in (wasm.LOCAL_SET, wasm.LOCAL_TEE):
             self.tested -= {it.immediates[0]}
             self.values[it.immediates[0]] = self.values.get(it.immediates[0], 0) + 1
-        if it.op in (LOCAL_GET, LOCAL_TEE):
+        if it.op in (wasm.LOCAL_GET, wasm.LOCAL_TEE):
             it.value = self.values.get(it.immediates[0], 0)
 
     def counts(self, it):
-        if it.op == CALL:
+        if it.op == wasm.CALL:
             return self.module.counts_of_function(it.immediates[0])
-        if it.op == CALL_INDIRECT:
+        if it.op == wasm.CALL_INDIRECT:
             taken, given = self.module.types[it.immediates[0]]
             return taken + 1, given
-        return OPERANDS[it.op]
+        return wasm.OPERANDS[it.op]
 
     def made(self, place):
         """The instruction that made an operand; None in code that is never reached."""
@@ -281,52 +157,52 @@ class Function:
         it = self.made(place)
         if it is None:
             return
-        if it.op == I64_CONST and 0 <= it.immediates[0] < 1 << 32 and not it.after:
-            it.op, it.immediates = I32_CONST, ((it.immediates[0] ^ 1 << 31) - (1 << 31),)
+        if it.op == wasm.I64_CONST and 0 <= it.immediates[0] < 1 << 32 and not it.after:
+            it.op, it.immediates = wasm.I32_CONST, ((it.immediates[0] ^ 1 << 31) - (1 << 31),)
             return
         self.test(it)
-        it.after += bytes([WRAP])
+        it.after += bytes([wasm.WRAP])
 
     def test_stack(self, place):
         it = self.made(place)
-        if it is not None and it.op == LOCAL_TEE:
+        if it is not None and it.op == wasm.LOCAL_TEE:
             self.test(it)
 
     def test(self, it):
         """Adds the trap for an operand that has more than 32 bits, unless it is a local that has passed it since it was set."""
-        if it.op in (LOCAL_GET, LOCAL_TEE) and it.value == self.values.get(it.immediates[0], 0):
+        if it.op in (wasm.LOCAL_GET, wasm.LOCAL_TEE) and it.value == self.values.get(it.immediates[0], 0):
             local = it.immediates[0]
             if local in self.tested:
                 return
             self.tested |= {local}
         else:
             local, self.needs_local = self.locals, True
-            it.after += bytes([LOCAL_TEE]) + unsigned(local)
-        high = bytes([I64_CONST]) + signed(32) + bytes([SHR_U, WRAP])
-        trap = bytes([IF, NO_TYPE, UNREACHABLE, END])
-        it.after += high + trap + bytes([LOCAL_GET]) + unsigned(local)
+            it.after += bytes([wasm.LOCAL_TEE]) + unsigned(local)
+        high = bytes([wasm.I64_CONST]) + signed(32) + bytes([wasm.SHR_U, wasm.WRAP])
+        trap = bytes([wasm.IF, wasm.NO_TYPE, wasm.UNREACHABLE, wasm.END])
+        it.after += high + trap + bytes([wasm.LOCAL_GET]) + unsigned(local)
 
     def limit(self, place):
         """Cuts a number of pages to what a memory of 32 bits can have at most, which it never gets."""
         it, local = self.made(place), unsigned(self.locals)
         self.needs_local = True
-        most = bytes([I64_CONST]) + signed(MOST_PAGES)
-        get = bytes([LOCAL_GET]) + local
-        it.after += bytes([LOCAL_TEE]) + local + most + get + most + bytes([LT_U, SELECT, WRAP])
+        most = bytes([wasm.I64_CONST]) + signed(MOST_PAGES)
+        get = bytes([wasm.LOCAL_GET]) + local
+        it.after += bytes([wasm.LOCAL_TEE]) + local + most + get + most + bytes([wasm.LT_U, wasm.SELECT, wasm.WRAP])
 
 
 def changed_by_loops(body):
     """The locals that each loop sets, by its place."""
     found, open_blocks = {}, []
     for place, it in enumerate(body):
-        if it.op in (BLOCK, LOOP, IF):
+        if it.op in (wasm.BLOCK, wasm.LOOP, wasm.IF):
             open_blocks.append((place, it.op, set()))
-        elif it.op in (LOCAL_SET, LOCAL_TEE):
+        elif it.op in (wasm.LOCAL_SET, wasm.LOCAL_TEE):
             for _, _, changed in open_blocks:
                 changed.add(it.immediates[0])
-        elif it.op == END and open_blocks:
+        elif it.op == wasm.END and open_blocks:
             start, op, changed = open_blocks.pop()
-            if op == LOOP:
+            if op == wasm.LOOP:
                 found[start] = frozenset(changed)
     return found
 
@@ -394,9 +270,9 @@ class Module:
         for _ in range(count):
             head = [reader.unsigned(), reader.byte()]
             place = reader.signed()
-            if head != [0, I64_CONST] or reader.byte() != END:
+            if head != [0, wasm.I64_CONST] or reader.byte() != wasm.END:
                 raise Unknown("a place of a segment that is not a number")
-            out += bytes([0, I32_CONST]) + signed(place) + bytes([END])
+            out += bytes([0, wasm.I32_CONST]) + signed(place) + bytes([wasm.END])
             if kind == 11:
                 out += sized(reader.bytes(reader.unsigned()))
             else:
@@ -422,7 +298,7 @@ class Module:
         it = Function(self, taken + sum(count for count, _ in groups), instructions_of(reader, end), given)
         it.lower()
         if it.needs_local:
-            groups.append((1, I64))
+            groups.append((1, wasm.I64))
         head = unsigned(len(groups)) + b"".join(unsigned(count) + bytes([kind]) for count, kind in groups)
         return head + b"".join(part.encoded() for part in it.body)
 

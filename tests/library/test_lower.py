@@ -3,36 +3,37 @@ bits traps, whichever way leads to the instruction."""
 
 import json
 
+import instructions as wasm
 import lower
 import pytest
-from lower import I32_CONST, I64, I64_CONST, NO_TYPE, Instruction, sized, unsigned
+from instructions import I64, NO_TYPE, Instruction, sized
 
 from support.commands import run
 
 GREAT, TRAP = 1 << 32, "trap"
 NAMES = {
     "add": Instruction(0x7C),
-    "again": Instruction(lower.BR_IF, (0,)),
-    "block": Instruction(lower.BLOCK, (bytes([NO_TYPE]),)),
-    "copy": Instruction(lower.MEMORY_COPY, (0, 0)),
-    "drop": Instruction(lower.DROP),
-    "else": Instruction(lower.ELSE),
-    "end": Instruction(lower.END),
-    "fill": Instruction(lower.MEMORY_FILL, (0,)),
-    "get": lambda local: Instruction(lower.LOCAL_GET, (local,)),
-    "grow": Instruction(lower.MEMORY_GROW, (0,)),
-    "if": Instruction(lower.IF, (bytes([NO_TYPE]),)),
-    "leave": Instruction(lower.BR_IF, (0,)),
+    "again": Instruction(wasm.BR_IF, (0,)),
+    "block": Instruction(wasm.BLOCK, (bytes([NO_TYPE]),)),
+    "copy": Instruction(wasm.MEMORY_COPY, (0, 0)),
+    "drop": Instruction(wasm.DROP),
+    "else": Instruction(wasm.ELSE),
+    "end": Instruction(wasm.END),
+    "fill": Instruction(wasm.MEMORY_FILL, (0,)),
+    "get": lambda local: Instruction(wasm.LOCAL_GET, (local,)),
+    "grow": Instruction(wasm.MEMORY_GROW, (0,)),
+    "if": Instruction(wasm.IF, (bytes([NO_TYPE]),)),
+    "leave": Instruction(wasm.BR_IF, (0,)),
     "load": Instruction(0x29, (3, 0)),
     "load8": Instruction(0x29, (3, 8)),
-    "loop": Instruction(lower.LOOP, (bytes([NO_TYPE]),)),
-    "nonzero": Instruction(lower.WRAP),
-    "number": lambda value: Instruction(I64_CONST, (value,)),
-    "set": lambda local: Instruction(lower.LOCAL_SET, (local,)),
-    "short": lambda value: Instruction(I32_CONST, (value,)),
-    "size": Instruction(lower.MEMORY_SIZE, (0,)),
+    "loop": Instruction(wasm.LOOP, (bytes([NO_TYPE]),)),
+    "nonzero": Instruction(wasm.WRAP),
+    "number": lambda value: Instruction(wasm.I64_CONST, (value,)),
+    "set": lambda local: Instruction(wasm.LOCAL_SET, (local,)),
+    "short": lambda value: Instruction(wasm.I32_CONST, (value,)),
+    "size": Instruction(wasm.MEMORY_SIZE, (0,)),
     "store": Instruction(0x37, (3, 0)),
-    "tee": lambda local: Instruction(lower.LOCAL_TEE, (local,)),
+    "tee": lambda local: Instruction(wasm.LOCAL_TEE, (local,)),
 }
 
 # Functions of the locals 0 and 1, and what calls of them return. The memory has one page and is empty before each call.
@@ -108,12 +109,12 @@ def test_functions(text, tmp_path):
 @pytest.mark.parametrize("number", [0, 1, 63, 64, 127, 128, 8191, 8192, 2**31, 2**32, 2**63 - 1])
 def test_numbers(number):
     for it in {number, -number, -number - 1}:
-        assert lower.Reader(lower.signed(it)).signed() == it
-    assert lower.Reader(unsigned(number)).unsigned() == number
+        assert wasm.Reader(wasm.signed(it)).signed() == it
+    assert wasm.Reader(wasm.unsigned(number)).unsigned() == number
 
 
 @pytest.mark.parametrize("text, line", [("get:0", "a file that is not a module"), ("", "the section 2")])
 def test_what_is_not_known(text, line):
     data = b"something" if text else b"\0asm\1\0\0\0" + bytes([2]) + sized(b"\0")
-    with pytest.raises(lower.Unknown, match=line):
+    with pytest.raises(wasm.Unknown, match=line):
         lower.Module(data).lowered()

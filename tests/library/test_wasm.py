@@ -6,7 +6,7 @@ import json
 import os
 import struct
 
-import lower
+import instructions
 import pytest
 
 from support.chromium import PROGRAM, page_of
@@ -153,7 +153,7 @@ def test_the_package_in_a_browser(portable, tmp_path):
 
 def sections(data):
     """The kinds and the bodies of the sections of a module."""
-    reader = lower.Reader(data, 8)
+    reader = instructions.Reader(data, 8)
     while reader.at < len(data):
         kind = reader.byte()
         yield kind, reader.bytes(reader.unsigned())
@@ -161,21 +161,21 @@ def sections(data):
 
 def with_section(data, kind, change):
     """A module with another body of a section."""
-    parts = ((it, change(lower.Reader(body)) if it == kind else body) for it, body in sections(data))
-    return data[:8] + b"".join(bytes([it]) + lower.sized(body) for it, body in parts)
+    parts = ((it, change(instructions.Reader(body)) if it == kind else body) for it, body in sections(data))
+    return data[:8] + b"".join(bytes([it]) + instructions.sized(body) for it, body in parts)
 
 
 def with_little_memory(reader):
     """The section of the memory: so many pages more than it starts with, and no further ones."""
     head, least = reader.bytes(2), reader.unsigned()
-    return head + lower.unsigned(least) + lower.unsigned(least + MORE_PAGES)
+    return head + instructions.unsigned(least) + instructions.unsigned(least + MORE_PAGES)
 
 
 def with_little_stack(reader):
     """The section of globals, of which the first is where the stack begins, as an i64 that changes."""
     head = reader.bytes(4)
-    assert head[1:] == bytes([lower.I64, 1, lower.I64_CONST]) and reader.signed() == 1 << 20
-    return head + lower.signed(LITTLE_STACK) + reader.data[reader.at :]
+    assert head[1:] == bytes([instructions.I64, 1, instructions.I64_CONST]) and reader.signed() == 1 << 20
+    return head + instructions.signed(LITTLE_STACK) + reader.data[reader.at :]
 
 
 def test_too_little_memory_and_stack(portable, wasm, tmp_path):
