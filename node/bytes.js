@@ -33,10 +33,8 @@ const DECODE = {
 
 class Bytes extends Uint8Array {
   /** The bytes of a text, of an array, or of a part of an ArrayBuffer, which alone are not copied. */
-  static from(value, second = 'utf8', length = undefined) {
-    if (typeof value === 'string') return Bytes.from(ENCODE[second](value))
-    if (value instanceof ArrayBuffer) return new Bytes(value, second === 'utf8' ? 0 : second, length)
-    return new Bytes(value)
+  static from(value, second, length) {
+    return typeof value === 'string' ? new Bytes(ENCODE[second ?? 'utf8'](value)) : new Bytes(value, second, length)
   }
 
   static concat(parts) {

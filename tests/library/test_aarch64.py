@@ -16,7 +16,7 @@ pytestmark = [pytest.mark.slow, pytest.mark.needs(CC, QEMU[0])]
 
 
 @pytest.fixture(scope="module")
-def library():
+def cross_library():
     """The folder of the library; skips the test where that is not built."""
     folder = os.path.join(ROOT, "dist", "aarch64")
     if not os.path.exists(os.path.join(folder, SHARED)):
@@ -31,13 +31,13 @@ def library():
     + [("gnu99", ["stack.c"], ["-pthread"])],
     ids=["calls", "live", "positions", "requests", "units", "stack"],
 )
-def test_calls(standard, sources, flags, library, tmp_path):
+def test_calls(standard, sources, flags, cross_library, tmp_path):
     paths = [os.path.join(HERE, it) for it in sources]
     words = [f"-std={standard}", *STRICT, "-O2", f"-I{ROOT}/include", *flags, "-o", tmp_path / "calls", *paths]
-    run(CC, *words, os.path.join(library, "libodb_batch.a"))
+    run(CC, *words, os.path.join(cross_library, "libodb_batch.a"))
     print(run(*QEMU, tmp_path / "calls"))
 
 
-def test_the_shared_library_needs_the_c_library_alone(library):
-    needed = run("aarch64-linux-gnu-readelf", "-d", os.path.join(library, SHARED))
+def test_the_shared_library_needs_the_c_library_alone(cross_library):
+    needed = run("aarch64-linux-gnu-readelf", "-d", os.path.join(cross_library, SHARED))
     assert needed.count("(NEEDED)") == 1 and "libc.so.6" in needed
