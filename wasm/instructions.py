@@ -10,7 +10,7 @@ CALL, CALL_INDIRECT, DROP, SELECT, LOCAL_GET, LOCAL_SET, LOCAL_TEE = 0x10, 0x11,
 GLOBAL_GET, GLOBAL_SET, I32_CONST, I64_CONST, F32_CONST, F64_CONST = 0x23, 0x24, 0x41, 0x42, 0x43, 0x44
 LOADS, STORES, MEMORY_SIZE, MEMORY_GROW = range(0x28, 0x36), range(0x36, 0x3F), 0x3F, 0x40
 MEMORY_COPY, MEMORY_FILL = 0xFC0A, 0xFC0B
-LT_U, SHR_U, WRAP, EXTEND_S, EXTEND_U = 0x54, 0x88, 0xA7, 0xAC, 0xAD
+LT_U, ADD, SHR_U, WRAP, EXTEND_S, EXTEND_U = 0x54, 0x7C, 0x88, 0xA7, 0xAC, 0xAD
 
 # How many operands an instruction takes and gives, of those that need no more than that: first opcode, last, takes, gives.
 ARITHMETIC = [
@@ -78,15 +78,20 @@ def sized(data):
 
 @dataclass
 class Instruction:
-    """An instruction, its immediates, what is added behind it, and of a local which of its values it gives."""
+    """An instruction, its immediates, and what is added behind it; and what is found out about it when it is lowered."""
 
     op: int
     immediates: tuple = ()
     after: bytes = b""
-    value: int = 0
+    is_left_out: bool = False
+    depth: int = 0  # how many blocks are open behind it, with the function
+    operands: tuple = ()  # the places of the instructions that made its operands
+    value: int = 0  # of a local, how often that was set before
 
     def encoded(self):
         op, numbers = self.op, self.immediates
+        if self.is_left_out:
+            return self.after
         head = bytes([0xFC]) + unsigned(op & 0xFF) if op > 0xFF else bytes([op])
         if op in (BLOCK, LOOP, IF, F32_CONST, F64_CONST):
             return head + numbers[0] + self.after

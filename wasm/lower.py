@@ -6,8 +6,10 @@
 Pointers stay numbers of 64 bits, in functions and in memory, and exports take the same arguments. An address is cut to 32
 bits where it is made, for the instruction that uses it. If it has more than 32 bits, the module traps before that: such
 an address would be another one after the cut. The test is left out where the same local has passed it on every way to
-the instruction. The address of the stack is tested where a function sets it. Names and other custom sections are left
-out.
+the instruction. The address of the stack is tested where a function sets it. A small constant that is added to a tested
+address becomes a part of the offset of the instruction. Names and other custom sections are left out.
+
+A test is a branch to the end of a block around the whole function, behind which the function traps.
 
 Reads what LLVM's linker writes of the compiled crates, and ends with a line for any other instruction or section.
 """
@@ -19,6 +21,7 @@ import instructions as wasm
 from instructions import Instruction, Reader, Unknown, instructions_of, signed, sized, unsigned
 
 MOST_PAGES = 65536
+MOST_OFFSET = 4096  # less than this is added to an address only if that is one itself
 LEAVES = (wasm.UNREACHABLE, wasm.BR, wasm.BR_TABLE, wasm.RETURN)
 
 
@@ -47,6 +50,7 @@ class Function:
     tested: frozenset = frozenset()  # the locals that hold tested addresses
     values: dict = field(default_factory=dict)  # how often each local was set before, in the order of the code
     needs_local: bool = False
+    needs_trap: bool = False
 
     def lower(self):
         changed = changed_by_loops(self.body)
@@ -60,6 +64,18 @@ class Function:
                 self.branch(it)
             else:
                 self.plain(place, it)
+            it.depth = len(self.frames)
+        if self.needs_trap:
+            self.add_trap()
+
+    def add_trap(self):
+        """Puts the function into a block, behind which it traps. Branches to its end go there still."""
+        for it in self.body:
+            if it.op in (wasm.BR, wasm.BR_IF, wasm.BR_TABLE):
+                it.immediates = tuple(to + (to == it.depth - 1) for to in it.immediates)
+        start, end = Instruction(wasm.BLOCK, (bytes([wasm.NO_TYPE]),)), self.body[-1]
+        before = [Instruction(wasm.RETURN), Instruction(wasm.END), Instruction(wasm.UNREACHABLE)]
+        self.body = [start, *self.body[:-1], *before, end]
 
     def pop(self):
         frame = self.frames[-1]
@@ -118,10 +134,11 @@ class Function:
 
     def plain(self, place, it):
         taken, given = self.counts(it)
-        operands = [self.pop() for _ in range(taken)][::-1]
+        operands = it.operands = tuple(self.pop() for _ in range(taken))[::-1]
         self.operands += [place] * given
         if it.op in wasm.LOADS or it.op in wasm.STORES:
-            self.cut(operands[0])
+            if not self.fold(it):
+                self.cut(operands[0])
         elif it.op in (wasm.MEMORY_COPY, wasm.MEMORY_FILL):
             for which in (0, 1, 2) if it.op == wasm.MEMORY_COPY else (0, 2):
                 self.cut(operands[which])
@@ -163,6 +180,25 @@ class Function:
         self.test(it)
         it.after += bytes([wasm.WRAP])
 
+    def fold(self, user):
+        """Adds a constant to the offset of an instruction, in place of the address, if that is then one that is tested."""
+        it = self.made(user.operands[0])
+        if it is None or it.op != wasm.ADD or None in it.operands:
+            return False
+        address, constant = (self.made(place) for place in it.operands)
+        offset = user.immediates[1] + (constant.immediates[0] if constant.op == wasm.I64_CONST else -1)
+        if not 0 <= offset - user.immediates[1] < MOST_OFFSET or not self.is_local(address):
+            return False
+        self.test(address)
+        address.after += bytes([wasm.WRAP])
+        it.is_left_out = constant.is_left_out = True
+        user.immediates = (user.immediates[0], offset)
+        return True
+
+    def is_local(self, it):
+        """Whether an operand is a local that was not set since."""
+        return it.op in (wasm.LOCAL_GET, wasm.LOCAL_TEE) and it.value == self.values.get(it.immediates[0], 0)
+
     def test_stack(self, place):
         it = self.made(place)
         if it is not None and it.op == wasm.LOCAL_TEE:
@@ -170,7 +206,7 @@ class Function:
 
     def test(self, it):
         """Adds the trap for an operand that has more than 32 bits, unless it is a local that has passed it since it was set."""
-        if it.op in (wasm.LOCAL_GET, wasm.LOCAL_TEE) and it.value == self.values.get(it.immediates[0], 0):
+        if self.is_local(it):
             local = it.immediates[0]
             if local in self.tested:
                 return
@@ -179,8 +215,8 @@ class Function:
             local, self.needs_local = self.locals, True
             it.after += bytes([wasm.LOCAL_TEE]) + unsigned(local)
         high = bytes([wasm.I64_CONST]) + signed(32) + bytes([wasm.SHR_U, wasm.WRAP])
-        trap = bytes([wasm.IF, wasm.NO_TYPE, wasm.UNREACHABLE, wasm.END])
-        it.after += high + trap + bytes([wasm.LOCAL_GET]) + unsigned(local)
+        self.needs_trap = True
+        it.after += high + bytes([wasm.BR_IF]) + unsigned(it.depth - 1) + bytes([wasm.LOCAL_GET]) + unsigned(local)
 
     def limit(self, place):
         """Cuts a number of pages to what a memory of 32 bits can have at most, which it never gets."""
