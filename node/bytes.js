@@ -32,6 +32,10 @@ const DECODE = {
 }
 
 class Bytes extends Uint8Array {
+  static alloc(size) {
+    return new Bytes(size)
+  }
+
   /** The bytes of a text, of an array, or of a part of an ArrayBuffer, which alone are not copied. */
   static from(value, second, length) {
     return typeof value === 'string' ? new Bytes(ENCODE[second ?? 'utf8'](value)) : new Bytes(value, second, length)
@@ -51,8 +55,9 @@ class Bytes extends Uint8Array {
     return this.length === other.length && this.every((it, at) => it === other[at])
   }
 
-  toString(encoding = 'utf8') {
-    return DECODE[encoding](this)
+  /** The text of the bytes, or of those from a place to another one. */
+  toString(encoding = 'utf8', start = 0, end = this.length) {
+    return DECODE[encoding](this.subarray(start, end))
   }
 }
 

@@ -27,6 +27,7 @@ test('reads texts as Buffer does', () => {
   for (const encoding of [undefined, 'utf8', 'latin1', 'ascii', 'utf16le', 'base64url']) {
     for (const bytes of [BYTES, [], Buffer.from('ä€😀.'), Buffer.from(TEXTS[4]), Buffer.alloc(9998, 65)]) {
       assert.equal(Bytes.from(bytes).toString(encoding), Buffer.from(bytes).toString(encoding))
+      assert.equal(Bytes.from(bytes).toString(encoding, 2, 4), Buffer.from(bytes).toString(encoding, 2, 4))
     }
   }
 })
@@ -39,6 +40,7 @@ test('has views, copies and parts as Buffer does', () => {
     assert.ok(view.buffer === buffer && copy.buffer !== buffer)
     assert.ok(view.subarray(1) instanceof Kind && view.subarray(1).equals(Kind.of(127, 128)))
     assert.deepEqual(numbers(Kind.concat([view, new Uint8Array(1), copy.subarray(5)])), [1, 127, 128, 0, 255])
+    assert.deepEqual(numbers(Kind.alloc(2)), [0, 0])
     assert.ok(!view.equals(copy) && !view.equals(Kind.of(1, 127, 129)))
   }
 })
