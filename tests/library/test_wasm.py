@@ -115,7 +115,7 @@ def test_a_browser_answers_the_same(wanted, portable, wasm, calls, tmp_path):
 
 
 IN_PAGE = """
-const { Run, check, perform, version } = await import('/odb_batch.mjs')
+const { Batch, Run, check, perform, version } = await import('/odb_batch.mjs')
 const posted = { id: 'a', method: 'post', url: 'X', body: { it: 'ä' } }
 const batch = { requests: [posted, { id: 'b', dependsOn: ['a'], method: 'get', url: '$a/Y' }] }
 const live = new Run(batch)
@@ -133,7 +133,13 @@ const worker = new Worker('/worker.mjs', { type: 'module' })
 const counted = await new Promise((resolve, reject) => {
   Object.assign(worker, { onmessage: (it) => resolve(it.data), onerror: reject })
 })
-return [version, check(batch), String(live.response()), sent, String(performed), counted]"""
+const made = new Batch()
+const first = made.post('Orders', { Customer: 'ä' })
+made.get(`${first}/Total`)
+const answered = (it) => ({ id: it.id, status: 201, headers: { Location: 'https://host/Orders(5)' }, body: { Value: 7 } })
+const post = async ({ body }) => ({ status: 200, body: { responses: JSON.parse(body).requests.map(answered) } })
+const results = await made.send(post)
+return [version, check(batch), String(live.response()), sent, String(performed), counted, results.get(first).json().Value]"""
 WORKER = b"import { check } from '/odb_batch.mjs'\npostMessage(check('{\"requests\":[]}'))\n"
 PNG = '{"body":"AQL_","headers":{"content-type":"image/png","location":"X(1)"},"id":'
 
@@ -142,9 +148,9 @@ PNG = '{"body":"AQL_","headers":{"content-type":"image/png","location":"X(1)"},"
 def test_the_package_in_a_browser(portable, tmp_path):
     files = {f"/{name}": read(portable, name) for name in ("odb_batch.mjs", MODULE32)}
     with page_of({**files, "/worker.mjs": WORKER}, tmp_path) as page:
-        version, counts, response, sent, performed, counted = page.value(IN_PAGE)
+        version, counts, response, sent, performed, counted, value = page.value(IN_PAGE)
     assert version == json.loads(read(portable, "package.json"))["version"]
-    assert counts == {"requests": 2, "groups": 0} and counted == {"requests": 0, "groups": 0}
+    assert counts == {"requests": 2, "groups": 0} and counted == {"requests": 0, "groups": 0} and value == 7
     assert response == (
         '{"responses":[{"body":{"n":1.50},"headers":{"location":"X(1)"},"id":"a","status":201},{"id":"b","status":404}]}'
     )
