@@ -40,6 +40,13 @@ def test_its_own_tests_over_the_wasm_module(portable):
     run_own_tests(portable)
 
 
+def test_its_names_as_an_es_module(portable, tmp_path):
+    (tmp_path / "node_modules").mkdir()
+    (tmp_path / "node_modules" / "odb-batch").symlink_to(portable)
+    code = "import { check, Run } from 'odb-batch'; console.log(check({ requests: [] }), typeof Run)"
+    run("node", "--input-type=module", "-e", code, cwd=tmp_path, wanted="{ requests: 0, groups: 0 } function\n")
+
+
 def test_the_addon_of_gyp(library, environment, module, tmp_path):
     gyp, copy = found_gyp(), tmp_path / "node"
     shutil.copytree(module, copy, ignore=shutil.ignore_patterns("*.node"))
