@@ -30,6 +30,7 @@ def pytest_addoption(parser):
     group = parser.getgroup("odb_batch")
     group.addoption("--program", metavar="PATH", help="the program to test; else what bin/odb_batch has built")
     group.addoption("--library", metavar="FOLDER", help="the library to test; else what bin/odb_library wrote to dist/library")
+    group.addoption("--wasm", metavar="FOLDER", help="the WebAssembly modules to test; else what bin/odb_wasm wrote to dist/wasm")
 
 
 def pytest_configure(config):
@@ -117,3 +118,9 @@ def program(request):
 def library(request):
     """The folder of the static and the shared library."""
     return place_of(request.config, "library")
+
+
+@pytest.fixture(scope="session")
+def wasm(request):
+    """The folder of the WebAssembly modules."""
+    return place_of(request.config, "wasm")

@@ -7,6 +7,7 @@ answers and judges no time. A part runs even if one before it failed. The exit s
 
 import os
 import resource
+import shutil
 import subprocess
 import sys
 import time
@@ -23,10 +24,16 @@ MODULES = {
 
 TESTS = f"-m pytest -n {os.cpu_count()} -q --hypothesis-profile gate --durations 10"
 
+# A part that needs a tool, and is left out where that is not installed.
+FOR_AARCH64 = "the library for aarch64, if it is older"
+TOOLS = {FOR_AARCH64: "aarch64-linux-gnu-gcc"}
+
 # The parts after `rt ci`: a title, and a command, or what follows `python3` in it.
 PARTS = [
     ("the program, if it is older", ["bin/odb_batch", "--version"]),
     ("the library, if it is older", ["bin/odb_library", "dist/library"]),
+    ("the WebAssembly modules, if they are older", ["bin/odb_wasm", "dist/wasm"]),
+    (FOR_AARCH64, ["bin/odb_library", "--target", "aarch64-linux", "dist/aarch64"]),
     ("versions", ["tools/version.py", "--program"]),
     ("the places of the faults", ["tools/places.py"]),
     ("the questions of the edits", ["tools/edits.py"]),
@@ -82,6 +89,9 @@ def main():
     failed, rows = ["rt ci"] * bool(status), [("rt ci", seconds)]
     for title, words in PARTS:
         print(f"{title}:", flush=True)
+        if title in TOOLS and not shutil.which(TOOLS[title]):
+            print(f"skipped: {TOOLS[title]} is not installed", flush=True)
+            continue
         script = not words[0].startswith("bin/")
         status, seconds, _ = run([python, *words] if script else words, title in QUIET)
         failed += [title] * bool(status)

@@ -1,10 +1,13 @@
-# What bin/odb_batch and bin/odb_library do alike: each proves and builds a crate and all crates below it if what
-# they make is missing or older than its sources. Sourced by them, after they have set `root`, the top of the
+# What bin/odb_batch, bin/odb_library and bin/odb_wasm do alike: each proves and builds a crate and all crates below it if
+# what they make is missing or older than its sources. Sourced by them, after they have set `root`, the top of the
 # repository; `tool`, their own name; `top`, the crate; and `made`, the file that is made.
 
 say() { echo "$tool: $*" >&2; }
 
 crates() { "$root/bin/crates" "$top"; }
+
+# The crates below it.
+below() { crates | sed '$d'; }
 
 is_current() {
     [ -f "$made" ] || return 1
@@ -34,6 +37,42 @@ prove_crates() {
         fi
     done
     rm -f "$log"
+}
+
+# Whether rt ci has left every crate below as it is now. What it leaves has no stamp, so rt lib would
+# prove all of it again.
+is_left_by_ci() {
+    local name left newer
+    for name in $(below); do
+        left=$root/crates/$name/out/rlib/$name.rlib/format
+        [ -f "$left" ] && [ ! -e "$root/crates/$name/out/rlib/stamp" ] || return 1
+        newer=$(find "$root/crates.txt" "$root/crates/$name" -path '*/out' -prune -o -path '*/must-fail' -prune \
+            -o -type f -newer "$left" -print -quit)
+        [ -z "$newer" ] || return 1
+    done
+}
+
+# Proves and compiles the crate, a static library, over what is proved of the crates below it and kept of itself, by a
+# toolchain: build_over_proofs TOOLCHAIN OUT [FLAG..]
+build_over_proofs() {
+    local kit name toolchain=$1 out=$2 words
+    shift 2
+    kit=$(dirname "$(rt doc)")
+    words=(--crate-name "$top" --crate-type staticlib src/lib.rt --extern "std=$kit/rlibs/std.rlib" -L "dependency=$kit/rlibs")
+    for name in $(sed -n "s/^$top staticlib://p" "$root/crates.txt"); do
+        if [ -d "$root/crates/$name" ]; then
+            words+=(--extern "$name=$root/crates/$name/out/rlib/$name.rlib")
+        else
+            words+=(--extern "$name=$kit/rlibs/$name.rlib")
+        fi
+    done
+    for name in $(below); do
+        words+=(-L "dependency=$root/crates/$name/out/rlib")
+    done
+    words+=(--antt-project "$kit/rattle/logic/antt-project.json" --logic-built "$kit/logic_built" --links "$top=")
+    mkdir -p "$root/crates/$top/out/incremental"
+    (cd "$root/crates/$top" &&
+        "$kit/bin/rattle" build "${words[@]}" --jobs 2 --incremental out/incremental --toolchain "$toolchain" -o "$out" "$@")
 }
 
 # Builds what is made, by `build`, unless it is current.

@@ -2,15 +2,16 @@
 
 // The commands. index.d.ts says what each takes and returns.
 
-const addon = require('./odb_batch.node')
 const { bytesOf, eventsOf, kindOf } = require('./documents.js')
 const { DONE, REFUSED, settle } = require('./faults.js')
+const library = require('./library.js')
 
 const COMMANDS = ['check', 'plan', 'canon', 'match', 'run', 'replay']
 const MODES = ['continue', 'stop']
 const ORDERS = ['first', 'last', 'wide']
 const FORMS = ['lines', 'json']
 const MAX_WIDTH = 10000
+const NEWLINE = 10
 
 // The second document of a command that takes one alone.
 const NONE = ''
@@ -47,7 +48,7 @@ function numbersOf({ mode = 'continue', width = MAX_WIDTH, order = 'first', trac
 /** The pair of the status and the text of a command. */
 function call(command, batch, second, options) {
   const numbers = numbersOf(options)
-  return addon.call(COMMANDS.indexOf(command), bytesOf(batch), bytesOf(second), ...numbers)
+  return library.call(COMMANDS.indexOf(command), bytesOf(batch), bytesOf(second), ...numbers)
 }
 
 /** The text that a command writes; throws what else it returns. */
@@ -101,7 +102,7 @@ function stepOf(line) {
 
 function replay(batch, outcomes, options = {}) {
   const text = answer('replay', batch, outcomes, optionsOf(options, OF_REPLAY)).subarray(0, -1)
-  const end = text.lastIndexOf('\n')
+  const end = text.lastIndexOf(NEWLINE)
   const lines = end < 0 ? [] : linesOf(text.subarray(0, end + 1)).map(stepOf)
   return {
     response: text.subarray(end + 1),

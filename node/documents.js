@@ -2,13 +2,15 @@
 
 // Documents and events: what callers pass, and the bytes that the library reads.
 
-const { types } = require('node:util')
-
 // How deep a document may nest.
 const MOST_LEVELS = 127
 
 const NO_BIGINT = 'a BigInt has no JSON: pass the JSON text as bytes'
 const LONE_SURROGATE = /\p{Surrogate}/u
+const BUFFERS = ['ArrayBuffer', 'SharedArrayBuffer']
+
+// Gives the name of the class of a typed array, also of a subclass and of another realm, and undefined for any other value.
+const { get: nameOfArray } = Object.getOwnPropertyDescriptor(Object.getPrototypeOf(Uint8Array.prototype), Symbol.toStringTag)
 
 /** What kind of object a value is, as `Object`, `Map` or `Uint16Array`; `Object` also of an instance of a class. */
 function kindOf(value) {
@@ -51,9 +53,9 @@ function jsonOf(value) {
 
 /** The bytes of an array of bytes, or undefined if a value is something else. Bytes that other threads share are copied. */
 function arrayOf(value) {
-  const bytes = types.isAnyArrayBuffer(value) ? new Uint8Array(value) : value
-  if (!types.isUint8Array(bytes)) return undefined
-  return types.isSharedArrayBuffer(bytes.buffer) ? new Uint8Array(bytes) : bytes
+  const bytes = BUFFERS.includes(kindOf(value)) ? new Uint8Array(value) : value
+  if (nameOfArray.call(bytes) !== 'Uint8Array') return undefined
+  return kindOf(bytes.buffer) === 'SharedArrayBuffer' ? new Uint8Array(bytes) : bytes
 }
 
 /** The bytes of a document. */

@@ -242,7 +242,8 @@ export interface RequestState {
  *
  * A run holds memory of the library: close it. After that all but `close` throws an error with the code
  * `ERR_ODB_CLOSED`. One that is forgotten is closed when it is collected. A run belongs to the thread, or
- * the worker, that made it.
+ * the worker, that made it. Over the WebAssembly module it is lost if another call traps: then it throws an error
+ * with the code `ERR_ODB_LOST`.
  */
 export class Run {
   /**

@@ -2,9 +2,9 @@
 
 // odb_batch in this process. index.d.ts says what each call takes and returns.
 
-const { version: number } = require('./odb_batch.node')
 const { canon, check, match, output, plan, replay, run } = require('./commands.js')
 const { Fault, Refused } = require('./faults.js')
+const { version: number } = require('./library.js')
 const { GroupFailed, Refusal } = require('./messages.js')
 const { perform } = require('./perform.js')
 const { requests } = require('./requests.js')

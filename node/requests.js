@@ -2,9 +2,9 @@
 
 // What is to be sent of each request of a batch. index.d.ts says what the call takes and returns.
 
-const addon = require('./odb_batch.node')
 const { bytesOf } = require('./documents.js')
 const { settle } = require('./faults.js')
+const library = require('./library.js')
 
 // How many numbers a request has: a start and a length for each of seven parts, and a position.
 const NUMBERS = 15
@@ -27,7 +27,7 @@ function partsOf(text) {
 function requests(batch) {
   const given = bytesOf(batch)
   const document = Buffer.from(given.buffer, given.byteOffset, given.length)
-  const [status, text, all] = addon.requests(document)
+  const [status, text, all] = library.requests(document)
   settle('requests', status, text)
   const partOf = partsOf(text)
   const found = Array.from({ length: all.length / NUMBERS }, (_, at) => requestOf(document, partOf, all, NUMBERS * at))

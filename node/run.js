@@ -2,10 +2,10 @@
 
 // Live runs. index.d.ts says what each call takes and returns.
 
-const addon = require('./odb_batch.node')
 const { OF_RUN, numbersOf, optionsOf, run } = require('./commands.js')
 const { arrayOf, bytesOf, eventsOf, headersOf, jsonOf } = require('./documents.js')
 const { DONE, Fault, REFUSED, Refused, errorOf, settle } = require('./faults.js')
+const library = require('./library.js')
 const { requests } = require('./requests.js')
 
 const OF_LIVE = [...OF_RUN, 'events']
@@ -66,12 +66,12 @@ class Run {
     const [given, happened] = [bytesOf(batch), eventsOf(events)]
     // How many bytes the response is made of.
     this.#size = given.length + happened.length
-    const [status, text, opened] = addon.open(given, happened, modeNumber, widthNumber)
+    const [status, text, opened] = library.open(given, happened, modeNumber, widthNumber)
     settle('open', status, text)
     this.#run = opened
     // For who asks what is to be sent of the requests.
     this.#batch = given
-    const [listed, lines] = addon.ids(opened, given.length >> 3)
+    const [listed, lines] = library.ids(opened, given.length >> 3)
     settle('ids', listed, lines)
     // The ids of the requests by their positions, and the positions by the ids.
     this.#ids = lines.toString('latin1').split('\n').slice(0, -1)
@@ -97,7 +97,7 @@ class Run {
 
   /** The status of a call, and the positions that it lists. */
   #listing(name) {
-    const [status, count] = addon[name](this.#open, this.#listed)
+    const [status, count] = library[name](this.#open, this.#listed)
     return [status, this.#listed.subarray(0, count)]
   }
 
@@ -131,7 +131,7 @@ class Run {
   }
 
   get finished() {
-    return addon.finished(this.#open) === 1
+    return library.finished(this.#open) === 1
   }
 
   nextUnit() {
@@ -147,41 +147,41 @@ class Run {
 
   state(id) {
     const numbers = new Uint32Array(2)
-    settleEvent('state', addon.state(this.#open, this.#position(id), numbers), id)
+    settleEvent('state', library.state(this.#open, this.#position(id), numbers), id)
     const [state, status] = numbers
     return { state: STATES[state], status: status > 0 ? status : null }
   }
 
   stop() {
-    addon.stop(this.#open)
+    library.stop(this.#open)
   }
 
   start(id) {
-    settleEvent('start', addon.start(this.#open, this.#position(id)), id)
+    settleEvent('start', library.start(this.#open, this.#position(id)), id)
   }
 
   startUnit(id) {
-    settleEvent('startUnit', addon.startUnit(this.#open, this.#position(id)), id)
+    settleEvent('startUnit', library.startUnit(this.#open, this.#position(id)), id)
   }
 
   report(id, status, headers, body) {
     if (!Number.isInteger(status)) throw new TypeError(`a status must be a whole number, not ${String(status)}`)
     const position = this.#position(id)
     const [heads, text] = [partOf(headersOf(headers)), partOf(body)]
-    const end = addon.report(this.#open, position, Math.min(Math.max(status, 0), MOST), heads, text)
+    const end = library.report(this.#open, position, Math.min(Math.max(status, 0), MOST), heads, text)
     if (end === DONE) this.#size += heads.length + text.length
     if (end === REFUSED) throw faultOf(heads, text)
     settleEvent('report', end, id)
   }
 
   response() {
-    const [status, text] = addon.response(this.#open, Math.min(this.#size, MOST))
+    const [status, text] = library.response(this.#open, Math.min(this.#size, MOST))
     settle('response', status, text)
     return text.subarray(0, -1)
   }
 
   close() {
-    if (this.#run !== undefined) addon.close(this.#run)
+    if (this.#run !== undefined) library.close(this.#run)
     this.#run = undefined
   }
 }

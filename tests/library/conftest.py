@@ -24,12 +24,28 @@ def package(library):
     return odb_batch
 
 
+def copy_of_node(top):
+    """A copy of the package for JavaScript, without what was built of it."""
+    built = shutil.ignore_patterns("*.node", "*.mjs", "*.wasm", "build")
+    shutil.copytree(os.path.join(ROOT, "node"), top / "node", ignore=built)
+    return top / "node"
+
+
+@pytest.fixture(scope="session")
+def portable(wasm, need, tmp_path_factory):
+    """The folder of a copy of the package for JavaScript, with the WebAssembly module alone."""
+    need("node")
+    folder = copy_of_node(tmp_path_factory.mktemp("portable"))
+    subprocess.run([folder / "bundle", wasm], check=True)
+    return folder
+
+
 @pytest.fixture(scope="session")
 def module(library, need, tmp_path_factory):
     """The folder of a copy of the module for Node, with its addon, which the C compiler alone has made."""
     need("node")
     top = tmp_path_factory.mktemp("module")
-    shutil.copytree(os.path.join(ROOT, "node"), top / "node", ignore=shutil.ignore_patterns("*.node", "build"))
+    copy_of_node(top)
     shutil.copytree(os.path.join(ROOT, "include"), top / "include")
     done = subprocess.run([top / "node" / "compile", library], stderr=subprocess.PIPE, text=True)
     if done.returncode == 70:

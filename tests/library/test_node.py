@@ -1,4 +1,5 @@
-"""The module for Node: its own tests in node/test, its types, and the addon as node-gyp makes it."""
+"""The package for JavaScript: its own tests in node/test, over the addon and over the module, its types, and the addon as
+node-gyp makes it."""
 
 import json
 import os
@@ -25,9 +26,25 @@ def found_gyp():
     return ["node", inside]
 
 
-def test_its_own_tests(module):
+def run_own_tests(folder):
     packages = {**os.environ, "NODE_PATH": "/usr/share/nodejs"}  # where Debian has Express
-    print(run("node", "--test", *sorted((module / "test").glob("*.test.js")), env=packages))
+    print(run("node", "--test", *sorted((folder / "test").glob("*.test.js")), env=packages))
+
+
+def test_its_own_tests(module):
+    run_own_tests(module)
+
+
+@pytest.mark.slow
+def test_its_own_tests_over_the_wasm_module(portable):
+    run_own_tests(portable)
+
+
+def test_its_names_as_an_es_module(portable, tmp_path):
+    (tmp_path / "node_modules").mkdir()
+    (tmp_path / "node_modules" / "odb-batch").symlink_to(portable)
+    code = "import { check, Run } from 'odb-batch'; console.log(check({ requests: [] }), typeof Run)"
+    run("node", "--input-type=module", "-e", code, cwd=tmp_path, wanted="{ requests: 0, groups: 0 } function\n")
 
 
 def test_the_addon_of_gyp(library, environment, module, tmp_path):

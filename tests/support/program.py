@@ -14,6 +14,8 @@ EXAMPLES = os.path.join(ROOT, "examples")
 PROGRAM = os.path.join(CRATES, "odb_batch", "out", "odb_batch")
 LIBRARY = os.path.join(ROOT, "dist", "library")
 SHARED = "libodb_batch.so.0"
+WASM = os.path.join(ROOT, "dist", "wasm")
+MODULE, MODULE32 = "odb_batch.wasm", "odb_batch32.wasm"
 
 
 def sources(top):
@@ -50,8 +52,18 @@ def library_fault(folder):
     return older and f"the library {older}; {how}"
 
 
+def wasm_fault(folder):
+    """Why the WebAssembly modules in a folder cannot be tested, in a line; or nothing."""
+    module = os.path.join(folder, MODULE32)
+    how = f"run bin/odb_wasm {os.path.relpath(folder, ROOT) if folder == WASM else folder} first, which builds it"
+    if not os.path.exists(module):
+        return f"{folder} has no {MODULE32}; {how}"
+    older = older_than(module, "odb_ffi") if folder == WASM else None
+    return older and f"the module {older}; {how}"
+
+
 # What tests may need that is built here: where it is, and what finds a fault of it.
-BUILT = {"program": (PROGRAM, program_fault), "library": (LIBRARY, library_fault)}
+BUILT = {"program": (PROGRAM, program_fault), "library": (LIBRARY, library_fault), "wasm": (WASM, wasm_fault)}
 
 
 def place_of(config, name):

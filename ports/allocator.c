@@ -1,0 +1,35 @@
+/* The allocator of the compiled crates over that of the C library, for systems for which the toolchain has none compiled. */
+
+#include <stdbool.h>
+#include <stddef.h>
+#include <stdlib.h>
+
+/* Whether there was memory, and a pointer that is never NULL. */
+typedef struct answer {
+    bool is_done;
+    void *at;
+} answer;
+
+static max_align_t nothing;
+
+static answer answer_of(void *at)
+{
+    return (answer){at != NULL, at != NULL ? at : &nothing};
+}
+
+/* No alignment that is asked for is greater than that of malloc. */
+answer rattle_alloc(size_t bytes, size_t alignment)
+{
+    return answer_of(malloc(bytes != 0 ? bytes : alignment));
+}
+
+answer rattle_realloc(void *at, size_t kept, size_t bytes, size_t alignment)
+{
+    (void)kept;
+    return answer_of(realloc(at, bytes != 0 ? bytes : alignment));
+}
+
+void rattle_dealloc(void *at)
+{
+    free(at);
+}
