@@ -1,0 +1,4 @@
+pub mod MarkLemmas
+pub mod SelectLemmas
+pub mod PositionLemmas
+pub mod NameLemmas
