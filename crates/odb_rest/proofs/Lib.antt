@@ -2,3 +2,4 @@ pub mod MarkLemmas
 pub mod SelectLemmas
 pub mod PositionLemmas
 pub mod NameLemmas
+pub mod UrlLemmas

@@ -2,7 +2,7 @@
 use Rattle.std.proofs.Common.{◌≡◌, ◌≢◌, ◌⊎◌, ◌∙◌, ◌+◌, ◌<◌, ◌≤◌, ℕ, zero, suc, Bool, true, false, not, ◌&&◌, List, [], ◌∷◌, ◌++◌, length, set, replicate, get_or, Some, slice_get, inl, inr, refl, ap, sym, subst, arith, Contains, get_or-set_other}
 use Rattle.std.specs.List.{list_any}
 use Rattle.std.proofs.lemmas.Bool.{cases_Bool, cases_eq, true≢false, false≢true}
-use Rattle.std.proofs.lemmas.List.{length-set, length-replicate, get_or-replicate, length_push, get_or_push, get_or_append_left}
+use Rattle.std.proofs.lemmas.List.{same_lists, get_or_default, length-set, length-replicate, get_or-replicate, length_push, get_or_push, get_or_append_left}
 use Rattle.std.proofs.lemmas.List.Folds.{Any-from_list_any, list_any_at}
 use Rattle.std.proofs.lemmas.Grind.{get_or-set_at}
 use Rattle.odb_doc.specs.batch.Records.{Record}
@@ -188,10 +188,13 @@ AreDone-failed rs statuses n units before within here = record {
 pub AreDone-all : (rs : List Record) (statuses : List ℕ) (units : List Bool) → AreDone rs statuses (length rs) units → AreMarksOf rs (IsDone rs statuses) units
 AreDone-all rs statuses units all = record {
   count = all.count;
-  each = λ u within. ((λ is i less unit. all.done u i is less unit), (λ done. elim (cases_Bool (marked units u)) [
-    | inl is ↦ is
-    | inr is ↦ let found = all.failed u within is in absurd (true≢false (sym (done found.0 found.1 found.2) ∙ found.3))
-  ]));
+  each = λ u within. (
+    (λ is i less unit. all.done u i is less unit),
+    (λ done. elim (cases_Bool (marked units u)) [
+      | inl is ↦ is
+      | inr is ↦ let found = all.failed u within is in absurd (true≢false (sym (done found.0 found.1 found.2) ∙ found.3))
+    ]),
+  );
 }
 
 -- ---- units in the rest
@@ -234,3 +237,17 @@ AreKept-more done left n units mark before is = record {
     | inr early ↦ get_or_append_left units (mark ∷ []) false u (omega (arith, before.count)) ∙ before.each u (omega arith)
   ];
 }
+
+-- ---- marks are one
+
+same_marks : (rs : List Record) (P : ℕ → Type 0) (one other : List Bool) → AreMarksOf rs P one → AreMarksOf rs P other → (u : ℕ) → u < unit_count rs → marked one u ≡ marked other u
+same_marks rs P one other are also u within = elim (cases_Bool (marked one u)) [
+  | inl is ↦ is ∙ sym ((also.each u within).1 ((are.each u within).0 is))
+  | inr none ↦ none ∙ sym (not_marked (marked other u) (λ is. true≢false (sym ((are.each u within).1 ((also.each u within).0 is)) ∙ none)))
+]
+
+-- marks of one property are one list
+pub one_marks : (rs : List Record) (P : ℕ → Type 0) (one other : List Bool) → AreMarksOf rs P one → AreMarksOf rs P other → one ≡ other
+one_marks rs P one other are also = same_lists one other (are.count ∙ sym also.count) (λ u d less.
+    let within : u < length other = omega (arith, are.count, also.count) in
+    get_or_default one u d false less ∙ same_marks rs P one other are also u (omega (arith, are.count)) ∙ get_or_default other u false d within)

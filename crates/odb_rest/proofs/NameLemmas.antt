@@ -1,20 +1,19 @@
 -- The names of the rest fit together: a rule that the rest breaks, the batch breaks too.
-use Rattle.std.proofs.Common.{◌≡◌, ◌≢◌, ◌∙◌, ◌⊎◌, ◌+◌, ◌<◌, ◌≤◌, ℕ, Bool, true, false, List, length, Option, None, Some, option_and_then, inl, inr, refl, ap, sym, subst, arith, Contains, IsSomeAnd}
+use Rattle.std.proofs.Common.{◌≡◌, ◌∙◌, ◌⊎◌, ◌+◌, ◌<◌, ◌≤◌, ℕ, Bool, true, List, length, Option, None, Some, option_and_then, inl, inr, refl, ap, sym, subst, arith, Contains, IsSomeAnd}
 use Rattle.std.proofs.lemmas.Bool.{cases_Bool}
 use Rattle.odb_doc.specs.batch.Records.{Record}
-use Rattle.odb_check.specs.declared.fault.NameRule.{NameRule}
 use Rattle.odb_check.specs.declared.fault.NameRule.TheVariants as rules
 use Rattle.odb_check.specs.declared.need.Need.{Need}
 use Rattle.odb_check.specs.declared.need.Need.TheVariants.{One, Group}
 use Rattle.odb_check.specs.LeastNameFault.{HasGoodNames}
-use Rattle.odb_check.specs.NameFaults.{IsBrokenAt, IsMemberAlone, SomeName}
+use Rattle.odb_check.specs.NameFaults.{IsBrokenAt}
 use Rattle.odb_check.specs.Needs.{need_of}
-use Rattle.odb_check.specs.Positions.{id_at, group_at, names_at, reference_at, IsId, IsIdBefore, IsIdFrom, IsGroup, IsGroupBefore, IsGroupAfter, IsInGroupOf, NamesGroupOf}
+use Rattle.odb_check.specs.Positions.{id_at, group_at, names_at, reference_at, IsId, IsIdBefore, IsIdFrom, IsGroup, IsGroupBefore, IsInGroupOf, NamesGroupOf}
 use Rattle.odb_check.specs.Units.{unit_at, position_of}
 use Rattle.odb_check.proofs.NeedLemmas.{is_meant, id_need, group_need, position_is}
 use Rattle.odb_check.proofs.PositionLemmas.{id_within, group_within, reference_within}
 use Rattle.odb_check.proofs.UnitLemmas.{IsUnitOf, one_unit, same_group, in_order, in_unit}
-use Rattle.odb_rest.specs.Rests.{Leaves, is_kept, is_kept_name, is_kept_need, referred_at, rest_records, url_at}
+use Rattle.odb_rest.specs.Rests.{Leaves, is_kept, is_kept_name, is_kept_need, rest_records, url_at}
 use Rattle.odb_rest.specs.Units.{marked, unit_needed}
 use Rattle.odb_rest.proofs.PositionLemmas as at
 use Rattle.odb_rest.proofs.PositionLemmas.{source, HasText, HasName, HasReference}
@@ -115,10 +114,10 @@ forward_name rs kept urls good k broken =
       | inr ((j, there), after) ↦
           let other : HasText rs kept urls group_at j name = at.group_from rs kept urls j name there in
           let all_after : (m : ℕ) → group_at rs m ≡ Some name → i < m = λ m here.
-              let stays : is_kept rs kept m ≡ true = ap (marked kept) (one_unit rs m (source rs kept j) name here other.was) ∙ other.stays in
-              let (n, within, same) = at.kept_at rs kept urls m (group_within rs m name here) stays in
-              let less : k < n = after n (at.group_to rs kept urls n within ∙ ap (group_at rs) same ∙ here) in
-              omega (arith, at.in_order rs kept urls k n less within, same) in
+          let stays : is_kept rs kept m ≡ true = ap (marked kept) (one_unit rs m (source rs kept j) name here other.was) ∙ other.stays in
+          let (n, within, same) = at.kept_at rs kept urls m (group_within rs m name here) stays in
+          let less : k < n = after n (at.group_to rs kept urls n within ∙ ap (group_at rs) same ∙ here) in
+          omega (arith, at.in_order rs kept urls k n less within, same) in
           good rules.ForwardName i (record { name = name; listed = named.was; holds = inr ((source rs kept j, other.was), all_after) })
     ]
 
@@ -153,10 +152,10 @@ kept_reference : (rs : List Record) (kept : List Bool) (urls : List (Option (Lis
 kept_reference rs kept urls good staying k id refers p here = elim (cases_Bool (is_kept rs kept p)) [
   | inl stays ↦ stays
   | inr leaves ↦ absurd (staying (source rs kept k) p (reference_within rs (source rs kept k) id refers.was) refers.same (record {
-      stays = refers.stays;
-      refers = ap (option_and_then (position_of rs)) refers.was ∙ position_is rs (good rules.IdTwice) id p here;
-      leaves = leaves;
-    }))
+    stays = refers.stays;
+    refers = ap (option_and_then (position_of rs)) refers.was ∙ position_is rs (good rules.IdTwice) id p here;
+    leaves = leaves;
+  }))
 ]
 
 unknown_reference : (rs : List Record) (kept : List Bool) (urls : List (Option (List ℕ))) → HasGoodNames rs → HasStayingUrls rs kept urls → (k : ℕ) → ¬ IsBrokenAt rules.UnknownReference (rest_records rs kept urls) k

@@ -1,13 +1,13 @@
 -- What the positions of the rest have, by the positions of the batch that they come from.
-use Rattle.std.proofs.Common.{◌≡◌, ◌≢◌, ◌∙◌, ◌⊎◌, ◌+◌, ◌<◌, ◌≤◌, ℕ, zero, suc, Bool, true, false, cond, List, [], ◌∷◌, length, Option, None, Some, option_map, option_and_then, unwrap_or, slice_get, inl, inr, refl, ap, sym, subst, arith, Contains}
+use Rattle.std.proofs.Common.{◌≡◌, ◌∙◌, ◌+◌, ◌<◌, ◌≤◌, ℕ, Bool, true, false, cond, List, [], ◌∷◌, length, Option, None, Some, option_map, option_and_then, unwrap_or, slice_get, inl, inr, refl, ap, sym, subst, arith, Contains}
 use Rattle.std.specs.List.{filter}
-use Rattle.std.proofs.lemmas.Bool.{cases_Bool, cases_order, true≢false}
+use Rattle.std.proofs.lemmas.Bool.{cases_order, true≢false}
 use Rattle.std.proofs.lemmas.Option.{slice_get_within, slice_get_cases}
 use Rattle.odb_doc.specs.batch.Records.{Record}
 use Rattle.odb_doc.proofs.ElementLemmas.{Contains-head, Contains-tail, Contains-cases}
 use Rattle.odb_check.specs.Positions.{id_at, group_at, names_at, reference_at}
 use Rattle.odb_check.proofs.AnyLemmas.{Contains-none}
-use Rattle.odb_rest.specs.Rests.{is_kept, is_kept_name, select, rest_record, rest_records, url_at, with_url}
+use Rattle.odb_rest.specs.Rests.{is_kept, is_kept_name, rest_record, rest_records, url_at}
 use Rattle.odb_rest.proofs.SelectLemmas.{place, Comes, comes, place_order, selected}
 
 -- ---- elements that pass a test

@@ -1,6 +1,8 @@
 -- What public clauses cite, and has to be believed.
 pub mod Repeats
 pub mod Units
+pub mod Locations
 pub mod Rests
+pub mod Faults
 -- For invariants and private clauses: nothing to believe.
 pub mod Marks

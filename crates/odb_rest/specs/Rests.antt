@@ -1,6 +1,8 @@
 -- The rest of a batch: the requests of the units that are in it, as a batch of their own (OData JSON Format 4.01, sections
 -- 19.1 and 19.2).
-use Rattle.std.specs.Prelude.{◌≡◌, ◌+◌, ◌++◌, ℕ, Bool, true, false, List, [], ◌∷◌, Option, Some, None, option_and_then, slice_get, if◌then◌else◌}
+use Rattle.std.specs.Prelude.{◌≡◌, ◌+◌, ◌++◌, ◌<◌, ℕ, Bool, true, false, List, [], ◌∷◌, length, map, Option, Some, None, option_and_then, option_map, slice_get, if◌then◌else◌, String, string_bytes}
+use Rattle.std.specs.declared.alloc.Global.{Global}
+use Rattle.odb_rest.specs.declared.rest.Rest.{Rest}
 use Rattle.std.specs.List.{filter}
 use Rattle.odb_names.specs.Fronts.{HasFront, plain}
 use Rattle.odb_names.specs.Segments.{IsAfterFirstSegment, IsNestedBatch}
@@ -37,14 +39,14 @@ pub record Leaves (rs : List Record) (kept : List Bool) (i p : ℕ) : Type 0 whe
 abbrev pub IsPlain : List ℕ → Type 0
 IsPlain url = HasFront url plain × ¬ IsNestedBatch url
 
--- the URL that a Location makes of a URL: the Location, and what follows the first segment of the URL
-pub record Continues (location url made : List ℕ) : Type 0 where
+-- the Location, and what follows the first segment of the URL
+pub record IsJoined (location url made : List ℕ) : Type 0 where
   pub rest : List ℕ
   pub after : IsAfterFirstSegment url rest
   pub is : made ≡ location ++ rest
-  pub plain : IsPlain made
 
--- the request at i gets this URL in the rest, by the Locations of the requests
+-- The request at i gets this URL in the rest, by the Locations of the requests: that of the request that it refers to, and
+-- what follows the first segment of its own URL.
 pub record Moves (rs : List Record) (kept : List Bool) (locations : ℕ → Option (List ℕ)) (i : ℕ) (url : List ℕ) : Type 0 where
   pub position : ℕ
   pub leaves : Leaves rs kept i position
@@ -52,7 +54,8 @@ pub record Moves (rs : List Record) (kept : List Bool) (locations : ℕ → Opti
   pub is : slice_get rs i ≡ Some request
   pub location : List ℕ
   pub recorded : locations position ≡ Some location
-  pub continues : Continues location request.url url
+  pub joined : IsJoined location request.url url
+  pub plain : IsPlain url
 
 -- The URL that a request gets in the rest: none if it stays as it is, since it refers to nothing that is not in the rest.
 pub data IsUrl (rs : List Record) (kept : List Bool) (locations : ℕ → Option (List ℕ)) (i : ℕ) : Option (List ℕ) → Type 0 where
@@ -80,3 +83,23 @@ select passes make i (x ∷ xs) = if passes i then make i x ∷ select passes ma
 -- the requests of the rest, in the order of the batch
 abbrev pub rest_records : List Record → List Bool → List (Option (List ℕ)) → List Record
 rest_records rs kept urls = select (is_kept rs kept) (λ i r. rest_record rs kept (url_at urls i) r) 0 rs
+
+-- the URL of each request in the rest, if another than in the batch
+abbrev pub url_texts : List (Option (String Global)) → List (Option (List ℕ))
+url_texts found = map (option_map string_bytes) found
+
+-- each request has the URL that it gets in the rest
+pub record HasUrls (rs : List Record) (kept : List Bool) (locations : ℕ → Option (List ℕ)) (urls : List (Option (List ℕ))) : Type 0 where
+  pub count : length urls ≡ length rs
+  pub each : (i : ℕ) → i < length rs → IsUrl rs kept locations i (url_at urls i)
+
+-- the marks of the units in a rest, and the URLs of its requests
+abbrev pub kept : Rest → List Bool
+kept rest = rest.kept.items
+
+abbrev pub urls : Rest → List (Option (List ℕ))
+urls rest = url_texts rest.urls.items
+
+-- the requests of a rest of a batch
+abbrev pub records_in : List Record → Rest → List Record
+records_in rs rest = rest_records rs (kept rest) (urls rest)

@@ -4,5 +4,12 @@
 //! rest of the batch, which a client may send as a batch of its own.
 #![tactic(auto)]
 
+mod fault;
+mod locations;
 mod repeat;
+mod rest;
 mod units;
+mod urls;
+
+pub use fault::RestFault;
+pub use rest::{Rest, rest_of};

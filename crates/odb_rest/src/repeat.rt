@@ -34,7 +34,5 @@ fn is_idempotent(method: Method) -> bool
 pub(crate) fn may_repeat(method: Method, status: u16) -> bool
     ensures { result ≡ repeats.may_repeat method status }
 {
-    is_success(status)
-        || is_unperformed(status)
-        || (is_uncertain(status) && is_idempotent(method))
+    is_success(status) || is_unperformed(status) || (is_uncertain(status) && is_idempotent(method))
 }

@@ -6,22 +6,24 @@ ghost use Rattle.odb_check.specs.Needs.{needs_at};
 ghost use Rattle.odb_check.specs.Plans.{plan_records};
 ghost use Rattle.odb_check.specs.PlanGraph.{IsNeedAmong};
 ghost use Rattle.odb_check.specs.Units as all;
+ghost use Rattle.odb_reply.specs.Fits.{statuses};
 ghost use Rattle.odb_rest.specs.Units.{AreMarksOf, IsDone, IsInRest, IsLeftOut, marked, unit_needed};
 
 use crate::repeat::may_repeat;
 use odb_check::{Need, Plan};
 use odb_doc::status::is_success;
+use odb_reply::Table;
 use std::alloc::{AllocError, Global};
 
 /// Returns for each unit whether all its requests were answered with a success.
-fn done_units(alloc: Global, plan: &Plan<'_>, table: &[u16]) -> Result<Vec<bool>, AllocError>
-    requires { length table.now ≡ length (plan_records plan.now) }
+fn done_units(alloc: Global, plan: &Plan<'_>, table: &Table) -> Result<Vec<bool>, AllocError>
+    requires { length (statuses table.now) ≡ length (plan_records plan.now) }
     ensures { IfOk result (λ units. AreMarksOf (plan_records plan.now)
-        (IsDone (plan_records plan.now) table.now) units.items) }
+        (IsDone (plan_records plan.now) (statuses table.now)) units.items) }
 {
     let mut units = vec![in alloc; true; plan.unit_count() as usize]?;
     for i in 0..plan.len() {
-        if !is_success(table[i as usize]) {
+        if !is_success(table.status(i)) {
             units[plan.unit_of(i) as usize] = false;
         }
     }
@@ -57,15 +59,15 @@ fn needs_marked(plan: &Plan<'_>, units: &[bool], i: u32) -> bool
 }
 
 /// Returns for each unit whether it is left out: what it needs is in it or in a unit before it.
-fn left_out_units(alloc: Global, plan: &Plan<'_>, table: &[u16]) -> Result<Vec<bool>, AllocError>
-    requires { length table.now ≡ length (plan_records plan.now) }
+fn left_out_units(alloc: Global, plan: &Plan<'_>, table: &Table) -> Result<Vec<bool>, AllocError>
+    requires { length (statuses table.now) ≡ length (plan_records plan.now) }
     ensures { IfOk result (λ units. AreMarksOf (plan_records plan.now)
-        (IsLeftOut (plan_records plan.now) table.now) units.items) }
+        (IsLeftOut (plan_records plan.now) (statuses table.now)) units.items) }
 {
     odb_check::laws::every_plan(plan);
     let mut units = vec![in alloc; false; plan.unit_count() as usize]?;
     for i in 0..plan.len() {
-        let repeats = may_repeat(plan.request(i).method, table[i as usize]);
+        let repeats = may_repeat(plan.request(i).method, table.status(i));
         if !repeats || needs_marked(plan, &units, i) {
             units[plan.unit_of(i) as usize] = true;
         }
@@ -77,11 +79,11 @@ fn left_out_units(alloc: Global, plan: &Plan<'_>, table: &[u16]) -> Result<Vec<b
 pub(crate) fn kept_units(
     alloc: Global,
     plan: &Plan<'_>,
-    table: &[u16],
+    table: &Table,
 ) -> Result<Vec<bool>, AllocError>
-    requires { length table.now ≡ length (plan_records plan.now) }
+    requires { length (statuses table.now) ≡ length (plan_records plan.now) }
     ensures { IfOk result (λ units. AreMarksOf (plan_records plan.now)
-        (IsInRest (plan_records plan.now) table.now) units.items) }
+        (IsInRest (plan_records plan.now) (statuses table.now)) units.items) }
 {
     let done = done_units(alloc, plan, table)?;
     let left_out = left_out_units(alloc, plan, table)?;
