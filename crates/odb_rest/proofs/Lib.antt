@@ -3,3 +3,4 @@ pub mod SelectLemmas
 pub mod PositionLemmas
 pub mod NameLemmas
 pub mod UrlLemmas
+pub mod LawLemmas

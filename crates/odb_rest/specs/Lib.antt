@@ -4,5 +4,6 @@ pub mod Units
 pub mod Locations
 pub mod Rests
 pub mod Faults
+pub mod Laws
 -- For invariants and private clauses: nothing to believe.
 pub mod Marks

@@ -11,7 +11,7 @@ use Rattle.odb_check.specs.declared.need.Need.{Need}
 use Rattle.odb_check.specs.Needs.{need_of}
 use Rattle.odb_check.specs.Positions.{reference_at}
 use Rattle.odb_check.specs.Units.{position_of, unit_at}
-use Rattle.odb_rest.specs.Units.{marked, unit_needed}
+use Rattle.odb_rest.specs.Units.{AreMarksOf, IsInRest, marked, unit_needed}
 
 -- whether the request at a position is in the rest, by the marks of the units
 abbrev pub is_kept : List Record → List Bool → ℕ → Bool
@@ -103,3 +103,8 @@ urls rest = url_texts rest.urls.items
 -- the requests of a rest of a batch
 abbrev pub records_in : List Record → Rest → List Record
 records_in rs rest = rest_records rs (kept rest) (urls rest)
+
+-- the rest has the units that may be sent again by these statuses, and the URLs by these Locations
+pub record IsRestOf (rs : List Record) (statuses : List ℕ) (locations : ℕ → Option (List ℕ)) (rest : Rest) : Type 0 where
+  pub units : AreMarksOf rs (IsInRest rs statuses) (kept rest)
+  pub urls_are : HasUrls rs (kept rest) locations (urls rest)

@@ -5,6 +5,7 @@
 #![tactic(auto)]
 
 mod fault;
+pub mod laws;
 mod locations;
 mod repeat;
 mod rest;

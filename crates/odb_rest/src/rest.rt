@@ -9,7 +9,7 @@ ghost use Rattle.odb_rest.specs.Faults.{RefusesRest};
 ghost use Rattle.odb_rest.specs.Locations.{recorded, texts_of};
 ghost use Rattle.odb_rest.specs.Marks.{AreUrls};
 ghost use Rattle.odb_rest.specs.Rests as rests;
-ghost use Rattle.odb_rest.specs.Rests.{HasUrls, kept, urls, url_texts};
+ghost use Rattle.odb_rest.specs.Rests.{IsRestOf, url_texts};
 ghost use Rattle.odb_rest.specs.Units.{AreMarksOf, IsInRest};
 
 use crate::fault::RestFault;
@@ -75,10 +75,8 @@ pub fn rest_of(
 ) -> Result<Rest, RestFault>
     requires places { length (fits.places table.now) ≡ length (plan_records plan.now) }
     requires statuses { length (fits.statuses table.now) ≡ length (plan_records plan.now) }
-    ensures units { IfOk result (λ rest. AreMarksOf (plan_records plan.now)
-        (IsInRest (plan_records plan.now) (fits.statuses table.now)) (kept rest)) }
-    ensures urls { IfOk result (λ rest. HasUrls (plan_records plan.now) (kept rest)
-        (recorded (view responses.now) (fits.places table.now)) (urls rest)) }
+    ensures rest { IfOk result (IsRestOf (plan_records plan.now) (fits.statuses table.now)
+        (recorded (view responses.now) (fits.places table.now))) }
     ensures least { IfErr result (λ fault. (units : List Bool) → AreMarksOf (plan_records plan.now)
         (IsInRest (plan_records plan.now) (fits.statuses table.now)) units
         → RefusesRest fault (plan_records plan.now) units

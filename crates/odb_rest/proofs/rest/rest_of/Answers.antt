@@ -29,11 +29,11 @@ returns-in_err-urls-clause-least c =
     (refuses_by rs kept (url_at found) all fault (listed_locations rs found all c.in_ok-locations.ensures) first) in
     search (rules, least)
 
-pub returns-clause-urls : goal.returns-clause-urls
-returns-clause-urls c =
+pub returns-clause-rest : goal.returns-clause-rest
+returns-clause-rest c =
     let rs = plan_records c.args.plan.now in
     let all = recorded (view c.args.responses.now) (places c.args.table.now) in
     let found = texts_of c.in_ok-locations.locations.items in
     let kept = c.in_ok-kept.kept.items in
     let are : AreUrls rs kept (url_at found) (length rs) (url_texts c.in_ok-urls.urls.items) = rw (c.deref.ensures.value, c.deref-2.ensures.value) at c.in_ok-urls.ensures.urls in
-    urls_by rs kept (url_at found) all (url_texts c.in_ok-urls.urls.items) (listed_locations rs found all c.in_ok-locations.ensures) are
+    record { units = c.in_ok-kept.ensures; urls_are = urls_by rs kept (url_at found) all (url_texts c.in_ok-urls.urls.items) (listed_locations rs found all c.in_ok-locations.ensures) are }
