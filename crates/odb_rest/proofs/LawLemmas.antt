@@ -23,7 +23,7 @@ use Rattle.odb_rest.specs.Units.{AreMarksOf, IsDone, IsInRest, IsLeftOut, marked
 use Rattle.odb_rest.specs.Units.IsLeftOut.{own, needing}
 
 -- an element at a position within
-slice_get-some : {X : Type 0} (xs : List X) (i : ℕ) → i < length xs → (x : X) × (slice_get xs i ≡ Some x)
+pub slice_get-some : {X : Type 0} (xs : List X) (i : ℕ) → i < length xs → (x : X) × (slice_get xs i ≡ Some x)
 slice_get-some [] i within = absurd (omega arith)
 slice_get-some (x ∷ xs) zero within = (x, refl)
 slice_get-some (x ∷ xs) (suc i) within = slice_get-some xs i (omega arith)

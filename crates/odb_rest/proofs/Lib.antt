@@ -4,3 +4,5 @@ pub mod PositionLemmas
 pub mod NameLemmas
 pub mod UrlLemmas
 pub mod LawLemmas
+pub mod DependsLemmas
+pub mod TextLemmas

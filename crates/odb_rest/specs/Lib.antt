@@ -5,5 +5,6 @@ pub mod Locations
 pub mod Rests
 pub mod Faults
 pub mod Laws
+pub mod Texts
 -- For invariants and private clauses: nothing to believe.
 pub mod Marks

@@ -7,10 +7,13 @@
 mod fault;
 pub mod laws;
 mod locations;
+mod names;
 mod repeat;
 mod rest;
+mod text;
 mod units;
 mod urls;
 
 pub use fault::RestFault;
 pub use rest::{Rest, rest_of};
+pub use text::rest_text;

@@ -24,8 +24,8 @@ use std::alloc::Global;
 /// What of a batch may be sent again, as a batch of its own: which units, and the URLs that change.
 #[derive(Drop)]
 pub struct Rest {
-    kept: Vec<bool>,
-    urls: Vec<Option<String>>,
+    pub(crate) kept: Vec<bool>,
+    pub(crate) urls: Vec<Option<String>>,
 }
 
 /// Returns the URL that each request gets in the rest, or the first F90.

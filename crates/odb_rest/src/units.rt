@@ -31,7 +31,7 @@ fn done_units(alloc: Global, plan: &Plan<'_>, table: &Table) -> Result<Vec<bool>
 }
 
 /// Returns whether the unit of what is needed has a mark.
-fn is_marked(plan: &Plan<'_>, units: &[bool], need: Need) -> bool
+pub(crate) fn is_marked(plan: &Plan<'_>, units: &[bool], need: Need) -> bool
     requires need { IsNeedAmong (length (plan_records plan.now)) (all.unit_count (plan_records plan.now)) need }
     requires count { length units.now ≡ all.unit_count (plan_records plan.now) }
     ensures { result ≡ marked units.now (unit_needed (plan_records plan.now) need) }

@@ -35,7 +35,7 @@ fn is_plain(alloc: Global, url: &str) -> Result<bool, AllocError>
 }
 
 /// Returns whether the request at a position is in the rest.
-fn is_kept(plan: &Plan<'_>, kept: &[bool], i: u32) -> bool
+pub(crate) fn is_kept(plan: &Plan<'_>, kept: &[bool], i: u32) -> bool
     requires request { i < length (plan_records plan.now) }
     requires count { length kept.now ≡ all.unit_count (plan_records plan.now) }
     ensures { result ≡ rests.is_kept (plan_records plan.now) kept.now i }
