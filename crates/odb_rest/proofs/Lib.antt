@@ -6,3 +6,4 @@ pub mod UrlLemmas
 pub mod LawLemmas
 pub mod DependsLemmas
 pub mod TextLemmas
+pub mod PlanLemmas

@@ -9,16 +9,21 @@ ghost use Rattle.odb_doc.specs.batch.Records.{Record};
 ghost use Rattle.odb_reply.specs.Fits.{Fits, IsTableOf};
 ghost use Rattle.odb_reply.specs.ResponseDocuments.{Entry};
 ghost use Rattle.odb_rest.specs.declared.rest.Rest.{Rest};
-ghost use Rattle.odb_rest.specs.Laws.{HasSucceeded, MayBeSent};
-ghost use Rattle.odb_rest.specs.Rests.{IsRestOf, records_in};
+ghost use Rattle.odb_rest.specs.Laws.{HasSucceeded, IsPartOfPlan, MayBeSent};
+ghost use Rattle.odb_rest.specs.Rests.{IsRestOf, kept, records_in};
 ghost use Rattle.odb_rest.specs.Units.{IsDone, IsInRest, IsLeftOut};
 
-/// The names of a rest fit together, so that [`odb_check::check`] returns a plan of it. If all requests of the
-/// batch have succeeded, the rest has no request.
+/// The names of a rest fit together, so that [`odb_check::check`] returns a plan of it. That plan is the plan of the
+/// batch over the requests in the rest: they have their order, their units, and those of their dependencies that are
+/// in the rest. A unit in the rest needs nothing that is left out. If all requests of the batch have succeeded, the
+/// rest has no request.
 pub fn every_rest()
     ensures accepted { (batch : List Record) (statuses : List ℕ) (locations : ℕ → Option (List ℕ))
         (rest : Rest) → HasGoodNames batch → IsRestOf batch statuses locations rest
         → HasGoodNames (records_in batch rest) }
+    ensures plan { (batch : List Record) (statuses : List ℕ) (locations : ℕ → Option (List ℕ))
+        (rest : Rest) → HasGoodNames batch → IsRestOf batch statuses locations rest
+        → IsPartOfPlan batch (kept rest) (records_in batch rest) }
     ensures nothing { (batch : List Record) (statuses : List ℕ) (locations : ℕ → Option (List ℕ))
         (rest : Rest) → IsRestOf batch statuses locations rest → HasSucceeded batch statuses
         → records_in batch rest ≡ [] }
