@@ -15,7 +15,7 @@ ghost use Rattle.odb_rest.specs.Units.{AreMarksOf, IsInRest};
 use crate::fault::RestFault;
 use crate::locations::locations_of;
 use crate::units::kept_units;
-use crate::urls::url_of;
+use crate::urls::{is_kept, url_of};
 use odb_check::Plan;
 use odb_reply::Table;
 use serde_json::Value;
@@ -26,6 +26,19 @@ use std::alloc::Global;
 pub struct Rest {
     pub(crate) kept: Vec<bool>,
     pub(crate) urls: Vec<Option<String>>,
+}
+
+impl Rest {
+    ghost use Rattle.odb_rest.specs.Rests.{is_kept, kept};
+
+    /// Returns whether the request at a position of the batch, counted from 0, is in the rest. `plan` is that of the batch.
+    pub fn contains(&self, plan: &Plan<'_>, i: u32) -> bool
+        requires request { i < length (plan_records plan.now) }
+        requires count { length (kept self.now) ≡ all.unit_count (plan_records plan.now) }
+        ensures { result ≡ is_kept (plan_records plan.now) (kept self.now) i }
+    {
+        is_kept(plan, &self.kept, i)
+    }
 }
 
 /// Returns the URL that each request gets in the rest, or the first F90.
