@@ -22,6 +22,8 @@ mod replies;
 #[cfg(test)]
 mod requests;
 #[cfg(test)]
+mod rests;
+#[cfg(test)]
 mod rows;
 #[cfg(test)]
 mod runs;

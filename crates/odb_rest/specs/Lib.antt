@@ -1,0 +1,10 @@
+-- What public clauses cite, and has to be believed.
+pub mod Repeats
+pub mod Units
+pub mod Locations
+pub mod Rests
+pub mod Faults
+pub mod Laws
+pub mod Texts
+-- For invariants and private clauses: nothing to believe.
+pub mod Marks
