@@ -12,6 +12,7 @@ mod SecondLemmas
 mod CourseLemmas
 mod TextLemmas
 mod MatchLemmas
+mod RestLemmas
 mod CanonLawLemmas
 mod MatchLawLemmas
 mod LiveLemmas

@@ -9,6 +9,7 @@ pub mod ReadAgain
 pub mod Replays
 pub mod Runs
 pub mod Matches
+pub mod Rests
 pub mod Contents
 pub mod Tasks
 pub mod FullPlans

@@ -14,7 +14,7 @@
 //! Another command is a relation in specs/, a variant of [`Task`], and a function in a file of its own that
 //! returns its text. [`answer_in_memory`] returns what a task writes of documents in memory, and [`answer_lines`]
 //! does an [`EachLine`] on each line of an input. `live` opens a run that its caller drives, and
-//! [`requests_in`] returns what is to be sent of each request.
+//! [`requests_in`] returns what is to be sent of each request, and [`rest_in`] what may be sent again of a batch.
 #![tactic(auto)]
 
 mod answer;
@@ -36,6 +36,7 @@ mod plan;
 mod replay;
 mod requests;
 mod response;
+mod rest;
 mod run;
 mod setup;
 mod source;
@@ -57,6 +58,7 @@ pub use match_responses::match_batch;
 pub use plan::plan_batch;
 pub use replay::replay_batch;
 pub use requests::requests_in;
+pub use rest::{rest_in, rest_written};
 pub use run::run_batch;
 pub use setup::Setup;
 pub use source::Source;

@@ -48,7 +48,7 @@ fn match_text(
 
 /// Returns the responses by which a match is decided: if the service stops at its first error, with those that
 /// it may leave out.
-fn decided<'a>(
+pub(crate) fn decided<'a>(
     alloc: Global,
     plan: &Plan<'a>,
     responses: Responses<'a>,

@@ -1,0 +1,55 @@
+-- What is written of the rest of a batch, by the response document of a service (OData JSON Format 4.01, sections 19.1 and
+-- 19.4).
+use Rattle.std.specs.Prelude.{◌≡◌, ◌⊎◌, ℕ, List, Bool, Some}
+use Rattle.serde_json.specs.Data.{Data}
+use Rattle.odb_doc.specs.declared.fault.Place.TheVariants as places
+use Rattle.odb_doc.specs.batch.Records.{Record}
+use Rattle.odb_doc.specs.Refusals.{Printed}
+use Rattle.odb_sched.specs.declared.policy.Mode.{Mode}
+use Rattle.odb_reply.specs.Fits.{Fits, IsTableOf}
+use Rattle.odb_reply.specs.ResponseDocuments.{Entry}
+use Rattle.odb_rest.specs.declared.fault.RestFault.{RestFault}
+use Rattle.odb_rest.specs.declared.rest.Rest.{Rest}
+use Rattle.odb_rest.specs.Faults.{RefusesRest, rest_row}
+use Rattle.odb_rest.specs.Locations.{recorded}
+use Rattle.odb_rest.specs.Rests.{IsRestOf}
+use Rattle.odb_rest.specs.Texts.{IsTextOf}
+use Rattle.odb_rest.specs.Units.{AreMarksOf, IsInRest}
+use Rattle.odb_send.specs.Parts.{IsBatchIn}
+use Rattle.odb_engine.specs.declared.ending.Ended.{Ended}
+use Rattle.odb_engine.specs.declared.ending.Ended.TheVariants.{Done}
+use Rattle.odb_engine.specs.Cascade.{Writes, Reports, OfDocument}
+use Rattle.odb_engine.specs.Matches.{IsFaultOfResponses, Lists, Misfits, decided}
+
+-- a request of the rest lacks a Location, and this is the first fault
+pub record LacksLocations (batch : List Record) (value : Data) (places statuses : List ℕ) (refusal : Printed) : Type 0 where
+  pub fault : RestFault
+  pub least : (units : List Bool) → AreMarksOf batch (IsInRest batch statuses) units → RefusesRest fault batch units (recorded value places)
+  pub is : rest_row fault ≡ Some refusal
+
+-- the text is that of the rest
+pub record PrintsRest (document : List ℕ) (batch : List Record) (value : Data) (places statuses : List ℕ) (ended : Ended) (text : List ℕ) : Type 0 where
+  pub rest : Rest
+  pub rest_is : IsRestOf batch statuses (recorded value places) rest
+  pub text_is : (d : Data) → IsBatchIn document d batch → IsTextOf document d batch rest text
+  pub ends : ended ≡ Done
+
+-- the responses fit the batch, and this is written of its rest
+pub record RestsFit (document : List ℕ) (batch : List Record) (value : Data) (entries : List Entry) (ended : Ended) (text : List ℕ) : Type 0 where
+  pub fits : Fits batch entries
+  pub places : List ℕ
+  pub statuses : List ℕ
+  pub table : IsTableOf batch entries places statuses
+  pub writes : Reports (LacksLocations batch value places statuses) ended text ⊎ PrintsRest document batch value places statuses ended text
+
+-- what is written of a batch and of responses
+abbrev pub RestsEntries : List ℕ → List Record → Data → List Entry → Writes
+RestsEntries document batch value entries ended text = Reports (Misfits batch entries) ended text ⊎ RestsFit document batch value entries ended text
+
+-- what is written of the batch in a document and the value of a response document, by whether an error stops the service
+abbrev pub RestsValue : Mode → List ℕ → List Record → Data → Writes
+RestsValue mode document batch value ended text = Reports (IsFaultOfResponses value) ended text ⊎ ((entries : List Entry) × Lists value entries × RestsEntries document batch value (decided mode batch entries) ended text)
+
+-- the same of the bytes of a response document
+abbrev pub RestsIn : Mode → List ℕ → List ℕ → List Record → Writes
+RestsIn mode document responses batch = OfDocument places.Responses (RestsValue mode document batch) responses
