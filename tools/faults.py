@@ -32,7 +32,7 @@ FILES = {
     "names": (r"F[34]\d", "ids, groups, names and references"),
     "records": (r"F[56]\d", "texts, recorded outcomes and recorded events"),
     "responses": (r"F7\d", "the responses of a service"),
-    "runs": (r"F8\d|[SP]\d", "executions, and events that may not come"),
+    "runs": (r"F[89]\d|[SP]\d", "executions, the rest of a batch, and events that may not come"),
 }
 
 

@@ -21,16 +21,16 @@ LABEL = r'= (?:Some \(fault_at |\()(\d+),? \(?codes "(\w+)"'
 SOURCES, SPECS = "crates/*/src/**/*.rt", "crates/*/specs/**/*.antt"
 
 # What a fault has no place in: of which codes, and why.
-OF_SERVICES = "the program performs no requests, so it cannot print it"
+NOT_PRINTED = "no command prints it"
 NOT_ASKED = {
     "when it is broken": (r"F07|F50|F6[56]|F70|F8\d", "the relation of its call says it"),
     "variant with its message": ("F07|F66", "a constant of odb_engine, and no variant"),
     "where code finds it": ("F07|F66", "the constant is used beside it"),
-    "rule of docs/batches.md": (r"F07|F50|F6\d|F70|F8\d|[SP]\d", "no rule of batches"),
+    "rule of docs/batches.md": (r"F07|F50|F6\d|F70|F[89]\d|[SP]\d", "no rule of batches"),
     "test of its message": ("F07|F66", "it has no message"),
-    "plain name": ("F8[12]", OF_SERVICES),
-    "plain rule": ("F8[12]", OF_SERVICES),
-    "case": ("F8[12]", OF_SERVICES),
+    "plain name": ("F8[12]|F90", NOT_PRINTED),
+    "plain rule": ("F8[12]|F90", NOT_PRINTED),
+    "case": ("F8[12]|F90", NOT_PRINTED),
 }
 
 

@@ -221,6 +221,10 @@ EXPLANATIONS = {
         "The service returned a status below 200 or above 599, which is not the final status of a request.\n"
         "Correct the service."
     ),
+    "F90": (
+        "The request may be sent again, but its URL refers to one that is not sent again, and the response to that\n"
+        "one records no Location that could take the place of the reference. Send the request by itself."
+    ),
     "S1": (
         "The request was started before, and a request is sent once. Look for the event that was recorded twice."
     ),

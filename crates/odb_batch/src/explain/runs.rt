@@ -1,7 +1,7 @@
 // Generated from docs/faults.md by tools/faults.py --write; do not edit.
-//! The faults of executions, and events that may not come.
+//! The faults of executions, the rest of a batch, and events that may not come.
 
-pub const FAULTS: [&str; 10] = [
+pub const FAULTS: [&str; 11] = [
     r#"F80 NoOutcome /requests/N
 The request was started, and the service has no outcome for it; in replay, the record has none with
 its id. Requests that are never started need none. Add the outcome to the record.
@@ -17,6 +17,11 @@ The service returned a status below 200 or above 599, which is not the final sta
 Correct the service.
 refused: a service that returns the status 199
 accepted: a service that returns the status 200"#,
+    r#"F90 NoLocation /requests/N
+The request may be sent again, but its URL refers to one that is not sent again, and the response to that
+one records no Location that could take the place of the reference. Send the request by itself.
+refused: for the URL $1/Lines, the response {"id":"1","status":201}
+accepted: the response {"id":"1","status":201,"headers":{"Location":"Orders(7)"}}"#,
     r#"S1 AlreadyStarted /events/N
 The request was started before, and a request is sent once. Look for the event that was recorded twice.
 refused: {"events":[{"start":"1"},{"start":"1"}]}

@@ -1,8 +1,9 @@
-//! The messages of the refusals of events, and of the faults of executions.
+//! The messages of the refusals of events, and of the faults of executions and of rests.
 
 use super::compare;
 use odb_check::Need;
 use odb_exec::{ExecFault, ServiceFault};
+use odb_rest::RestFault;
 use odb_sched::{ReportRefusal, RunRefusal, StartRefusal};
 use std::alloc::Global;
 use std::test::Fail;
@@ -67,6 +68,15 @@ const EXECUTIONS: &[(ExecFault, &str)] = &[
     (ExecFault::OutOfMemory, "out of memory"),
 ];
 
+/// F90.
+const RESTS: &[(RestFault, &str)] = &[
+    (
+        RestFault::NoLocation { at: 11 },
+        "request 11: no `Location` is recorded for the request that its URL refers to",
+    ),
+    (RestFault::OutOfMemory, "out of memory"),
+];
+
 const SERVICES: &[(ServiceFault, &str)] = &[
     (
         ServiceFault::NoOutcome,
@@ -81,6 +91,7 @@ fn compare_runs(alloc: Global) -> Result<(), Fail> {
     compare(alloc, REPORTS)?;
     compare(alloc, RUNS)?;
     compare(alloc, EXECUTIONS)?;
+    compare(alloc, RESTS)?;
     compare(alloc, SERVICES)
 }
 
