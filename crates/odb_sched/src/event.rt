@@ -1,6 +1,6 @@
 //! Events of a run, recorded events, and steps: events without their outcomes.
 
-ghost use Rattle.std.specs.Prelude.{◌≡◌, ◌<◌, true, length, All, OnOk, IfOk, IfErr, IsErr, List, Some};
+ghost use Rattle.std.specs.Prelude.{◌≡◌, ◌≢◌, ◌<◌, [], true, length, All, Err, OnOk, IfOk, IfErr, IsErr, List, Some};
 ghost use Rattle.odb_check.specs.Plans.{plan_records};
 ghost use Rattle.odb_sched.specs.run.State as state;
 ghost use Rattle.odb_sched.specs.run.Steps.{may_come};
@@ -182,7 +182,8 @@ fn resolved(plan: &Plan<'_>, at: usize, event: NamedEvent) -> Result<Event, Reso
 ///
 /// # Errors
 ///
-/// F65 for the first event whose id the plan does not have; `OutOfMemory` if an allocation fails.
+/// F65 for the first event whose id the plan does not have; `OutOfMemory` if an allocation fails, which
+/// no events need.
 pub fn resolve(alloc: Global, plan: &Plan<'_>, events: Events) -> Result<Vec<Event>, ResolveFault>
     ensures known { OnOk result (All (IsKnown (plan_records plan.now)) (entries events)) }
     ensures events { IfOk result (λ found. AllZip (IsResolved (plan_records plan.now))
@@ -191,6 +192,7 @@ pub fn resolve(alloc: Global, plan: &Plan<'_>, events: Events) -> Result<Vec<Eve
         < length (plan_records plan.now)) found.items) }
     ensures least { IfErr result (λ fault. RefusesNamed fault (plan_records plan.now)
         (entries events)) }
+    ensures memory { result ≡ Err OutOfMemory → entries events ≢ [] }
 {
     let mut found = Vec::with_capacity(alloc, events.len())?;
     for event in events.into_vec() {
