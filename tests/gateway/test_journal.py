@@ -291,7 +291,7 @@ def test_a_batch_goes_on_wherever_its_journal_ends(pair, tmp_path):
 
 
 @pytest.mark.parametrize("change", [
-    {"batch": BATCH + " "}, {"Prefer": "return=minimal"}, {"Authorization": "Bearer 2"}, {"Cookie": "a=b"},
+    {"batch": BATCH + " "}, {"Prefer": ""}, {"Prefer": "continue-on-error, return=minimal"}, {"Authorization": "Bearer 2"}, {"Cookie": "a=b"},
     {"path": "/other/$batch"}, {"X_Api_Key": "2"},
 ], ids=str)  # fmt: skip
 def test_another_batch_under_the_same_id(pair, change):

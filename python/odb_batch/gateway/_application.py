@@ -168,8 +168,8 @@ class Gateway:
 
     def _sender(self, request: web.Request, headers: Dict[str, str]) -> str:
         """What has to be the same beside the batch if it is sent again; else a client could read answers of another."""
-        credentials = (headers.get(name, "") for name in self._options.credentials)
-        return digest(*map(str.encode, (request.path, str(self._options.forwards), *credentials)))
+        same = (headers.get(name, "") for name in ("prefer", *self._options.credentials))
+        return digest(*map(str.encode, (request.path, str(self._options.forwards), *same)))
 
     async def _repeatable(
         self, journals: Journals, id: bytes, first: bytes, batch: bytes, performance: Performance
