@@ -86,7 +86,11 @@ def test_a_torn_line_is_dropped(tmp_path):
         assert (events_of(journals), os.listdir(tmp_path)) == ([], [])  # nothing has happened, so no file is left
 
 
-@pytest.mark.parametrize("line", [b"{}\n", b"[]\n", b"x\n", b'{"report":"a","status":200}\n', b'{"start":7}\n'])
+@pytest.mark.parametrize("line", [
+    b"{}\n", b"[]\n", b"x\n", b'{"report":"a","status":200}\n', b'{"start":7}\n', b'{"start":[]}\n', b'{"start":[7]}\n',
+    b'{"start":[[]]}\n', b'{"report":"a","status":"200","headers":{},"body":null}\n',
+    b'{"report":"a","status":200,"headers":7,"body":null}\n',
+])  # fmt: skip
 def test_a_damaged_file_is_not_gone_on_with(tmp_path, line, upstream, front):
     service = upstream()
     it = front("--upstream", service.url, "--journal", str(tmp_path), "--groups", "forward")

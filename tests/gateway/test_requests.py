@@ -111,6 +111,25 @@ def test_a_host_of_the_client_is_not_that_of_the_service(upstream, front):
     assert not {"x-hop", "prefer", "content-type", "accept"} & seen.headers.keys()
 
 
+@pytest.mark.parametrize("proto", ["https", "https, http"])
+def test_a_service_that_writes_the_host_that_a_proxy_has_seen(upstream, front, proto):
+    from aiohttp import web
+
+    def answer(seen):
+        place = f"{seen.headers['x-forwarded-proto']}://{seen.headers['x-forwarded-host'].partition(',')[0]}{seen.path}(1)"
+        return web.Response(status=201, headers={"Location": place})
+
+    service = upstream(answer)
+    headers = {**CONTINUE, "Host": "inner:8090", "X-Forwarded-Host": "public, middle", "X-Forwarded-Proto": proto}
+    it = front("--route", f"/odata/Orders={service.url}/v2/Orders")
+    found = it.batch(
+        {"method": "post", "url": "Orders"}, {"url": "$r0", "dependsOn": ["r0"]},
+        {"url": "http://inner:8090/odata/Orders"}, headers=headers
+    )  # fmt: skip
+    assert found["r0"]["headers"]["location"] == "https://public/odata/Orders(1)"
+    assert sorted(service.paths) == ["/v2/Orders", "/v2/Orders", "/v2/Orders(1)"]
+
+
 BROKEN = {
     "hang-up": (502, "BadGateway"), "half": (502, "BadGateway"), "gzip": (502, "Encoded"), "hang": (504, "Timeout"),
     "big": (507, "TooLong"),
@@ -151,6 +170,40 @@ def test_a_service_that_speaks_no_http(loop, front):
     it = front("--upstream", f"http://127.0.0.1:{server.sockets[0].getsockname()[1]}")
     assert it.statuses({"url": "x"}) == [502]
     server.close()
+
+
+@pytest.mark.parametrize("status, coding, wanted", [
+    (200, "gzip", 502), (200, "Identity", 200), (200, "identity, br", 502), (200, "", 200), (204, "gzip", 204),
+])  # fmt: skip
+def test_codings_of_answers(upstream, front, status, coding, wanted):
+    from aiohttp import web
+
+    service = upstream(lambda seen: web.Response(status=status, headers={"Content-Encoding": coding}))
+    assert front("--upstream", service.url).statuses({"method": "delete", "url": "x"}) == [wanted]
+
+
+def test_no_request_is_sent_twice_by_a_library(upstream, loop):
+    """Newer versions of aiohttp try again by themselves what an older one sends again for a redirect alone."""
+    import aiohttp
+    from aiohttp import web
+
+    from odb_batch.gateway._metrics import Metrics
+    from odb_batch.gateway._options import options_of
+    from odb_batch.gateway._upstreams import Upstreams
+
+    service = upstream(lambda seen: web.Response(status=307, headers={"Location": "/again"}))
+
+    async def send():
+        upstreams = Upstreams(options_of(["--upstream", service.url]), Metrics({}))
+        await upstreams.open()
+        try:
+            await upstreams._session.delete(service.url + "/x")
+        finally:
+            await upstreams.close()
+
+    with pytest.raises(aiohttp.ClientConnectionError):
+        loop.run(send())
+    assert service.paths == ["/x"]
 
 
 @pytest.mark.parametrize("method, path, body, headers, status, code", [

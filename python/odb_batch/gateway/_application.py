@@ -8,7 +8,7 @@ from typing import AsyncIterator, Dict, Optional
 from aiohttp import web
 
 from .._answers import FAILED, LOG
-from .._endpoint import Outer, folder_of, message_of, performed, refused, too_long
+from .._endpoint import Outer, folder_of, forwarded_hosts, message_of, performed, refused, too_long
 from .._faults import Fault
 from .._messages import Answer, Refusal, header_dict
 from ._journal import FileJournal, Journals, digest, identity
@@ -137,7 +137,7 @@ class Gateway:
     def _performance(self, request: web.Request) -> Performance:
         """How the batch of a request is performed; raises Refusal if it is not one."""
         headers = _headers(request)
-        scheme = headers.get("x-forwarded-proto", request.scheme).lower()
+        scheme = headers.get("x-forwarded-proto", "").partition(",")[0].strip().lower()
         scheme = scheme if scheme in ("http", "https") else request.scheme
         outer = Outer(request.method, scheme, request.host, folder_of(request.path), "/", headers)
         peers = filter(None, (headers.get("x-forwarded-for"), request.remote))
@@ -146,7 +146,8 @@ class Gateway:
             "x-forwarded-host": headers.get("x-forwarded-host", request.host),
             "x-forwarded-proto": scheme,
         }
-        return Performance(self._options, self._routes, self._upstreams, self._metrics, outer, forwarded)
+        seen = f"{scheme}://{next(iter(forwarded_hosts(headers)), request.host)}/"
+        return Performance(self._options, self._routes, self._upstreams, self._metrics, outer, forwarded, seen)
 
     async def _performed(self, request: web.Request, performance: Performance) -> Answer:
         """Performs a batch; raises what it is refused by."""

@@ -22,7 +22,7 @@ def main(words: Sequence[str]) -> int:
     try:
         asyncio.run(_serve(options))
     except OSError as error:
-        print(f"error: {error.filename or ''}{': ' if error.filename else ''}{error.strerror}", file=sys.stderr)
+        print(f"error: {error.filename or ''}{': ' if error.filename else ''}{error.strerror or error}", file=sys.stderr)
         return UNUSABLE
     return 0
 

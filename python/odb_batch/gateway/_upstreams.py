@@ -2,7 +2,7 @@
 
 import asyncio
 import time
-from typing import Dict, NamedTuple, Optional
+from typing import Any, Dict, NamedTuple, Optional
 
 import aiohttp
 from yarl import URL
@@ -15,6 +15,13 @@ from ._options import Options
 # Shorter than a server keeps a connection without requests, or one might be sent while it closes it.
 _KEEPALIVE = 1.0
 _PART = 65_536
+
+
+async def _sent_once(_: aiohttp.ClientSession, context: Any, __: Any) -> None:
+    """Lets a request be sent once: newer versions of aiohttp send a PUT or a DELETE again if a connection breaks."""
+    if getattr(context, "is_sent", False):
+        raise aiohttp.ClientConnectionError("the request was sent before")
+    context.is_sent = True
 
 
 class Outgoing(NamedTuple):
@@ -41,11 +48,14 @@ class Upstreams:
     async def open(self) -> None:
         """Makes what belongs to the running loop."""
         self._places = asyncio.Semaphore(self._options.connections)
+        tracing = aiohttp.TraceConfig()
+        tracing.on_request_headers_sent.append(_sent_once)
         self._session = aiohttp.ClientSession(
             connector=aiohttp.TCPConnector(limit=0, keepalive_timeout=_KEEPALIVE),
             timeout=aiohttp.ClientTimeout(self._options.timeout),
             cookie_jar=aiohttp.DummyCookieJar(),
             auto_decompress=False,
+            trace_configs=[tracing],
             skip_auto_headers=("User-Agent", "Accept", "Accept-Encoding", "Content-Type"),
         )
 
@@ -102,7 +112,8 @@ class Upstreams:
         async with self._session.request(
             request.method, url, headers=headers, data=request.body or None, allow_redirects=False
         ) as answer:
-            if answer.headers.get("Content-Encoding", "identity") != "identity":
+            coding = answer.headers.get("Content-Encoding", "").strip().lower()
+            if coding not in ("", "identity") and answer.status not in (204, 304):
                 raise Refusal(502, "Encoded", "The service has compressed its answer, though it was not asked to")
             while len(body) <= room.left and (part := await answer.content.read(_PART)):
                 body += part
