@@ -87,10 +87,10 @@ def test_a_torn_line_is_dropped(tmp_path):
 
 
 @pytest.mark.parametrize("line", [
-    b"{}\n", b"[]\n", b"x\n", b'{"report":"a","status":200}\n', b'{"start":7}\n', b'{"start":[]}\n', b'{"start":[7]}\n',
+    b"{}\n", b"[]\n", b"x\n", b"[" * 100_000 + b"\n", b'{"report":"a","status":200}\n', b'{"start":7}\n', b'{"start":[]}\n', b'{"start":[7]}\n',
     b'{"start":[[]]}\n', b'{"report":"a","status":"200","headers":{},"body":null}\n',
     b'{"report":"a","status":200,"headers":7,"body":null}\n',
-])  # fmt: skip
+], ids=range(11))  # fmt: skip
 def test_a_damaged_file_is_not_gone_on_with(tmp_path, line, upstream, front):
     service = upstream()
     it = front("--upstream", service.url, "--journal", str(tmp_path), "--groups", "forward")
@@ -215,6 +215,21 @@ def test_a_batch_that_goes_on_just_before_it_is_removed_is_kept(tmp_path, monkey
     monkeypatch.setattr(_journal, "_locked", lambda *given: (os.utime(path), locked(*given))[1])
     journals.prune()
     assert os.path.exists(path)
+
+
+def test_old_files_are_looked_for_again_after_an_error(tmp_path, monkeypatch, front):
+    calls = []
+
+    def prune(journals):
+        calls.append(journals)
+        raise OSError(24, "Too many open files")
+
+    monkeypatch.setattr(Journals, "prune", prune)
+    front("--upstream", "http://127.0.0.1:1/", "--journal", str(tmp_path), "--keep", "0.01")
+    end = time.monotonic() + 5
+    while len(calls) < 3 and time.monotonic() < end:
+        time.sleep(0.01)
+    assert len(calls) >= 3
 
 
 @pytest.mark.parametrize("folder", ["no", "file"])

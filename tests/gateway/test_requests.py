@@ -223,6 +223,13 @@ def test_what_is_refused(upstream, front, method, path, body, headers, status, c
     assert (found, json.loads(text)["error"]["code"], service.seen) == (status, code, [])
 
 
+def test_a_path_that_is_not_utf_8(upstream, front):
+    it = front("--upstream", upstream().url)
+    with socket.create_connection(("127.0.0.1", it.port), 10) as client:
+        client.sendall(b"POST /od\xff/$batch HTTP/1.1\r\nHost: a\r\nConnection: close\r\nContent-Length: 0\r\n\r\n")
+        assert client.makefile("rb").readline().split()[1] == b"400"
+
+
 def test_headers_that_a_proxy_would_set(upstream, front):
     service = upstream()
     found = front("--upstream", service.url).batch({"url": "Books", "headers": {"X-Forwarded-For": "127.0.0.1"}})

@@ -86,7 +86,10 @@ class Gateway:
     async def _prune(self) -> None:
         loop = asyncio.get_running_loop()
         while self._journals is not None:
-            await loop.run_in_executor(None, self._journals.prune)
+            try:
+                await loop.run_in_executor(None, self._journals.prune)
+            except OSError as error:
+                LOG.error("old journals cannot be removed: %s", error)
             await asyncio.sleep(min(_PRUNE_SECONDS, self._options.keep))
 
     # Probes and metrics
@@ -206,9 +209,9 @@ def _headers(request: web.Request) -> Dict[str, str]:
     headers = header_dict(request.headers.items())
     dropped = {name.strip().lower() for name in headers.get("connection", "").split(",")}
     try:
-        "".join(headers.values()).encode()
+        "".join((request.path, *headers.values())).encode()
     except UnicodeEncodeError:
-        raise Refusal(400, "BadHeader", "A header has bytes that are not UTF-8") from None
+        raise Refusal(400, "BadHeader", "The URL or a header has bytes that are not UTF-8") from None
     return {name: value for name, value in headers.items() if name not in dropped}
 
 

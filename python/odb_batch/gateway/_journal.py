@@ -187,7 +187,7 @@ def _whole(lines: List[bytes]) -> List[bytes]:
 def _is_whole(line: bytes) -> bool:
     try:
         return line.endswith(b"\n") and isinstance(json.loads(line), dict)
-    except ValueError:
+    except (ValueError, RecursionError):
         return False
 
 
@@ -219,5 +219,5 @@ def _event(line: bytes) -> JournalEvent:
             return Stop()
         start = members["start"]
         return Start(start) if isinstance(start, str) else StartUnit(tuple(start))
-    except (ValueError, KeyError, TypeError, AttributeError):
+    except (ValueError, KeyError, TypeError, AttributeError, RecursionError):
         raise _DAMAGED() from None
