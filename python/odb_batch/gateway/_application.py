@@ -154,13 +154,13 @@ class Gateway:
 
     async def _performed(self, request: web.Request, performance: Performance) -> Answer:
         """Performs a batch; raises what it is refused by."""
-        if self._upstreams.is_stopping:
-            raise Refusal(503, "Stopping", "The gateway stops", retry_after="1")
+        self._require_running()
         if self._metrics.batches_running >= self._options.batches:
             raise Refusal(503, "Busy", "There are as many batches as may be at once", retry_after="1")
         self._metrics.batches_running += 1
         try:
             batch = await self._read(request)
+            self._require_running()
             headers = _headers(request)
             id = headers.get("repeatability-request-id", "").encode()
             if self._journals is None or not id:
@@ -169,6 +169,10 @@ class Gateway:
             return await self._repeatable(self._journals, id, first, batch, performance)
         finally:
             self._metrics.batches_running -= 1
+
+    def _require_running(self) -> None:
+        if self._upstreams.is_stopping:
+            raise Refusal(503, "Stopping", "The gateway stops", retry_after="1")
 
     def _sender(self, request: web.Request, headers: Dict[str, str]) -> str:
         """What has to be the same beside the batch if it is sent again; else a client could read answers of another."""
