@@ -61,6 +61,12 @@ def test_what_a_service_calls_by_its_own_urls(sent, place, wanted):
     assert ROUTES.public(BASE, sent, place) == wanted
 
 
+@pytest.mark.parametrize("place", ["/v2//evil/x", "/v2/.//evil/x"])
+def test_a_path_of_a_service_is_not_shown_as_another_host(place):
+    routes = Routes(options_of(["--route", "/=http://main/v2/"]).routes)
+    assert routes.public(BASE, "http://main/v2/x", place) == "http://public//evil/x"
+
+
 def test_a_path_is_normalized_but_for_what_has_a_meaning():
     assert normalized("/%41%2f%3f%23%25%3B%c3%bc%27%28%29%24") == "/A%2F%3F%23%25%3B%C3%BC'()$"
 

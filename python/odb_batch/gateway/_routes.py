@@ -82,7 +82,6 @@ class Routes:
             host = _host(found)
         except ValueError:
             return place
-        front = seen[:2] if given.netloc else ("", "")
         path = normalized(found.path)
         if host == _host(seen):
             # A service that knows the host of the clients may know their paths, too.
@@ -91,7 +90,10 @@ class Routes:
             host = _host(urlsplit(sent))
         for known, prefix, route in self._places:
             if known == host and _takes(prefix, path):
-                return urlunsplit((*front, route.prefix + path[len(prefix) :], found.query, found.fragment))
+                path = route.prefix + path[len(prefix) :]
+                # Without its host a path that begins with // would name another one.
+                front = seen[:2] if given.netloc or path.startswith("//") else ("", "")
+                return urlunsplit((*front, path, found.query, found.fragment))
         return place
 
 
