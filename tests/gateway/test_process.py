@@ -127,6 +127,15 @@ def test_a_line_of_log_for_each_batch_and_each_request(upstream, running):
     assert lines[3] == [*batch, "status=400", "code=F02", "sent=0", "failed=0"]
 
 
+def test_what_is_not_http_is_not_in_the_log(upstream, running):
+    it = running("--upstream", upstream().url)
+    with socket.create_connection(("127.0.0.1", it.port), SECONDS) as client:
+        client.sendall(b"POST /odata/$batch HTTP/1.1\r\nHost: a\r\nAuthorization: secret\1\r\n\r\n")
+        assert client.makefile("rb").readline().split()[1] == b"400"
+    _, text = it.stop(signal.SIGTERM)
+    assert len(text.splitlines()) == 1 and "secret" not in text
+
+
 def test_metrics_at_a_port_of_their_own(upstream, running):
     with socket.create_server(("127.0.0.1", 0)) as free:
         port = free.getsockname()[1]
