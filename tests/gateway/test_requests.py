@@ -182,7 +182,8 @@ def test_codings_of_answers(upstream, front, status, coding, wanted):
     assert front("--upstream", service.url).statuses({"method": "delete", "url": "x"}) == [wanted]
 
 
-def test_no_request_is_sent_twice_by_a_library(upstream, loop):
+@pytest.mark.parametrize("method", ["DELETE", "PUT"])
+def test_no_request_is_sent_twice_by_a_library(upstream, loop, method):
     """Newer versions of aiohttp try again by themselves what an older one sends again for a redirect alone."""
     import aiohttp
     from aiohttp import web
@@ -197,7 +198,7 @@ def test_no_request_is_sent_twice_by_a_library(upstream, loop):
         upstreams = Upstreams(options_of(["--upstream", service.url]), Metrics({}))
         await upstreams.open()
         try:
-            await upstreams._session.delete(service.url + "/x")
+            await upstreams.session(method).request(method, service.url + "/x")
         finally:
             await upstreams.close()
 

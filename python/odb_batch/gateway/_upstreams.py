@@ -2,7 +2,7 @@
 
 import asyncio
 import time
-from typing import Any, Dict, NamedTuple, Optional
+from typing import Any, Dict, NamedTuple
 
 import aiohttp
 from yarl import URL
@@ -43,31 +43,40 @@ class Upstreams:
     def __init__(self, options: Options, metrics: Metrics) -> None:
         self._options, self._metrics = options, metrics
         self.is_stopping = self._is_given_up = False
-        self._session: Optional[aiohttp.ClientSession] = None
 
     async def open(self) -> None:
         """Makes what belongs to the running loop."""
         self._places = asyncio.Semaphore(self._options.connections)
+        self._connector = aiohttp.TCPConnector(limit=0, keepalive_timeout=_KEEPALIVE)
         tracing = aiohttp.TraceConfig()
         tracing.on_request_headers_sent.append(_sent_once)
-        self._session = aiohttp.ClientSession(
-            connector=aiohttp.TCPConnector(limit=0, keepalive_timeout=_KEEPALIVE),
+        # Tracing takes its time, so no other request is traced.
+        self._usual, self._once = self._opened(), self._opened(tracing)
+
+    def _opened(self, *tracing: aiohttp.TraceConfig) -> aiohttp.ClientSession:
+        return aiohttp.ClientSession(
+            connector=self._connector,
+            connector_owner=False,
             timeout=aiohttp.ClientTimeout(self._options.timeout),
             cookie_jar=aiohttp.DummyCookieJar(),
             auto_decompress=False,
-            trace_configs=[tracing],
+            trace_configs=list(tracing),
             skip_auto_headers=("User-Agent", "Accept", "Accept-Encoding", "Content-Type"),
         )
 
+    def session(self, method: str) -> aiohttp.ClientSession:
+        """Returns the session that sends a request with a method, and not twice unless it is a GET."""
+        return self._once if method in ("DELETE", "PUT") else self._usual
+
     async def close(self) -> None:
-        if self._session is not None:
-            await self._session.close()
+        for session in (self._usual, self._once):
+            await session.close()
+        await self._connector.close()
 
     async def give_up(self) -> None:
         """Breaks what is on its way off: it is answered 504 ``Stopped``."""
         self._is_given_up = True
-        if self._session is not None and self._session.connector is not None:
-            await self._session.connector.close()
+        await self._connector.close()
 
     async def send(self, request: Outgoing, room: Room) -> Answer:
         """Sends a request, and returns its answer with whole body.
@@ -106,10 +115,9 @@ class Upstreams:
 
     async def _exchanged(self, request: Outgoing, room: Room) -> Answer:
         """The answer of a service, with more of its body than there is room for at most by a part."""
-        assert self._session is not None
         headers = {"accept-encoding": "identity", **request.headers}
         url, body = URL(request.url, encoded=True), bytearray()
-        async with self._session.request(
+        async with self.session(request.method).request(
             request.method, url, headers=headers, data=request.body or None, allow_redirects=False
         ) as answer:
             coding = answer.headers.get("Content-Encoding", "").strip().lower()
