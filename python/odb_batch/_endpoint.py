@@ -106,7 +106,7 @@ class Outer:
         if not _is_authority(host):
             raise Refusal(400, "BadHost", "The host is not a name with a port")
         self.base = f"{scheme}://{host}{quote(folder, _PLAIN)}"
-        hosts = dict.fromkeys((host, *_forwarded_hosts(headers)))
+        hosts = dict.fromkeys((host, *forwarded_hosts(headers)))
         self.roots = [f"{it}://{name}{quote(root, _PLAIN)}" for name in hosts for it in ("http", "https")]
         self._allowed = _ALLOWED.union(allowed)
         wanted = preferences(headers)
@@ -145,8 +145,8 @@ class Outer:
         return headers
 
 
-def _forwarded_hosts(headers: Mapping[str, str]) -> List[str]:
-    """The hosts that a client has asked, by what proxies say."""
+def forwarded_hosts(headers: Mapping[str, str]) -> List[str]:
+    """Returns the hosts that a client has asked, by what proxies say."""
     named = headers.get("x-forwarded-host", "").split(",") + _FORWARDED.findall(headers.get("forwarded", ""))
     return [host for host in map(str.strip, named) if host and _is_authority(host)]
 

@@ -72,6 +72,7 @@ class Preparation:
         replaced; raises Refusal as `prepared` does."""
         given, headers = self._requests[id], self.headers(id, group)
         if given.reference in group:
+            self._service.require_below(given.rest)
             return given._replace(headers=headers)
         url = self.url(id)
         return given._replace(url=url, reference=None, rest=url, headers=headers)

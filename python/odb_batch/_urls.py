@@ -77,10 +77,19 @@ class Service:
         path, query = quote(parts.path, _PLAIN + "~"), quote(parts.query, _PLAIN + "~?")
         return urlunsplit((parts.scheme, parts.netloc, path, query, ""))
 
+    def require_below(self, rest: str) -> None:
+        """Raises Refusal, as `target` does, if what follows a reference may lead out of what that stands for."""
+        if self._places and not _stays_below(unquote(urlsplit(f"x{rest}").path)):
+            raise Refusal(404, "NotFound", f"The URL leads out of {self._roots[0]}")
+
     def _has(self, scheme: str, netloc: str, path: str) -> bool:
         """Whether a URL is below a root, by its parts and its decoded path."""
-        # Servers take \ for / and drop what follows a ; in a segment, so these count here, too.
-        segments = [segment.partition(";")[0] for segment in path.replace("\\", "/").split("/")]
-        if ".." in segments or not path.isprintable():
-            return False
-        return any(place[:2] == (scheme, netloc) and path.startswith(place[2]) for place in self._places)
+        below = (it for it in self._places if it[:2] == (scheme, netloc) and path.startswith(it[2]))
+        return any(below) and _stays_below(path)
+
+
+def _stays_below(path: str) -> bool:
+    """Whether a decoded path has no segment that leads up, and no character that cannot be printed."""
+    # Servers take \ for / and drop what follows a ; in a segment, so these count here, too.
+    segments = [segment.partition(";")[0] for segment in path.replace("\\", "/").split("/")]
+    return ".." not in segments and path.isprintable()

@@ -98,7 +98,7 @@ class Work:
         self._run = Run(document, mode=mode, width=MAX_WIDTH if happened else width)
         try:
             self.resumed = self._resume(happened)
-        except (Fault, Refused, KeyError) as error:
+        except (Fault, Refused, LookupError, TypeError, ValueError) as error:
             self._run.close()
             raise ValueError(f"the journal has an event that is not one of this batch: {error}") from None
 

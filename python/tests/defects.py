@@ -30,15 +30,15 @@ DEFECTS = {
         "asyncio.ensure_future(self._middleware.app(scope, exchange.receive, exchange.send)); await asyncio.sleep(0.01)",
         MIDDLEWARE, "when_the_application_returns",
     ),
-    "dots-in-paths": ("_urls", 'if ".." in segments or', "if", MIDDLEWARE, "lead_out"),
-    "any-host": ("_urls", "place[:2] == (scheme, netloc) and ", "", PERFORM, "outside_of_the_base"),
+    "dots-in-paths": ("_urls", '".." not in segments and ', "", MIDDLEWARE, "lead_out"),
+    "any-host": ("_urls", "it[:2] == (scheme, netloc) and ", "", PERFORM, "outside_of_the_base"),
     "queries-in-references": ("_urls", 'parts.path.rstrip("/"), "", ""', 'parts.path.rstrip("/"), parts.query, ""', PERFORM, "location"),
     "urls-in-a-body-without-its-context": (
         "_answers", '_first(entity, ("@context", "@odata.context"))', "None", PERFORM, "created_or_returned",
     ),
     "any-status": ("_answers", "if 200 <= status <= 599 else 502", "", PERFORM, "an_answer_that_is_none"),
     "a-late-stop": ("_work", "except Refused:\n                continue", "except KeyError:\n                continue", PERFORM, "while_a_unit_begins"),
-    "no-stop": ("_work", "if self._stop is not None and self._stop():", "if False:", PERFORM, "a_stop_answers"),
+    "no-stop": ("_work", "and not self._is_stopped and self._stop():", "and False:", PERFORM, "a_stop_answers"),
     "broken-json-ends-all": ("_work", "except Fault:", "except KeyError:", PERFORM, "of_answers"),
     "a-place-that-stays-free": ("_perform_async", "self._begin()\n        except", "self._out or self._begin()\n        except", PERFORM, "place"),
     "any-number-of-requests": ("_work", "if len(given) > limit:", "if False:", PERFORM, "that_is_refused"),
@@ -59,7 +59,7 @@ DEFECTS = {
     "half-a-group": ("client/_batch", "del self._requests[begun:]", "pass", BUILDING, "block_that_fails"),
     "digits-of-a-decimal": ("_documents", "raise _HasDecimal", "return float(value)", BUILDING, "bodies"),
     "digits-of-an-answer": (
-        "_responses", 'text[slice(*spans["body"])].encode()', 'json.dumps(json.loads(text[slice(*spans["body"])])).encode()',
+        "_responses", "_wire(body.encode(), headers)", "_wire(json.dumps(json.loads(body)).encode(), headers)",
         SENDING, "bodies",
     ),
     "what-depends-on-a-failure": (

@@ -94,6 +94,7 @@ def test_two_routes_to_one_service_are_one(upstream, front):
 @pytest.mark.parametrize("bad, statuses", [
     ({"url": "../x"}, [424, 404]), ({"url": "http://evil/x"}, [424, 404]),
     ({"url": "x", "headers": {"X-Own": "1"}}, [424, 400]),
+    *(({"url": f"$r0/{rest}", "dependsOn": ["r0"]}, [424, 404]) for rest in ("../../x", "%2e%2E/x", "a\\..;/x", "..?x")),
 ])  # fmt: skip
 def test_a_group_with_a_request_that_may_not_be_sent_is_not(upstream, front, bad, statuses):
     service = upstream()

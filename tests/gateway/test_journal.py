@@ -86,7 +86,11 @@ def test_a_torn_line_is_dropped(tmp_path):
         assert (events_of(journals), os.listdir(tmp_path)) == ([], [])  # nothing has happened, so no file is left
 
 
-@pytest.mark.parametrize("line", [b"{}\n", b"[]\n", b"x\n", b'{"report":"a","status":200}\n', b'{"start":7}\n'])
+@pytest.mark.parametrize("line", [
+    b"{}\n", b"[]\n", b"x\n", b"[" * 100_000 + b"\n", b'{"report":"a","status":200}\n', b'{"start":7}\n', b'{"start":[]}\n', b'{"start":[7]}\n',
+    b'{"start":[[]]}\n', b'{"report":"a","status":"200","headers":{},"body":null}\n',
+    b'{"report":"a","status":200,"headers":7,"body":null}\n',
+], ids=range(11))  # fmt: skip
 def test_a_damaged_file_is_not_gone_on_with(tmp_path, line, upstream, front):
     service = upstream()
     it = front("--upstream", service.url, "--journal", str(tmp_path), "--groups", "forward")
@@ -120,6 +124,112 @@ async def _kept(journals, name):
     journal.write(Start("a"))
     await journal.sync()
     journal.close()
+
+
+def test_what_another_process_has_written_is_synced(tmp_path, monkeypatch):
+    """It may have ended before it synced the events, or the name of the file."""
+    journals, synced = Journals(str(tmp_path), 60), []
+    written(journals)
+    sync = os.fsync
+    monkeypatch.setattr(_journal.os, "fsync", lambda file: (synced.append(os.fstat(file).st_ino), sync(file)))
+    written(journals, [])
+    assert synced == [os.stat(it).st_ino for it in (file_of(tmp_path), tmp_path)]
+
+
+@pytest.mark.parametrize("name, result", [("write", OSError(28, "full")), ("write", 5), ("fsync", OSError(5, "broken"))])
+def test_nothing_is_kept_after_a_failure(tmp_path, monkeypatch, name, result):
+    """A failed sync is reported once, and a line after one that is cut or missing could not be read again."""
+    journals = Journals(str(tmp_path), 60)
+
+    def failing(file, *line):
+        monkeypatch.undo()
+        if isinstance(result, OSError):
+            raise result
+        return os.write(file, line[0][:result])
+
+    async def keep():
+        journal = opened(journals)
+        journal.write(EVENTS[0])
+        await journal.sync()
+        monkeypatch.setattr(_journal.os, name, failing)
+        for event in EVENTS[1:3]:
+            with pytest.raises(OSError):
+                journal.write(event)
+                await journal.sync()
+        journal.close()
+
+    asyncio.run(keep())
+    assert events_of(journals) == EVENTS[: 2 if name == "fsync" else 1]
+
+
+def test_a_first_line_that_is_cut(tmp_path, monkeypatch):
+    journals, write = Journals(str(tmp_path), 60), os.write
+    with monkeypatch.context() as patched:
+        patched.setattr(_journal.os, "write", lambda file, line: write(file, line[:7]))
+        with pytest.raises(OSError):
+            journals.open(b"x", FIRST)
+    written(journals)
+    assert events_of(journals) == EVENTS
+
+
+def test_a_link_is_not_followed(tmp_path):
+    folder, other = tmp_path / "journals", tmp_path / "other"
+    folder.mkdir()
+    other.write_text("")
+    os.utime(other, (0, 0))
+    (folder / _journal.digest(b"x")).symlink_to(other)
+    journals = Journals(str(folder), 60)
+    with pytest.raises(OSError):
+        journals.open(b"x", FIRST)
+    journals.prune()
+    assert other.read_text() == "" and len(os.listdir(folder)) == 1
+
+
+def test_a_file_that_is_removed_by_hand_leaves_nothing_open(tmp_path, monkeypatch):
+    journals, count = Journals(str(tmp_path), 60), lambda: len(os.listdir("/dev/fd"))
+    before = count()
+
+    async def close():
+        journal = opened(journals)
+        os.unlink(file_of(tmp_path))
+        journal.close()
+
+    asyncio.run(close())
+    asyncio.run(_kept(journals, "x"))
+    os.utime(file_of(tmp_path), (0, 0))
+
+    def gone(path):
+        raise FileNotFoundError(2, "No such file or directory")
+
+    with monkeypatch.context() as patched:
+        patched.setattr(_journal.os, "unlink", gone)
+        journals.prune()
+    assert count() == before
+
+
+def test_a_batch_that_goes_on_just_before_it_is_removed_is_kept(tmp_path, monkeypatch):
+    journals, locked = Journals(str(tmp_path), 60), _journal._locked
+    asyncio.run(_kept(journals, "x"))
+    path = file_of(tmp_path)
+    os.utime(path, (0, 0))
+    monkeypatch.setattr(_journal, "_locked", lambda *given: (os.utime(path), locked(*given))[1])
+    journals.prune()
+    assert os.path.exists(path)
+
+
+def test_old_files_are_looked_for_again_after_an_error(tmp_path, monkeypatch, front):
+    calls = []
+
+    def prune(journals):
+        calls.append(journals)
+        raise OSError(24, "Too many open files")
+
+    monkeypatch.setattr(Journals, "prune", prune)
+    front("--upstream", "http://127.0.0.1:1/", "--journal", str(tmp_path), "--keep", "0.01")
+    end = time.monotonic() + 5
+    while len(calls) < 3 and time.monotonic() < end:
+        time.sleep(0.01)
+    assert len(calls) >= 3
 
 
 @pytest.mark.parametrize("folder", ["no", "file"])
@@ -200,7 +310,7 @@ def test_a_batch_goes_on_wherever_its_journal_ends(pair, tmp_path):
 
 
 @pytest.mark.parametrize("change", [
-    {"batch": BATCH + " "}, {"Prefer": "return=minimal"}, {"Authorization": "Bearer 2"}, {"Cookie": "a=b"},
+    {"batch": BATCH + " "}, {"Prefer": ""}, {"Prefer": "continue-on-error, return=minimal"}, {"Authorization": "Bearer 2"}, {"Cookie": "a=b"},
     {"path": "/other/$batch"}, {"X_Api_Key": "2"},
 ], ids=str)  # fmt: skip
 def test_another_batch_under_the_same_id(pair, change):

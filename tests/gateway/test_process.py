@@ -86,6 +86,20 @@ def test_sigterm(upstream, running):
     assert (it.stop(0), service.paths) == ((0, ""), ["/odata/slow"])
 
 
+def test_a_batch_that_is_read_at_sigterm_may_be_sent_again(upstream, running, tmp_path):
+    service = upstream()
+    it = running("--upstream", service.url, "--log", "none", "--journal", str(tmp_path), "--metrics", "/metrics")
+    head = f"POST /odata/$batch HTTP/1.1\r\nHost: a\r\nContent-Type: {JSON['Content-Type']}\r\n"
+    with socket.create_connection(("127.0.0.1", it.port), SECONDS) as client:
+        client.sendall(f"{head}Repeatability-Request-ID: x\r\nContent-Length: 50\r\n\r\n".encode())
+        until(lambda: b"batches_running 1" in it.ask("GET", "/metrics")[2])
+        it.process.send_signal(signal.SIGTERM)
+        until(lambda: it.ask("GET", "/health/ready")[0] == 503)
+        client.sendall(b'{"requests":[{"id":"a","method":"get","url":"x"}]}')
+        assert client.makefile("rb").readline().split()[1] == b"503"
+    assert (it.stop(0), list(tmp_path.iterdir())) == ((0, ""), [])
+
+
 @pytest.mark.parametrize("grace, signals", [("0.3", 1), ("60", 2)])
 def test_sigterm_breaks_off_what_takes_too_long(upstream, running, grace, signals):
     service = upstream()
@@ -117,6 +131,15 @@ def test_a_line_of_log_for_each_batch_and_each_request(upstream, running):
     ]  # fmt: skip
     assert lines[2][:-1] == [*batch, "status=200", "sent=2", "failed=1"] and lines[2][-1].startswith("bytes=")
     assert lines[3] == [*batch, "status=400", "code=F02", "sent=0", "failed=0"]
+
+
+def test_what_is_not_http_is_not_in_the_log(upstream, running):
+    it = running("--upstream", upstream().url)
+    with socket.create_connection(("127.0.0.1", it.port), SECONDS) as client:
+        client.sendall(b"POST /odata/$batch HTTP/1.1\r\nHost: a\r\nAuthorization: secret\1\r\n\r\n")
+        assert client.makefile("rb").readline().split()[1] == b"400"
+    _, text = it.stop(signal.SIGTERM)
+    assert len(text.splitlines()) == 1 and "secret" not in text
 
 
 def test_metrics_at_a_port_of_their_own(upstream, running):

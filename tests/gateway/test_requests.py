@@ -111,6 +111,25 @@ def test_a_host_of_the_client_is_not_that_of_the_service(upstream, front):
     assert not {"x-hop", "prefer", "content-type", "accept"} & seen.headers.keys()
 
 
+@pytest.mark.parametrize("proto", ["https", "https, http"])
+def test_a_service_that_writes_the_host_that_a_proxy_has_seen(upstream, front, proto):
+    from aiohttp import web
+
+    def answer(seen):
+        place = f"{seen.headers['x-forwarded-proto']}://{seen.headers['x-forwarded-host'].partition(',')[0]}{seen.path}(1)"
+        return web.Response(status=201, headers={"Location": place})
+
+    service = upstream(answer)
+    headers = {**CONTINUE, "Host": "inner:8090", "X-Forwarded-Host": "public, middle", "X-Forwarded-Proto": proto}
+    it = front("--route", f"/odata/Orders={service.url}/v2/Orders")
+    found = it.batch(
+        {"method": "post", "url": "Orders"}, {"url": "$r0", "dependsOn": ["r0"]},
+        {"url": "http://inner:8090/odata/Orders"}, headers=headers
+    )  # fmt: skip
+    assert found["r0"]["headers"]["location"] == "https://public/odata/Orders(1)"
+    assert sorted(service.paths) == ["/v2/Orders", "/v2/Orders", "/v2/Orders(1)"]
+
+
 BROKEN = {
     "hang-up": (502, "BadGateway"), "half": (502, "BadGateway"), "gzip": (502, "Encoded"), "hang": (504, "Timeout"),
     "big": (507, "TooLong"),
@@ -153,6 +172,41 @@ def test_a_service_that_speaks_no_http(loop, front):
     server.close()
 
 
+@pytest.mark.parametrize("status, coding, wanted", [
+    (200, "gzip", 502), (200, "Identity", 200), (200, "identity, br", 502), (200, "", 200), (204, "gzip", 204),
+])  # fmt: skip
+def test_codings_of_answers(upstream, front, status, coding, wanted):
+    from aiohttp import web
+
+    service = upstream(lambda seen: web.Response(status=status, headers={"Content-Encoding": coding}))
+    assert front("--upstream", service.url).statuses({"method": "delete", "url": "x"}) == [wanted]
+
+
+@pytest.mark.parametrize("method", ["DELETE", "PUT"])
+def test_no_request_is_sent_twice_by_a_library(upstream, loop, method):
+    """Newer versions of aiohttp try again by themselves what an older one sends again for a redirect alone."""
+    import aiohttp
+    from aiohttp import web
+
+    from odb_batch.gateway._metrics import Metrics
+    from odb_batch.gateway._options import options_of
+    from odb_batch.gateway._upstreams import Upstreams
+
+    service = upstream(lambda seen: web.Response(status=307, headers={"Location": "/again"}))
+
+    async def send():
+        upstreams = Upstreams(options_of(["--upstream", service.url]), Metrics({}))
+        await upstreams.open()
+        try:
+            await upstreams.session(method).request(method, service.url + "/x")
+        finally:
+            await upstreams.close()
+
+    with pytest.raises(aiohttp.ClientConnectionError):
+        loop.run(send())
+    assert service.paths == ["/x"]
+
+
 @pytest.mark.parametrize("method, path, body, headers, status, code", [
     ("POST", "/odata/$batch", '{"requests": 7}', JSON, 400, "F04"),
     ("POST", "/odata/$batch", "{}", {"Content-Type": "multipart/mixed; boundary=b"}, 415, "BadMediaType"),
@@ -168,6 +222,13 @@ def test_what_is_refused(upstream, front, method, path, body, headers, status, c
     it = front("--upstream", service.url, "--max-size", "100000", "--limit", "10")
     found, _, text = it.ask(method, path, body, headers)
     assert (found, json.loads(text)["error"]["code"], service.seen) == (status, code, [])
+
+
+def test_a_path_that_is_not_utf_8(upstream, front):
+    it = front("--upstream", upstream().url)
+    with socket.create_connection(("127.0.0.1", it.port), 10) as client:
+        client.sendall(b"POST /od\xff/$batch HTTP/1.1\r\nHost: a\r\nConnection: close\r\nContent-Length: 0\r\n\r\n")
+        assert client.makefile("rb").readline().split()[1] == b"400"
 
 
 def test_headers_that_a_proxy_would_set(upstream, front):

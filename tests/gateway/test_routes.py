@@ -33,6 +33,7 @@ def test_the_longest_prefix_counts(url, wanted):
 @pytest.mark.parametrize("path, code", [
     ("/odata", "NoRoute"), ("/Odata/Books", "NoRoute"), ("/", "NoRoute"), ("/x/odata/", "NoRoute"),
     ("/odata/$batch", "NestedBatch"), ("/odata/%24batch", "NestedBatch"), ("/odata/Orders/$batch", "NestedBatch"),
+    ("/odata/$batch/", "NestedBatch"), ("/odata/$batch;x=1", "NestedBatch"), ("/odata/$batch%3bx//", "NestedBatch"),
 ])  # fmt: skip
 def test_what_no_route_takes(path, code):
     with pytest.raises(Refusal) as refused:
@@ -60,25 +61,47 @@ def test_what_a_service_calls_by_its_own_urls(sent, place, wanted):
     assert ROUTES.public(BASE, sent, place) == wanted
 
 
+@pytest.mark.parametrize("place", ["/v2//evil/x", "/v2/.//evil/x"])
+def test_a_path_of_a_service_is_not_shown_as_another_host(place):
+    routes = Routes(options_of(["--route", "/=http://main/v2/"]).routes)
+    assert routes.public(BASE, "http://main/v2/x", place) == "http://public//evil/x"
+
+
 def test_a_path_is_normalized_but_for_what_has_a_meaning():
     assert normalized("/%41%2f%3f%23%25%3B%c3%bc%27%28%29%24") == "/A%2F%3F%23%25%3B%C3%BC'()$"
 
 
 @pytest.mark.parametrize("words", [
     [], ["--upstream", "localhost:8101"], ["--upstream", "ftp://a/"], ["--upstream", "http://a/?x"],
-    ["--upstream", "http://user@a/"], ["--upstream", "http://a:x/"], ["--upstream", "http:///x/"],
+    ["--upstream", "http://a..b/"], ["--upstream", "http://a/x/../y/"], ["--upstream", "http://a\\b/"],
+    ["--upstream", f"http://{'a' * 64}/"], ["--upstream", "http://user@a/"], ["--upstream", "http://a:x/"], ["--upstream", "http:///x/"],
     ["--route", "Orders=http://a/"], ["--route", "/Orders=a"], ["--route", "/Orders=http://a/x/"],
     ["--route", "/x/../y=http://a/y"], ["--upstream", "http://a/", "--route", "/=http://b/"],
     *(["--upstream", "http://a/", *it] for it in (
         ["--width", "0"], ["--width", "10001"], ["--timeout", "0"], ["--batches", "-1"], ["--listen", "x"],
         ["--listen", "1:99999"],
-        ["--metrics", "x"], ["--health", "health"], ["--groups", "some"], ["--log", "all"], ["--keep", "nan"], ["--credential", "a b"], ["--no"],
+        ["--listen", "a..b:1"], ["--listen", "[::1:1"], ["--listen", "a b:1"], ["--listen", ":"], ["--listen", "a:"],
+        ["--metrics", "/health"], ["--metrics", "/health/ready"], ["--upstream", "http://b/"], ["--metrics", "x"], ["--health", "health"], ["--groups", "some"], ["--log", "all"], ["--keep", "nan"], ["--credential", "a b"], ["--no"],
     )),
 ], ids=" ".join)  # fmt: skip
 def test_wrong_arguments(words, capsys):
     with pytest.raises(SystemExit) as ended:
         options_of(words)
     assert ended.value.code == 2 and "usage: python3 -m odb_batch gateway" in capsys.readouterr().err
+
+
+@pytest.mark.parametrize("text, address", [
+    ("8091", ("127.0.0.1", 8091)), (":8091", ("", 8091)), ("[::1]:0", ("::1", 0)), ("::1:0", ("::1", 0)),
+    ("my-host.local.:80", ("my-host.local.", 80)), ("0.0.0.0:65535", ("0.0.0.0", 65535)), ("[::]:1", ("::", 1)),
+])  # fmt: skip
+def test_addresses(text, address):
+    found = options_of(["--upstream", "http://a/", "--listen", text, "--metrics", text])
+    assert (found.listen, found.metrics_at) == (address, address)
+
+
+def test_several_services_under_their_own_paths():
+    found = options_of([it for url in ("http://a/x/", "http://[::1]:80/y") for it in ("--upstream", url)]).routes
+    assert [(it.prefix, it.upstream) for it in found] == [("/x/", "http://a/x/"), ("/y/", "http://[::1]:80/y/")]
 
 
 def test_the_same_service_behind_two_routes():

@@ -8,7 +8,7 @@ from typing import AsyncIterator, Dict, Optional
 from aiohttp import web
 
 from .._answers import FAILED, LOG
-from .._endpoint import Outer, folder_of, message_of, performed, refused, too_long
+from .._endpoint import Outer, folder_of, forwarded_hosts, message_of, performed, refused, too_long
 from .._faults import Fault
 from .._messages import Answer, Refusal, header_dict
 from ._journal import FileJournal, Journals, digest, identity
@@ -86,7 +86,10 @@ class Gateway:
     async def _prune(self) -> None:
         loop = asyncio.get_running_loop()
         while self._journals is not None:
-            await loop.run_in_executor(None, self._journals.prune)
+            try:
+                await loop.run_in_executor(None, self._journals.prune)
+            except OSError as error:
+                LOG.error("old journals cannot be removed: %s", error)
             await asyncio.sleep(min(_PRUNE_SECONDS, self._options.keep))
 
     # Probes and metrics
@@ -137,7 +140,7 @@ class Gateway:
     def _performance(self, request: web.Request) -> Performance:
         """How the batch of a request is performed; raises Refusal if it is not one."""
         headers = _headers(request)
-        scheme = headers.get("x-forwarded-proto", request.scheme).lower()
+        scheme = headers.get("x-forwarded-proto", "").partition(",")[0].strip().lower()
         scheme = scheme if scheme in ("http", "https") else request.scheme
         outer = Outer(request.method, scheme, request.host, folder_of(request.path), "/", headers)
         peers = filter(None, (headers.get("x-forwarded-for"), request.remote))
@@ -146,17 +149,18 @@ class Gateway:
             "x-forwarded-host": headers.get("x-forwarded-host", request.host),
             "x-forwarded-proto": scheme,
         }
-        return Performance(self._options, self._routes, self._upstreams, self._metrics, outer, forwarded)
+        seen = f"{scheme}://{next(iter(forwarded_hosts(headers)), request.host)}/"
+        return Performance(self._options, self._routes, self._upstreams, self._metrics, outer, forwarded, seen)
 
     async def _performed(self, request: web.Request, performance: Performance) -> Answer:
         """Performs a batch; raises what it is refused by."""
-        if self._upstreams.is_stopping:
-            raise Refusal(503, "Stopping", "The gateway stops", retry_after="1")
+        self._require_running()
         if self._metrics.batches_running >= self._options.batches:
             raise Refusal(503, "Busy", "There are as many batches as may be at once", retry_after="1")
         self._metrics.batches_running += 1
         try:
             batch = await self._read(request)
+            self._require_running()
             headers = _headers(request)
             id = headers.get("repeatability-request-id", "").encode()
             if self._journals is None or not id:
@@ -166,10 +170,14 @@ class Gateway:
         finally:
             self._metrics.batches_running -= 1
 
+    def _require_running(self) -> None:
+        if self._upstreams.is_stopping:
+            raise Refusal(503, "Stopping", "The gateway stops", retry_after="1")
+
     def _sender(self, request: web.Request, headers: Dict[str, str]) -> str:
         """What has to be the same beside the batch if it is sent again; else a client could read answers of another."""
-        credentials = (headers.get(name, "") for name in self._options.credentials)
-        return digest(*map(str.encode, (request.path, str(self._options.forwards), *credentials)))
+        same = (headers.get(name, "") for name in ("prefer", *self._options.credentials))
+        return digest(*map(str.encode, (request.path, str(self._options.forwards), *same)))
 
     async def _repeatable(
         self, journals: Journals, id: bytes, first: bytes, batch: bytes, performance: Performance
@@ -205,9 +213,9 @@ def _headers(request: web.Request) -> Dict[str, str]:
     headers = header_dict(request.headers.items())
     dropped = {name.strip().lower() for name in headers.get("connection", "").split(",")}
     try:
-        "".join(headers.values()).encode()
+        "".join((request.path, *headers.values())).encode()
     except UnicodeEncodeError:
-        raise Refusal(400, "BadHeader", "A header has bytes that are not UTF-8") from None
+        raise Refusal(400, "BadHeader", "The URL or a header has bytes that are not UTF-8") from None
     return {name: value for name, value in headers.items() if name not in dropped}
 
 

@@ -5,12 +5,13 @@ A start is synced to the device before its request is sent, and the whole file b
 """
 
 import asyncio
+import contextlib
 import fcntl
 import hashlib
 import json
 import os
 import time
-from typing import Any, Callable, Dict, List, Tuple
+from typing import Any, Callable, Dict, Iterator, List, Tuple
 
 from .._documents import Report, Start
 from .._events import JournalEvent, StartUnit, Stop
@@ -41,18 +42,15 @@ class FileJournal:
 
     def __init__(self, path: str, file: int, events: List[JournalEvent], folder: int) -> None:
         self._path, self._file, self._folder, self.events = path, file, folder, events
-        self._written = self._synced = 0
-        self._is_new, self._is_broken = not events, False
+        # What was there before may have been written by a process that ended before it synced it.
+        self._written, self._synced = len(events), 0
+        self._is_named = self._is_broken = False
         self._turn = asyncio.Lock()
 
     def write(self, event: JournalEvent) -> None:
-        line = _line(event)
-        self._written += 1
-        # After an event that is lost there may be no other one.
-        was_broken, self._is_broken = self._is_broken, True
-        if was_broken or os.write(self._file, line) < len(line):
-            raise OSError("an event could not be written")
-        self._is_broken = False
+        with self._unless_broken():
+            self._written += 1
+            _append(self._file, _line(event))
 
     async def sync(self) -> None:
         wanted = self._written
@@ -65,15 +63,29 @@ class FileJournal:
                     self._synced = reached
 
     def _sync(self) -> None:
-        os.fsync(self._file)
-        if self._is_new:
-            os.fsync(self._folder)
-            self._is_new = False
+        with self._unless_broken():
+            os.fsync(self._file)
+            if not self._is_named:
+                os.fsync(self._folder)
+                self._is_named = True
+
+    @contextlib.contextmanager
+    def _unless_broken(self) -> Iterator[None]:
+        """Refuses all that comes after a failure: a line after a missing one could not be read again, and Linux reports
+        once that a sync has failed."""
+        if self._is_broken:
+            raise OSError("an event was not written, or not synced")
+        try:
+            yield
+        except OSError:
+            self._is_broken = True
+            raise
 
     def close(self) -> None:
         """Lets others have the file; a batch of which nothing has happened leaves none."""
-        if not self.events and not self._written:
-            os.unlink(self._path)
+        if not self._written:
+            with contextlib.suppress(FileNotFoundError):
+                os.unlink(self._path)
         file, self._file = self._file, -1  # what still writes must not write to another one
         fcntl.flock(file, fcntl.LOCK_UN)  # a sync that was cancelled may keep it open for a while
         os.close(file)
@@ -117,7 +129,7 @@ class Journals:
                 raise Refusal(422, "AnotherBatch", "The Repeatability-Request-ID is that of another batch")
             os.ftruncate(file, sum(map(len, whole)))
             if not whole:
-                os.write(file, first)
+                _append(file, first)
             return path, file, list(map(_event, whole[1:])), self._folder
         except BaseException:
             os.close(file)
@@ -130,24 +142,40 @@ class Journals:
             path = os.path.join(self._path, name)
             try:
                 if len(name) == _NAME_SIZE and os.stat(path).st_mtime < oldest:
-                    file = _locked(path, os.O_RDWR)
-                    os.unlink(path)
-                    os.close(file)
+                    self._remove(path, oldest)
             except (OSError, Refusal):
                 pass  # it is in use, or removed by another process
+
+    def _remove(self, path: str, oldest: float) -> None:
+        file = _locked(path, os.O_RDWR)
+        try:
+            if os.fstat(file).st_mtime < oldest:  # until it was locked another process may have gone on with it
+                os.unlink(path)
+        finally:
+            os.close(file)
+
+
+def _append(file: int, line: bytes) -> None:
+    if os.write(file, line) < len(line):
+        raise OSError("the journal is full")
 
 
 def _locked(path: str, flags: int = os.O_RDWR | os.O_CREAT) -> int:
     """Opens and locks a file; raises Refusal 409 if it is locked."""
     while True:
-        file = os.open(path, flags | os.O_APPEND | os.O_CLOEXEC, 0o600)
+        file = os.open(path, flags | os.O_APPEND | os.O_CLOEXEC | os.O_NOFOLLOW, 0o600)
         try:
             fcntl.flock(file, fcntl.LOCK_EX | fcntl.LOCK_NB)
-            if os.path.exists(path) and os.path.samestat(os.fstat(file), os.stat(path)):
+            if os.path.samestat(os.fstat(file), os.stat(path)):
                 return file
+        except FileNotFoundError:
+            pass
         except BlockingIOError:
             os.close(file)
             raise Refusal(409, "InProgress", "The batch is being performed", retry_after="1") from None
+        except BaseException:
+            os.close(file)
+            raise
         os.close(file)  # it was removed before it was locked
 
 
@@ -159,7 +187,7 @@ def _whole(lines: List[bytes]) -> List[bytes]:
 def _is_whole(line: bytes) -> bool:
     try:
         return line.endswith(b"\n") and isinstance(json.loads(line), dict)
-    except ValueError:
+    except (ValueError, RecursionError):
         return False
 
 
@@ -191,5 +219,5 @@ def _event(line: bytes) -> JournalEvent:
             return Stop()
         start = members["start"]
         return Start(start) if isinstance(start, str) else StartUnit(tuple(start))
-    except (ValueError, KeyError, TypeError, AttributeError):
+    except (ValueError, KeyError, TypeError, AttributeError, RecursionError):
         raise _DAMAGED() from None

@@ -49,8 +49,15 @@ def _is_service(url: str) -> bool:
         port = parts.port or 80
     except ValueError:
         return False
-    is_bare = not (parts.query or parts.fragment or "@" in parts.netloc or not url.isascii() or not url.isprintable())
-    return parts.scheme in ("http", "https") and bool(parts.hostname) and port > 0 and is_bare and " " not in url
+    is_plain = re.fullmatch(r"[!-~]+", url) is not None and not set("?#@\\") & set(url)
+    is_place = _is_host(parts.hostname or "") and port > 0 and ".." not in parts.path.split("/")
+    return parts.scheme in ("http", "https") and is_plain and is_place
+
+
+def _is_host(host: str) -> bool:
+    """Whether a host is a name or an address, which can be looked up."""
+    label, address = "[A-Za-z0-9_-]{1,63}", r"[0-9A-Fa-f:.]*:[0-9A-Fa-f:.]*(%\w+)?"
+    return re.fullmatch(rf"{label}(\.{label})*\.?|{address}", host) is not None
 
 
 def _route(text: str) -> Route:
@@ -74,10 +81,11 @@ def _upstream(text: str) -> Route:
 
 
 def _address(text: str) -> Address:
-    host, _, port = text.rpartition(":")
-    if not re.fullmatch(r"[0-9]{1,5}", port) or int(port) > 65_535:
+    host, _, port = text.rpartition(":") if ":" in text else ("127.0.0.1", "", text)
+    name = host[1:-1] if re.fullmatch(r"\[.*:.*\]", host) else host
+    if not re.fullmatch(r"[0-9]{1,5}", port) or int(port) > 65_535 or (name and not _is_host(name)):
         raise argparse.ArgumentTypeError(f"{text!r} is not a port or HOST:PORT")
-    return Address(host.strip("[]"), int(port))
+    return Address(name, int(port))
 
 
 def _path(text: str) -> str:
@@ -93,7 +101,7 @@ def _header(text: str) -> str:
 
 
 def _metrics(text: str) -> Union[str, Address]:
-    return _path(text) if text.startswith("/") else _address(text if ":" in text else f"127.0.0.1:{text}")
+    return _path(text) if text.startswith("/") else _address(text)
 
 
 def _number(text: str) -> int:
@@ -118,7 +126,8 @@ def parser() -> argparse.ArgumentParser:
     usual = Options(())
     found = argparse.ArgumentParser(prog=PROGRAM, description=_DESCRIPTION)
     add = found.add_argument
-    add("--upstream", metavar="URL", type=_upstream, help="the root of a service; the path of its URL is the same here")
+    add("--upstream", metavar="URL", type=_upstream, action="append", default=[],
+        help="the root of a service; the path of its URL is the same here")  # fmt: skip
     add("--route", metavar="PREFIX=URL", type=_route, action="append", default=[],
         help="where requests go whose path begins so; of several the longest prefix counts")  # fmt: skip
     add("--groups", choices=("refuse", "forward"), default="refuse",
@@ -149,11 +158,13 @@ def options_of(words: Sequence[str]) -> Options:
     """Returns the options of a command line; ends the process with status 2 if they are wrong."""
     arguments = parser()
     given = arguments.parse_args(words)
-    routes = [*given.route, *([given.upstream] if given.upstream else [])]
+    routes = [*given.route, *given.upstream]
     if not routes:
         arguments.error("needed is --upstream or --route")
     if len({it.prefix for it in routes}) < len(routes):
         arguments.error("two routes have the same prefix")
+    if given.metrics in (given.health, f"{given.health}/ready"):
+        arguments.error("--metrics and --health need different paths")
     has_path = isinstance(given.metrics, str)
     more = {
         "routes": tuple(routes),

@@ -35,6 +35,7 @@ class Performance:
     Args:
         outer: The HTTP request that carries it.
         forwarded: The headers by which services see who has sent it.
+        seen: A URL with the scheme and the host that the client has asked, as services see them.
 
     Attributes:
         mode: How it is performed.
@@ -49,9 +50,10 @@ class Performance:
         metrics: Metrics,
         outer: Outer,
         forwarded: Dict[str, str],
+        seen: str,
     ) -> None:
         self._options, self._routes, self._upstreams, self._metrics = options, routes, upstreams, metrics
-        self._outer, self._forwarded = outer, forwarded
+        self._outer, self._forwarded, self._seen = outer, forwarded, seen
         self._room = Room(options.max_size)
         self.mode = outer.mode
         self.tally = Tally()
@@ -87,8 +89,8 @@ class Performance:
 
     def _shown(self, sent: str, answer: Answer) -> Answer:
         """An answer with the URLs in its headers as clients see them."""
-        base, found = self._outer.base, {name: it for name, it in answer.headers.items() if name in _PLACES}
-        seen = {name: self._routes.public(base, sent, place) for name, place in found.items()}
+        found = {name: it for name, it in answer.headers.items() if name in _PLACES}
+        seen = {name: self._routes.public(self._seen, sent, place) for name, place in found.items()}
         return answer._replace(headers={**answer.headers, **seen}) if seen else answer
 
     async def _exchanged(self, id: str, request: Outgoing) -> Answer:

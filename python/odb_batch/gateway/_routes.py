@@ -10,6 +10,8 @@ from .._messages import Refusal
 _ESCAPE = re.compile("%([0-9A-Fa-f]{2})")
 # What may be escaped in a path without another meaning (RFC 3986, section 2.4; OData URL Conventions 4.01, section 2).
 _PLAIN = frozenset("ABCDEFGHIJKLMNOPQRSTUVWXYZabcdefghijklmnopqrstuvwxyz0123456789-._~!$'()*+,:=@&")
+# The path of a batch, also with what some servers drop.
+_IS_BATCH = re.compile(r"/\$batch((;|%3B)[^/]*)?/*$").search
 # What may follow a prefix: the key of an entity, or a further segment.
 _ENDS = ("", "/", "(")
 _PORTS = {"http": 80, "https": 443}
@@ -55,7 +57,7 @@ class Routes:
         """
         parts = urlsplit(url)
         path = normalized(parts.path)
-        if path.endswith("/$batch"):
+        if _IS_BATCH(path):
             raise Refusal(400, "NestedBatch", "A batch has no batches")
         route = self._route(path)
         if route is None:
@@ -80,7 +82,6 @@ class Routes:
             host = _host(found)
         except ValueError:
             return place
-        front = seen[:2] if given.netloc else ("", "")
         path = normalized(found.path)
         if host == _host(seen):
             # A service that knows the host of the clients may know their paths, too.
@@ -89,7 +90,10 @@ class Routes:
             host = _host(urlsplit(sent))
         for known, prefix, route in self._places:
             if known == host and _takes(prefix, path):
-                return urlunsplit((*front, route.prefix + path[len(prefix) :], found.query, found.fragment))
+                path = route.prefix + path[len(prefix) :]
+                # Without its host a path that begins with // would name another one.
+                front = seen[:2] if given.netloc or path.startswith("//") else ("", "")
+                return urlunsplit((*front, path, found.query, found.fragment))
         return place
 
 

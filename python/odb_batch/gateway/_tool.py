@@ -1,6 +1,7 @@
 """``python3 -m odb_batch gateway``: listens until SIGTERM."""
 
 import asyncio
+import logging
 import signal
 import sys
 from typing import Sequence, Tuple
@@ -22,7 +23,8 @@ def main(words: Sequence[str]) -> int:
     try:
         asyncio.run(_serve(options))
     except OSError as error:
-        print(f"error: {error.filename or ''}{': ' if error.filename else ''}{error.strerror}", file=sys.stderr)
+        place = f"{error.filename}: " if error.filename else ""
+        print(f"error: {place}{error.strerror or error}", file=sys.stderr)
         return UNUSABLE
     return 0
 
@@ -36,6 +38,7 @@ async def _serve(options: Options) -> None:
     apps = [(gateway.application(), options.listen)]
     if options.metrics_at is not None:
         apps.append((gateway.of_metrics(), options.metrics_at))
+    logging.getLogger("aiohttp.server").addFilter(_without_bytes)
     stopped, hurry = _signals()
     runners = []
     try:
@@ -52,6 +55,15 @@ async def _serve(options: Options) -> None:
     finally:
         for runner in runners:
             await runner.cleanup()
+
+
+def _without_bytes(record: logging.LogRecord) -> bool:
+    """Drops from the log what a request has that is not HTTP: it may be the header with a password."""
+    from aiohttp.http import HttpProcessingError
+
+    if record.exc_info and isinstance(record.exc_info[1], HttpProcessingError):
+        record.exc_info = None
+    return True
 
 
 def _shown(wanted: Address, bound: Sequence[object]) -> str:

@@ -2,7 +2,7 @@
 
 import asyncio
 import time
-from typing import Dict, NamedTuple, Optional
+from typing import Any, Dict, NamedTuple
 
 import aiohttp
 from yarl import URL
@@ -15,6 +15,13 @@ from ._options import Options
 # Shorter than a server keeps a connection without requests, or one might be sent while it closes it.
 _KEEPALIVE = 1.0
 _PART = 65_536
+
+
+async def _sent_once(_: aiohttp.ClientSession, context: Any, __: Any) -> None:
+    """Lets a request be sent once: newer versions of aiohttp send a PUT or a DELETE again if a connection breaks."""
+    if getattr(context, "is_sent", False):
+        raise aiohttp.ClientConnectionError("the request was sent before")
+    context.is_sent = True
 
 
 class Outgoing(NamedTuple):
@@ -36,28 +43,40 @@ class Upstreams:
     def __init__(self, options: Options, metrics: Metrics) -> None:
         self._options, self._metrics = options, metrics
         self.is_stopping = self._is_given_up = False
-        self._session: Optional[aiohttp.ClientSession] = None
 
     async def open(self) -> None:
         """Makes what belongs to the running loop."""
         self._places = asyncio.Semaphore(self._options.connections)
-        self._session = aiohttp.ClientSession(
-            connector=aiohttp.TCPConnector(limit=0, keepalive_timeout=_KEEPALIVE),
+        self._connector = aiohttp.TCPConnector(limit=0, keepalive_timeout=_KEEPALIVE)
+        tracing = aiohttp.TraceConfig()
+        tracing.on_request_headers_sent.append(_sent_once)
+        # Tracing takes its time, so no other request is traced.
+        self._usual, self._once = self._opened(), self._opened(tracing)
+
+    def _opened(self, *tracing: aiohttp.TraceConfig) -> aiohttp.ClientSession:
+        return aiohttp.ClientSession(
+            connector=self._connector,
+            connector_owner=False,
             timeout=aiohttp.ClientTimeout(self._options.timeout),
             cookie_jar=aiohttp.DummyCookieJar(),
             auto_decompress=False,
+            trace_configs=list(tracing),
             skip_auto_headers=("User-Agent", "Accept", "Accept-Encoding", "Content-Type"),
         )
 
+    def session(self, method: str) -> aiohttp.ClientSession:
+        """Returns the session that sends a request with a method, and not twice unless it is a GET."""
+        return self._once if method in ("DELETE", "PUT") else self._usual
+
     async def close(self) -> None:
-        if self._session is not None:
-            await self._session.close()
+        for session in (self._usual, self._once):
+            await session.close()
+        await self._connector.close()
 
     async def give_up(self) -> None:
         """Breaks what is on its way off: it is answered 504 ``Stopped``."""
         self._is_given_up = True
-        if self._session is not None and self._session.connector is not None:
-            await self._session.connector.close()
+        await self._connector.close()
 
     async def send(self, request: Outgoing, room: Room) -> Answer:
         """Sends a request, and returns its answer with whole body.
@@ -96,13 +115,13 @@ class Upstreams:
 
     async def _exchanged(self, request: Outgoing, room: Room) -> Answer:
         """The answer of a service, with more of its body than there is room for at most by a part."""
-        assert self._session is not None
         headers = {"accept-encoding": "identity", **request.headers}
         url, body = URL(request.url, encoded=True), bytearray()
-        async with self._session.request(
+        async with self.session(request.method).request(
             request.method, url, headers=headers, data=request.body or None, allow_redirects=False
         ) as answer:
-            if answer.headers.get("Content-Encoding", "identity") != "identity":
+            coding = answer.headers.get("Content-Encoding", "").strip().lower()
+            if coding not in ("", "identity") and answer.status not in (204, 304):
                 raise Refusal(502, "Encoded", "The service has compressed its answer, though it was not asked to")
             while len(body) <= room.left and (part := await answer.content.read(_PART)):
                 body += part
