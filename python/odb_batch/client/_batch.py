@@ -274,7 +274,8 @@ class Batch:
 
         Where a part is answered as a whole, by a status that is not 2xx, each of its requests has that answer. Where
         ``post`` raises an exception, or what it returns is not the response to the part, each has 504 for a timeout,
-        else 502. After both nothing more is sent, and the other requests are 424.
+        also for an exception that comes from one, the answer of a Refusal, or else 502. After both nothing more is
+        sent, and the other requests are 424.
 
         Args:
             post: Posts the bytes of a document, with the headers that :func:`headers` returns, and returns the status,
