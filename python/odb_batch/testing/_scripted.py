@@ -110,8 +110,7 @@ class Scripted:
 def _scenes(id: str, given: Union[Scene, List[Scene]]) -> List[Scene]:
     """What a request is answered, each time; a client would take an exception in `post` for a broken connection."""
     scenes = list(given) if isinstance(given, list) else [given]
-    for it in scenes or [None]:
-        status = it.status if isinstance(it, Answer) else it
-        if not isinstance(status, int) or not 200 <= status <= 599:
-            raise TypeError(f"{id} is answered by statuses from 200 to 599 and Answers, not by {it!r}")
+    statuses = [it.status if isinstance(it, Answer) else it for it in scenes]
+    if not statuses or not all(isinstance(it, int) and 200 <= it <= 599 for it in statuses):
+        raise TypeError(f"{id} is answered by statuses from 200 to 599 and Answers, not by {given!r}")
     return scenes

@@ -304,7 +304,9 @@ class TestErrorsOfParts:
         with pytest.raises(KeyboardInterrupt):
             gets("a").send(raising(KeyboardInterrupt()))
 
-    @pytest.mark.parametrize("answered", [None, 200, ("200", {}, b""), (200, {"a": 1}, b""), (200, {}, 7), (200, None), (200, [("a", "b")])])
+    @pytest.mark.parametrize("answered", [
+        None, 200, ("200", {}, b""), (200, {"a": 1}, b""), (200, {}, 7), (200, None), (200, [("a", "b")]),
+    ])  # fmt: skip
     def test_what_is_no_answer(self, answered):
         with pytest.raises(TypeError):
             gets("a").send(lambda document: answered)
