@@ -73,8 +73,8 @@ export class Batch {
   /**
    * Adds a request, and returns the reference to it.
    *
-   * Throws a `RangeError` if the id is one that no URL can refer to, as `metadata`, or if what is in `after` is of another
-   * batch; and a `TypeError` for a body that has no JSON, and for an option with another name.
+   * Throws a `RangeError` if the id is one that no URL can refer to, as `metadata`, or if a reference or a group is of another
+   * batch; and a `TypeError` for a body that has no JSON, for an id or a URL of another type, and for an option with another name.
    *
    * @param url Its URL, relative to the service or absolute, or with a reference.
    * @param body Its body: bytes as they are on the wire, of JSON with all digits of its numbers; or a value that
@@ -146,7 +146,10 @@ export class RequestFailed extends Error {
 /** What the requests of a batch were answered: a {@link Result} for each, in the order of the batch. */
 export class Results implements Iterable<Result> {
   private constructor()
-  /** The result of a request, by what the batch has returned for it or by its id; undefined if the batch has none. */
+  /**
+   * The result of a request, by what the batch has returned for it or by its id; undefined if the batch has none. Throws a
+   * `RangeError` for a request of another batch.
+   */
   get(request: Reference): Result
   get(id: string): Result | undefined
   /** How many they are. */

@@ -4,7 +4,7 @@
 
 const { isJson, toJson } = require('./bodies.js')
 const { check, optionsOf, plan } = require('./commands.js')
-const { arrayOf } = require('./documents.js')
+const { arrayOf, headersOf } = require('./documents.js')
 const { batchText, elementText } = require('./elements.js')
 const { foldedOf, mediaTypeOf, readAnswer } = require('./messages.js')
 const { Parts } = require('./parts.js')
@@ -33,7 +33,7 @@ class Named {
   /** Its name in the batch of an origin. */
   static nameIn(origin, named) {
     if (typeof named === 'string') return named
-    if (!(named instanceof Named)) throw new TypeError('a request depends on requests, groups or their names')
+    if (!(named instanceof Named)) throw new TypeError('a request or a group is named by what the batch returned, or by its id')
     if (named.#origin !== origin) throw new RangeError(`${named.id} is of another batch`)
     return named.id
   }
@@ -52,6 +52,11 @@ class Group extends Named {}
 /** The headers with which a batch is posted (OData Protocol 4.01, section 8.2.8.3). */
 function headersOfBatch(mode) {
   return mode === 'stop' ? { ...COMMON } : { ...COMMON, prefer: 'continue-on-error' }
+}
+
+/** Throws unless an id is a text. */
+function requireId(id) {
+  if (typeof id !== 'string') throw new TypeError(`an id must be a string, not ${String(id)}`)
 }
 
 /** Throws unless the bytes of a body are JSON: they are in the document as they are. */
@@ -80,6 +85,10 @@ class Batch {
   #elements = []
   // The group of each request, or null, by its id, and of each group itself: what is taken as a name.
   #names = new Map()
+  // Of the group that is made: what its names were before.
+  #before = []
+  // By the prefix of a name, up to which number names are taken.
+  #numbers = {}
   #group = null
   // What a Reference and a Group have in common with the batch that has made them.
   #origin = Symbol('batch')
@@ -116,26 +125,32 @@ class Batch {
 
   request(method, url, body, options = {}) {
     const { after = [], headers = {}, id = this.#free('', this.size) } = optionsOf(options, OF_REQUEST)
+    requireId(id)
     if (RESERVED.has(id)) throw new RangeError(`no URL can refer to a request with the id ${id}`)
-    const given = foldedOf(headers)
+    const place = this.#urlOf(url)
+    const given = this.#foldedOf(headers)
     const isThere = body !== undefined && body !== null
     if (isThere) given['content-type'] ??= 'application/json'
     const text = isThere ? bodyText(body, given) : undefined
-    const needs = this.#needsOf(after, String(url), given)
-    this.#append({ id, group: this.#group?.id ?? null, method, url: String(url), headers: given, body: text }, needs)
+    const needs = this.#needsOf(after, place, given)
+    this.#append({ id, group: this.#group?.id ?? null, method, url: place, headers: given, body: text }, needs)
     return new Reference(id, this.#origin)
   }
 
   group(add, options = {}) {
     const { id = this.#free('g', 0) } = optionsOf(options, OF_GROUP)
+    requireId(id)
     if (this.#group !== null) throw new Error('a group cannot be in another one')
-    const [size, names, group] = [this.size, new Map(this.#names), new Group(id, this.#origin)]
+    const [size, numbers, group] = [this.size, { ...this.#numbers }, new Group(id, this.#origin)]
     this.#group = group
+    this.#before = []
+    this.#takeGroup(id)
     try {
       if (typeof add(group)?.then === 'function') throw new TypeError('the function of a group must not be async')
     } catch (error) {
       this.#elements.length = size
-      this.#names = names
+      this.#numbers = numbers
+      this.#releaseNames()
       throw error
     } finally {
       this.#group = null
@@ -160,19 +175,52 @@ class Batch {
       const answer = await answered(body).catch((error) => parts.fail(error))
       if (answer !== undefined) parts.take(answer)
     }
-    return new Results(parts)
+    return new Results(parts, (named) => Named.nameIn(this.#origin, named))
   }
 
   /** The first name with a number that is not taken. */
-  #free(prefix, count) {
+  #free(prefix, least) {
+    let count = Math.max(least, this.#numbers[prefix] ?? 0)
     while (this.#names.has(`${prefix}${count + 1}`)) count++
+    this.#numbers[prefix] = count
     return `${prefix}${count + 1}`
   }
 
   #append(request, needs) {
     this.#elements.push(elementText(request, needs))
-    this.#names.set(request.id, request.group)
-    if (request.group !== null && !this.#names.has(request.group)) this.#names.set(request.group, request.group)
+    this.#take(request.id, request.group)
+    if (request.group !== null) this.#takeGroup(request.group)
+  }
+
+  #take(name, group) {
+    if (this.#group !== null) this.#before.push([name, this.#names.get(name)])
+    this.#names.set(name, group)
+  }
+
+  #takeGroup(name) {
+    if (!this.#names.has(name)) this.#take(name, name)
+  }
+
+  /** Has the names be what they were before the group that is made. */
+  #releaseNames() {
+    for (const [name, group] of this.#before.reverse()) {
+      if (group === undefined) this.#names.delete(name)
+      else this.#names.set(name, group)
+    }
+  }
+
+  /** A URL, in which a request of this batch stands for its reference. */
+  #urlOf(url) {
+    if (url instanceof Reference) return `$${Named.nameIn(this.#origin, url)}`
+    if (typeof url !== 'string') throw new TypeError(`a URL is a string or a reference, not ${String(url)}`)
+    return url
+  }
+
+  /** Headers by their names in lower case, in which a request of this batch stands for its reference. */
+  #foldedOf(headers) {
+    const listed = headersOf(headers) ?? {}
+    for (const it of Object.values(listed)) if (it instanceof Named) Named.nameIn(this.#origin, it)
+    return foldedOf(listed)
   }
 
   /** The names that a request depends on: those that it lists, what it refers to, and the groups of these. */

@@ -57,7 +57,7 @@ function* partsOf(bytes) {
 /** The headers of a response; what is not a text or a number is left out, since no rule asks for them. */
 function headersOf(value) {
   const given = typeof value === 'object' && value !== null ? Object.entries(value) : []
-  return foldedOf(Object.fromEntries(given.filter(([, it]) => ['string', 'number', 'boolean'].includes(typeof it))))
+  return foldedOf(Object.fromEntries(given.filter(([, it]) => ['string', 'number'].includes(typeof it))))
 }
 
 /** Whether a text is base64url, or base64, with its `=` or without. */

@@ -46,14 +46,17 @@ class Result {
 
 class Results {
   #found
+  #nameOf
 
-  constructor({ answers, error }) {
+  /** `nameOf` returns the id of a request by what the batch has returned for it. */
+  constructor({ answers, error }, nameOf) {
+    this.#nameOf = nameOf
     this.#found = new Map(Array.from(answers, ([id, answer]) => [id, new Result(id, answer)]))
     this.error = error
   }
 
   get(request) {
-    return this.#found.get(typeof request === 'string' ? request : request.id)
+    return this.#found.get(this.#nameOf(request))
   }
 
   get size() {

@@ -82,6 +82,42 @@ test('adds nothing of a group whose function fails', () => {
   assert.throws(() => batch.group(() => batch.group(() => {})), /in another one/)
   batch.get('C', { after: before })
   assert.deepEqual(needsOf(batch), { 1: [], 2: ['1'] })
+  const shadow = () => {
+    batch.get('D', { id: '1' })
+    fail()
+  }
+  assert.throws(() => batch.group(shadow), /as planned/)
+  assert.equal(batch.group(() => batch.get('E', { after: before })).id, 'g1')
+  assert.deepEqual(needsOf(batch), { 1: [], 2: ['1'], 3: ['1'] })
+})
+
+test('gives no name twice, also of a group without requests', () => {
+  const batch = new Batch()
+  const [empty, full] = [batch.group(() => {}), batch.group(() => batch.get('A'))]
+  assert.deepEqual([empty.id, full.id, batch.check()], ['g1', 'g2', { requests: 1, groups: 1 }])
+})
+
+test('takes as many groups and ids as a batch may have', () => {
+  const [batch, begun] = [new Batch(), performance.now()]
+  for (let k = 0; k < 5000; k++) batch.group(() => batch.get('A', { id: String(5001 + k) }))
+  for (let k = 0; k < 5000; k++) batch.get('A')
+  assert(performance.now() - begun < 2000)
+  assert.deepEqual(batch.check(), { requests: 10000, groups: 5000 })
+})
+
+test('has no result of a request of another batch', async () => {
+  const [batch, other] = [new Batch(), new Batch()]
+  batch.get('A')
+  const results = await batch.send(() => ({ status: 503 }))
+  assert.throws(() => results.get(other.get('A')), RangeError)
+  assert.throws(() => results.get(undefined), TypeError)
+})
+
+test('reads headers that are texts or numbers', async () => {
+  const headers = { A: true, B: 7, C: 1.5, D: null, E: ['x'], F: 'x', f: 'y' }
+  const body = { responses: [{ id: 'a', status: 200, headers }] }
+  const [result] = await Batch.read(described(['a'])).send(() => ({ status: 200, body }))
+  assert.deepEqual(result.headers, { b: '7', c: '1.5', f: 'x, y' })
 })
 
 test('refuses what it cannot send', () => {
@@ -92,6 +128,12 @@ test('refuses what it cannot send', () => {
     [RangeError, () => batch.get('A', { id: 'metadata' })],
     [RangeError, () => batch.get('A', { after: stranger })],
     [RangeError, () => batch.get('A', { after: other.group(() => {}) })],
+    [RangeError, () => batch.get(stranger)],
+    [RangeError, () => batch.get('A', { headers: { 'If-Match': stranger } })],
+    [TypeError, () => batch.get('A', { id: 7 })],
+    [TypeError, () => batch.get(undefined)],
+    [TypeError, () => batch.get(null)],
+    [TypeError, () => batch.group(() => {}, { id: 7 })],
     [TypeError, () => batch.get('A', { after: 7 })],
     [TypeError, () => batch.get('A', { before: 7 })],
     [TypeError, () => batch.post('A', bytes('{"p":1},{"id":"x"'))],

@@ -48,6 +48,8 @@ def checked(answered: Any) -> Answer:
     status, headers, body = Answer(*answered)
     if isinstance(status, bool) or not isinstance(status, int):
         raise TypeError(f"a status is a whole number, not {status!r}")
+    if not hasattr(headers, "items"):
+        raise TypeError(f"headers are a mapping, not {headers!r}")
     return Answer(int(status) if 200 <= status <= 599 else 502, header_dict(headers.items()), body)
 
 

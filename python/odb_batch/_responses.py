@@ -42,7 +42,8 @@ def texts_of(responses: str) -> Iterator[Dict[str, str]]:
 def _headers(value: Any) -> Dict[str, str]:
     """The headers of a response; what is not a text or a number is left out, since no rule asks for them."""
     given = value.items() if isinstance(value, dict) else ()
-    return header_dict((name, str(it)) for name, it in given if isinstance(it, (str, int, float)))
+    texts = (str, int, float)
+    return header_dict((name, str(it)) for name, it in given if isinstance(it, texts) and not isinstance(it, bool))
 
 
 def _wire(text: bytes, headers: Dict[str, str]) -> bytes:

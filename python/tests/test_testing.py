@@ -165,5 +165,10 @@ class TestScripted:
         kind = {"content-type": "application/json"}
         assert found == [(429, {**kind, "retry-after": "9"}), (500, kind), (200, kind)]
 
+    @pytest.mark.parametrize("scene", [[], None, "409", (409, {}, b""), [503, "201"], 99, 600, Answer(600)])
+    def test_what_is_no_answer(self, scene):
+        with pytest.raises(TypeError, match="a is answered by statuses from 200 to 599"):
+            Scripted({"a": scene})
+
     def test_for_clients_that_await(self):
         assert asyncio.run(Scripted().post_async(b'{"requests":[]}'))[2] == b'{"responses":[]}'

@@ -15,7 +15,8 @@ Counts(requests=2, groups=0)
 What a service has not performed for now, as it had no capacity, is a batch again: :meth:`Results.rest`.
 """
 
-from ._batch import Batch, Group, Reference, headers
+from ._batch import Batch, headers
+from ._names import Group, Reference
 from ._results import RequestFailed, Result, Results
 
 __all__ = ["Batch", "Group", "Reference", "RequestFailed", "Result", "Results", "headers"]

@@ -2,7 +2,12 @@
 
 import contextlib
 import json
-from typing import Any, Awaitable, Callable, Dict, Generator, Iterable, Iterator, List, Mapping, Optional, Tuple, Union
+import os
+from collections import ChainMap
+from typing import (
+    AbstractSet, Any, Awaitable, Callable, Dict, Generator, Iterable, Iterator, List, Mapping, MutableMapping, Optional,
+    Tuple, Union,
+)  # fmt: skip
 from urllib.parse import unquote
 
 from .._bodies import is_json, to_json
@@ -12,6 +17,7 @@ from .._elements import batch_text, element_text
 from .._messages import Answer, Answered, header_dict, media_type
 from .._preparation import CONDITIONS
 from .._requests import Request, requests
+from ._names import Group, Name, Reference
 from ._parts import MOST, Parts
 from ._results import Results
 
@@ -21,45 +27,6 @@ PostAsync = Callable[[bytes], Awaitable[Answered]]
 
 # Ids to which no URL refers, since $ and such a name mean something else (OData URL Conventions 4.01).
 _RESERVED = frozenset({"all", "batch", "crossjoin", "entity", "id", "metadata", "root"})
-
-
-class Reference:
-    """A request of a :class:`Batch`. As a text it is the reference ``$id``, for URLs and conditions of later requests.
-
-    Attributes:
-        id: The id of the request.
-    """
-
-    __slots__ = ("id", "_origin")
-
-    def __init__(self, id: str, origin: object) -> None:
-        self.id, self._origin = id, origin
-
-    def __str__(self) -> str:
-        return "$" + self.id
-
-    def __repr__(self) -> str:
-        return f"<Reference {self}>"
-
-
-class Group:
-    """An atomicity group of a :class:`Batch`, which later requests may depend on.
-
-    Attributes:
-        id: The name of the group.
-    """
-
-    __slots__ = ("id", "_origin")
-
-    def __init__(self, id: str, origin: object) -> None:
-        self.id, self._origin = id, origin
-
-    def __repr__(self) -> str:
-        return f"<Group {self.id}>"
-
-
-#: What a request depends on: a request or a group, or its name.
-Name = Union[Reference, Group, str]
 
 
 def headers(mode: Mode = "continue") -> Dict[str, str]:
@@ -82,10 +49,14 @@ class Batch:
     def __init__(self) -> None:
         self._requests: List[Tuple[Request, Tuple[str, ...]]] = []
         # The group of each request, by its id, and of each group itself: what is taken as a name.
-        self._names: Dict[str, Optional[str]] = {}
+        self._names: MutableMapping[str, Optional[str]] = {}
+        # The names of the batch of which this is the rest: a reference to it means the same in both.
+        self._spent: AbstractSet[str] = frozenset()
+        # By the prefix of a name, up to which number names are taken.
+        self._numbers: Dict[str, int] = {}
         self._group: Optional[Group] = None
-        # What a Reference and a Group have in common with the batches that they may be used in.
-        self._origin = object()
+        # What a Reference and a Group have in common with the batches that they may be used in, also as copies.
+        self._origin = os.urandom(16)
 
     @classmethod
     def read(cls, document: Document) -> "Batch":
@@ -190,13 +161,15 @@ class Batch:
 
         Raises:
             ValueError: The id is one that no URL can refer to, as ``metadata``; the bytes of a body are not JSON though
-                its media type is; or what is in ``after`` is of another batch.
-            TypeError: ``json`` cannot write the body.
+                its media type is; or a reference or a group is of another batch.
+            TypeError: ``json`` cannot write the body; or an id, the URL, the value of a header or what is in ``after``
+                is of another type.
         """
-        if id in _RESERVED:
+        name = self._id(id, "", len(self))
+        if name in _RESERVED:
             raise ValueError(f"no URL can refer to a request with the id {id!r}")
-        url, name = str(url), self._free("", len(self)) if id is None else id
-        given = header_dict((key, str(value)) for key, value in (headers or {}).items())
+        url = self._text(url)
+        given = header_dict((key, self._text(value)) for key, value in (headers or {}).items())
         text = _body_text(body, given)
         needs = self._needs(after, url, given)
         group = None if self._group is None else self._group.id
@@ -214,25 +187,44 @@ class Batch:
 
         Raises:
             ValueError: The block is in that of another group.
+            TypeError: The name is not a text.
         """
         if self._group is not None:
             raise ValueError("a group cannot be in another one")
-        begun, names = len(self._requests), dict(self._names)
-        self._group = Group(self._free("g", 0) if id is None else id, self._origin)
+        begun, names, numbers = len(self._requests), self._names, dict(self._numbers)
+        self._group = Group(self._id(id, "g", 0), self._origin)
+        own: Dict[str, Optional[str]] = {}
+        self._names = ChainMap(own, names)
+        self._names.setdefault(self._group.id, self._group.id)
         try:
             yield self._group
+            names.update(own)
         except BaseException:
             del self._requests[begun:]
-            self._names = names
+            self._numbers = numbers
             raise
         finally:
-            self._group = None
+            self._group, self._names = None, names
 
-    def _free(self, prefix: str, count: int) -> str:
-        """The first name with a number that is not taken."""
-        while f"{prefix}{count + 1}" in self._names:
+    def _id(self, id: Optional[str], prefix: str, count: int) -> str:
+        """A name that was given; without one the first that is not taken, of a prefix and a greater number."""
+        if id is not None:
+            if not isinstance(id, str):
+                raise TypeError(f"an id is a str, not {id!r}")
+            return id
+        count = max(count, self._numbers.get(prefix, 0))
+        while (name := f"{prefix}{count + 1}") in self._names or name in self._spent:
             count += 1
-        return f"{prefix}{count + 1}"
+        self._numbers[prefix] = count
+        return name
+
+    def _text(self, value: Union[str, Reference]) -> str:
+        """A URL or the value of a header, in which a request of this batch stands for its reference."""
+        if isinstance(value, str):
+            return value
+        if not isinstance(value, Reference):
+            raise TypeError(f"a URL and a value of a header are a str or a Reference, not {value!r}")
+        return f"${self._name(value)}"
 
     def _append(self, request: Request, needs: Tuple[str, ...]) -> None:
         self._requests.append((request, needs))
@@ -251,7 +243,9 @@ class Batch:
     def _name(self, named: Name) -> str:
         if isinstance(named, str):
             return named
-        if named._origin is not self._origin:
+        if not isinstance(named, (Reference, Group)):
+            raise TypeError(f"a request or a group is named by its reference or its id, not by {named!r}")
+        if named._origin != self._origin:
             raise ValueError(f"{named.id} is of another batch")
         return named.id
 
@@ -280,7 +274,8 @@ class Batch:
 
         Where a part is answered as a whole, by a status that is not 2xx, each of its requests has that answer. Where
         ``post`` raises an exception, or what it returns is not the response to the part, each has 504 for a timeout,
-        else 502. After both nothing more is sent, and the other requests are 424.
+        also for an exception that comes from one, the answer of a Refusal, or else 502. After both nothing more is
+        sent, and the other requests are 424.
 
         Args:
             post: Posts the bytes of a document, with the headers that :func:`headers` returns, and returns the status,
@@ -342,7 +337,7 @@ class Batch:
     def _rest(self, document: bytes) -> "Batch":
         """The batch of a document with requests of this one, for which the same references hold."""
         batch = Batch.read(document)
-        batch._origin = self._origin
+        batch._origin, batch._spent = self._origin, self._spent | self._names.keys()
         return batch
 
 

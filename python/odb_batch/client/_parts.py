@@ -132,7 +132,10 @@ class Parts:
         """Takes the exception by which the part that is out was not answered."""
         self.error = error
         LOG.error("a part of the batch was not answered", exc_info=error)
-        self._end(TIMED_OUT if isinstance(error, TIMEOUTS) else BROKEN)
+        if isinstance(error, Refusal):
+            self._end(error.answer)
+        else:
+            self._end(TIMED_OUT if _is_timeout(error) else BROKEN)
 
     def _end(self, answer: Answer) -> None:
         """Gives each request of the part that is out the same answer. Nothing more is sent."""
@@ -172,3 +175,13 @@ class Parts:
                 with contextlib.suppress(Refusal):
                     found[id]["headers"][name] = of(id)
         return json_of({"responses": list(found.values())})
+
+
+def _is_timeout(error: BaseException) -> bool:
+    """Whether an exception is a timeout, or comes from one: clients of HTTP raise exceptions of their own then."""
+    chain: List[BaseException] = []
+    found: Optional[BaseException] = error
+    while found is not None and found not in chain:
+        chain.append(found)
+        found = found.__cause__ or found.__context__
+    return any(isinstance(it, TIMEOUTS) for it in chain)

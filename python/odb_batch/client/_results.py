@@ -12,7 +12,8 @@ from ._parts import Parts
 from ._rest import rest
 
 if TYPE_CHECKING:
-    from ._batch import Batch, Reference
+    from ._batch import Batch
+    from ._names import Reference
 
 _Self = TypeVar("_Self", bound="Result")
 
@@ -32,6 +33,10 @@ class Result(NamedTuple):
     status: int
     headers: Dict[str, str]
     body: bytes
+
+    def __repr__(self) -> str:
+        # Without headers and body, since logs should not have them.
+        return f"<Result {self.id} {self.status}>"
 
     @property
     def is_success(self) -> bool:
@@ -85,7 +90,8 @@ def _error_text(body: bytes) -> str:
 class Results:
     """What the requests of a batch were answered: a :class:`Result` for each, in the order of the batch.
 
-    ``results[order]`` is that of a request, by what the batch returned for it or by its id.
+    ``results[order]`` is that of a request, by what the batch returned for it or by its id. Another id is a KeyError,
+    and a request of another batch a ValueError.
 
     Attributes:
         error: The exception by which a part was not answered: what ``post`` raised, or the Fault of what is not the
@@ -99,7 +105,7 @@ class Results:
         self._found = {id: _result(id, answer) for id, answer in parts.answers.items()}
 
     def __getitem__(self, request: Union["Reference", str]) -> Result:
-        return self._found[request if isinstance(request, str) else request.id]
+        return self._found[self._batch._name(request)]
 
     def __iter__(self) -> Iterator[Result]:
         return iter(self._found.values())
@@ -141,11 +147,12 @@ def _result(id: str, answer: Answer) -> Result:
 
 
 def _seconds(value: str) -> float:
-    """How many seconds a Retry-After asks for: a number, or the time up to a date; 0 if it is neither."""
+    """How many seconds a Retry-After asks for: a number, or the time up to a date; 0 if it is neither. It may be any
+    text. Of numbers, 2**31 stands for greater ones (RFC 9111, section 1.2.2)."""
     if value.isascii() and value.isdecimal():
-        return float(value)
+        return min(float(value), 2.0**31)
     try:
         at = email.utils.parsedate_to_datetime(value)
-    except (TypeError, ValueError):
+    except (TypeError, ValueError, OverflowError):
         return 0.0
     return max((at if at.tzinfo else at.replace(tzinfo=timezone.utc)).timestamp() - time.time(), 0.0)

@@ -36,6 +36,9 @@ class Scripted:
         retry_after: The seconds of Retry-After.
         refusals: The statuses by which the first batches are answered as a whole, in turn.
 
+    Raises:
+        TypeError: What a request is answered is neither a status from 200 to 599 nor an Answer, nor a list of them.
+
     Attributes:
         documents: The batches that it was sent, as they came.
     """
@@ -51,7 +54,7 @@ class Scripted:
         retry_after: int = 1,
         refusals: Iterable[int] = (),
     ) -> None:
-        self._script = {id: list(it) if isinstance(it, list) else [it] for id, it in script.items()}
+        self._script = {id: _scenes(id, it) for id, it in script.items()}
         self._limit, self._mode, self._retry_after = limit, mode, str(retry_after)
         self._refusals = list(refusals)
         self.documents = []
@@ -102,3 +105,12 @@ class Scripted:
     def _refusal(self, status: int, code: str) -> Response:
         headers = {**_JSON, **({"retry-after": self._retry_after} if status in _BUSY else {})}
         return status, headers, json.dumps({"error": {"code": code, "message": code}}).encode()
+
+
+def _scenes(id: str, given: Union[Scene, List[Scene]]) -> List[Scene]:
+    """What a request is answered, each time; a client would take an exception in `post` for a broken connection."""
+    scenes = list(given) if isinstance(given, list) else [given]
+    statuses = [it.status if isinstance(it, Answer) else it for it in scenes]
+    if not statuses or not all(isinstance(it, int) and 200 <= it <= 599 for it in statuses):
+        raise TypeError(f"{id} is answered by statuses from 200 to 599 and Answers, not by {given!r}")
+    return scenes

@@ -1,12 +1,16 @@
 """Batches that are made by calls: ids, dependencies, headers and bodies, and what is refused."""
 
+import copy
 import json
+import pickle
+import time
 from decimal import Decimal
 
 import pytest
 
 from odb_batch import Counts, Fault, check
 from odb_batch.client import Batch, headers
+from odb_batch.testing import Scripted
 
 
 def requests_of(batch):
@@ -123,12 +127,44 @@ def test_an_id_that_no_url_refers_to(id):
 
 
 def test_what_is_of_another_batch():
-    other = small()
+    other, batch = small(), small()
     with other.group("h") as group:
-        request = other.get("X")
-    for named in (request, group):
-        with pytest.raises(ValueError, match=f"{named.id} is of another batch"):
-            small().get("Y", after=named)
+        request = other.get("X", id="a")
+    results = batch.send(Scripted().post)
+    for id, call in (
+        ("a", lambda: batch.get("Y", after=request)),
+        ("h", lambda: batch.get("Y", after=group)),
+        ("a", lambda: batch.get(request)),
+        ("a", lambda: batch.get("Y", headers={"If-Match": request})),
+        ("a", lambda: results[request]),
+    ):
+        with pytest.raises(ValueError, match=f"{id} is of another batch"):
+            call()
+    assert len(batch) == 3
+
+
+def test_references_hold_for_a_copy():
+    batch = Batch()
+    first = batch.get("A")
+    for copied in (copy.deepcopy(batch), pickle.loads(pickle.dumps(batch))):
+        copied.get("B", after=first)
+        assert copied.check() == (2, 0) and len(batch) == 1
+
+
+@pytest.mark.parametrize("call", [
+    lambda batch: batch.get("A", id=7),
+    lambda batch: batch.get(None),
+    lambda batch: batch.get(b"A"),
+    lambda batch: batch.patch("A", {}, headers={"If-Match": None}),
+    lambda batch: batch.get("A", after=None),
+    lambda batch: batch.get("A", after=[7]),
+    lambda batch: batch.group(7).__enter__(),
+])  # fmt: skip
+def test_what_has_another_type(call):
+    batch = small()
+    with pytest.raises(TypeError):
+        call(batch)
+    assert len(batch) == 3 and batch.get("A").id == "4"
 
 
 def test_ids_that_are_free():
@@ -143,6 +179,23 @@ def test_ids_that_are_free():
 
 
 class TestGroups:
+    def test_the_name_of_an_empty_one_is_not_given_again(self):
+        batch = Batch()
+        with batch.group() as first:
+            pass
+        with batch.group() as second:
+            batch.post("A")
+        assert [first.id, second.id] == ["g1", "g2"] and batch.check() == (1, 1)
+
+    def test_as_many_as_a_batch_may_have(self):
+        batch, begun = Batch(), time.perf_counter()
+        for k in range(5000):
+            with batch.group():
+                batch.get("A", id=str(5001 + k))
+        for _ in range(5000):
+            batch.get("A")
+        assert time.perf_counter() - begun < 2 and batch.check() == (10_000, 5000)
+
     def test_no_group_in_another(self):
         batch = Batch()
         with pytest.raises(ValueError, match="a group cannot be in another one"), batch.group():
@@ -159,7 +212,12 @@ class TestGroups:
         assert len(batch) == 1
         with batch.group("g"):
             batch.post("B", id="b")
-        assert batch.check() == (2, 1)
+        with pytest.raises(KeyError), batch.group():
+            batch.post("C", id="b")
+            raise KeyError
+        with batch.group() as group:
+            batch.post("C", after="b")
+        assert group.id == "g1" and last_of(batch)["dependsOn"] == ["b", "g"] and batch.check() == (3, 2)
 
 
 def test_check_says_where():

@@ -89,6 +89,23 @@ def test_references_hold_for_the_rest():
         left.send(Scripted().post)[first]
 
 
+def test_new_names_in_the_rest():
+    """What has succeeded is not in the rest, but a reference to it does not mean another request there."""
+    batch = Batch()
+    batch.post("A", {})
+    with batch.group():
+        done = batch.post("B", {})
+    left = rest_of(batch, {"1": 429})
+    with left.group() as group:
+        assert left.post("C", {}).id == "3"
+    assert group.id == "g2" and left.check() == (2, 1)
+    left.get(done)
+    with pytest.raises(Fault, match="F44"):
+        left.check()
+    again = rest_of(batch, {"1": 429}).send(Scripted({"1": 503}).post).rest()
+    assert again.get("D").id == "3"
+
+
 def test_bodies_keep_their_digits():
     batch = Batch()
     batch.put("A", b'{"Price": 9.990, "Sum": 1e2}')

@@ -8,7 +8,7 @@ from email.utils import formatdate
 
 import pytest
 
-from odb_batch import Answer, Fault
+from odb_batch import Answer, Fault, Refusal
 from odb_batch.client import Batch, RequestFailed
 from odb_batch.testing import Scripted
 
@@ -43,6 +43,20 @@ def raising(error):
     return post
 
 
+def of_a_client(cause):
+    """The exception that a client of HTTP raises for one of a socket, as requests does."""
+    try:
+        try:
+            raise cause
+        except OSError as error:
+            raise KeyError("of the pool") from error
+    except KeyError:
+        try:
+            raise OSError("of the client")
+        except OSError as error:
+            return error
+
+
 class TestResults:
     def test_by_request_and_in_order(self):
         sold = {"error": {"code": "Sold", "message": "gone"}}
@@ -53,7 +67,7 @@ class TestResults:
         assert results[a] == results["1"] and results[a].status == 201 and results[a].is_success
         assert results[a].raise_for_status() is results[a]
         assert results[b].headers["x-a"] == "1" and results[b].json() == sold
-        assert repr(results) == "<Results: 1 201, b 409>"
+        assert repr(results) == "<Results: 1 201, b 409>" and repr(results[b]) == "<Result b 409>"
         with pytest.raises(RequestFailed, match="^b 409 Sold: gone$") as raised:
             results[b].raise_for_status()
         assert raised.value.result is results[b]
@@ -83,6 +97,11 @@ class TestResults:
         text = '\ufeff {"@a": [], "responses": [ {"id": "a", %s , "status": 200} ]}' % response
         result = gets("a").send(answering(200, body=text.encode()))["a"]
         assert (result.status, result.body) == (200, body)
+
+    def test_headers(self):
+        headers = b'{"A": true, "B": 7, "C": 1.5, "D": null, "E": ["x"], "F": "x", "f": "y"}'
+        text = b'{"responses":[{"id":"a","status":200,"headers":%s}]}' % headers
+        assert gets("a").send(answering(200, body=text))["a"].headers == {"b": "7", "c": "1.5", "f": "x, y"}
 
     def test_numbers(self):
         text = b'{"responses":[{"id":"a","status":200,"body":{"Price":9.990}}]}'
@@ -265,6 +284,7 @@ class TestErrorsOfParts:
 
     @pytest.mark.parametrize("error, status", [
         (ConnectionResetError("gone"), 502), (TimeoutError(), 504), (asyncio.TimeoutError(), 504), (KeyError("x"), 502),
+        (of_a_client(TimeoutError()), 504), (of_a_client(ConnectionError()), 502), (StopIteration(), 502),
     ], ids=repr)  # fmt: skip
     def test_a_service_that_hangs_up(self, error, status):
         batch = gets("a")
@@ -274,14 +294,31 @@ class TestErrorsOfParts:
         assert statuses_of(results) == [status, status, 424] and results.error is error
         assert [it.id for it in results.rest().send(Scripted().post)] == ["a", "c"]
 
+    def test_a_refusal_is_an_answer(self):
+        refusal = Refusal(429, "Busy", "later", retry_after="7")
+        results = gets("a", "b").send(raising(refusal), limit=1)
+        assert statuses_of(results) == [429, 424] and results.error is refusal and results.retry_after == 7
+        assert str(RequestFailed(results["a"])) == "a 429 Busy: later" and len(results.rest()) == 2
+
     def test_an_interruption_is_raised(self):
         with pytest.raises(KeyboardInterrupt):
             gets("a").send(raising(KeyboardInterrupt()))
 
-    @pytest.mark.parametrize("answered", [None, 200, ("200", {}, b""), (200, {"a": 1}, b""), (200, {}, 7)])
+    @pytest.mark.parametrize("answered", [
+        None, 200, ("200", {}, b""), (200, {"a": 1}, b""), (200, {}, 7), (200, None), (200, [("a", "b")]),
+    ])  # fmt: skip
     def test_what_is_no_answer(self, answered):
         with pytest.raises(TypeError):
             gets("a").send(lambda document: answered)
+
+
+@pytest.mark.parametrize("value", ["Mon, 01 Jan 99999999999 00:00:00 GMT", "", " ", "-1", "1e5", "inf"])
+def test_a_retry_after_that_is_none(value):
+    assert gets("a").send(answering(503, {"Retry-After": value})).retry_after == 0
+
+
+def test_a_retry_after_that_is_too_great():
+    assert gets("a").send(answering(503, {"Retry-After": "9" * 400})).retry_after == 2**31
 
 
 def test_retry_after():
