@@ -133,6 +133,16 @@ def test_a_line_of_log_for_each_batch_and_each_request(upstream, running):
     assert lines[3] == [*batch, "status=400", "code=F02", "sent=0", "failed=0"]
 
 
+def test_a_path_is_one_word_of_the_log(upstream, running):
+    it = running("--upstream", upstream().url)
+    with socket.create_connection(("127.0.0.1", it.port), SECONDS) as client:
+        head = b"POST /a\tstatus=200\xc2\x85\xff%20/$batch HTTP/1.1\r\nHost: a\r\nContent-Length: 0\r\n\r\n"
+        client.sendall(head)
+        assert client.makefile("rb").readline().split()[1] == b"400"
+    _, text = it.stop(signal.SIGTERM)
+    assert text.split()[1:4] == ["batch=/a%09status=200%C2%85%FF%20/$batch", "from=127.0.0.1", "method=POST"]
+
+
 def test_what_is_not_http_is_not_in_the_log(upstream, running):
     it = running("--upstream", upstream().url)
     with socket.create_connection(("127.0.0.1", it.port), SECONDS) as client:

@@ -224,6 +224,16 @@ def test_what_is_refused(upstream, front, method, path, body, headers, status, c
     assert (found, json.loads(text)["error"]["code"], service.seen) == (status, code, [])
 
 
+def test_a_request_without_a_host(upstream, front, monkeypatch):
+    service, batch = upstream(), b'{"requests":[{"id":"a","method":"get","url":"x"}]}'
+    it, asked = front("--upstream", service.url), []
+    monkeypatch.setattr(socket, "getfqdn", lambda *name: asked.append(name) or "a")
+    with socket.create_connection(("127.0.0.1", it.port), 10) as client:
+        client.sendall(b"POST /$batch HTTP/1.0\r\nContent-Type: application/json\r\nContent-Length: 50\r\n\r\n" + batch)
+        assert b'"status":200' in client.makefile("rb").read()
+    assert (asked, service.seen[0].headers["x-forwarded-host"]) == ([], "localhost")
+
+
 def test_a_path_that_is_not_utf_8(upstream, front):
     it = front("--upstream", upstream().url)
     with socket.create_connection(("127.0.0.1", it.port), 10) as client:

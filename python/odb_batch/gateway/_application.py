@@ -142,14 +142,15 @@ class Gateway:
         headers = _headers(request)
         scheme = headers.get("x-forwarded-proto", "").partition(",")[0].strip().lower()
         scheme = scheme if scheme in ("http", "https") else request.scheme
-        outer = Outer(request.method, scheme, request.host, folder_of(request.path), "/", headers)
+        host = headers.get("host") or "localhost"  # for a request without one aiohttp would ask the DNS
+        outer = Outer(request.method, scheme, host, folder_of(request.path), "/", headers)
         peers = filter(None, (headers.get("x-forwarded-for"), request.remote))
         forwarded = {
             "x-forwarded-for": ", ".join(peers),
-            "x-forwarded-host": headers.get("x-forwarded-host", request.host),
+            "x-forwarded-host": headers.get("x-forwarded-host", host),
             "x-forwarded-proto": scheme,
         }
-        seen = f"{scheme}://{next(iter(forwarded_hosts(headers)), request.host)}/"
+        seen = f"{scheme}://{next(iter(forwarded_hosts(headers)), host)}/"
         return Performance(self._options, self._routes, self._upstreams, self._metrics, outer, forwarded, seen)
 
     async def _performed(self, request: web.Request, performance: Performance) -> Answer:

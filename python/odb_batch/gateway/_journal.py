@@ -83,12 +83,14 @@ class FileJournal:
 
     def close(self) -> None:
         """Lets others have the file; a batch of which nothing has happened leaves none."""
-        if not self._written:
-            with contextlib.suppress(FileNotFoundError):
-                os.unlink(self._path)
         file, self._file = self._file, -1  # what still writes must not write to another one
-        fcntl.flock(file, fcntl.LOCK_UN)  # a sync that was cancelled may keep it open for a while
-        os.close(file)
+        try:
+            if not self._written:
+                with contextlib.suppress(FileNotFoundError):
+                    os.unlink(self._path)
+        finally:
+            fcntl.flock(file, fcntl.LOCK_UN)  # a sync that was cancelled may keep it open for a while
+            os.close(file)
 
 
 class Journals:
