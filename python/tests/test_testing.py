@@ -94,6 +94,15 @@ class TestStrategies:
             "requests": [{"id": "a", "method": "get", "url": "Books"}]
         }
 
+    @pytest.mark.parametrize("has, count", [
+        (lambda batch: any(it.get("body") for it in batch), 1),
+        (lambda batch: len({it.get("atomicityGroup") for it in batch} - {None}) > 1, 2),
+    ], ids=["body", "groups"])  # fmt: skip
+    def test_requests_of_no_use_are_left_out(self, has, count):
+        quick = settings(database=None, derandomize=True, max_examples=1000, deadline=None)
+        found = find(batches(), lambda it: has(it["requests"]), settings=quick)
+        assert len(found["requests"]) <= count
+
 
 def located(script, batch):
     """The outcomes that a script of statuses stands for."""

@@ -122,6 +122,22 @@ def request_after(draw: Any, batch: List[Json], group: Optional[str], choices: C
 
 
 @st.composite
+def units(draw: DrawFn, batch: List[Json], least: int, most: int, groups: bool, choices: Choices) -> List[Json]:
+    """The requests of a unit that may come next in a batch, or none if it ends. All sizes of a batch are as likely. A
+    unit is drawn as one, so that it is left out as one where an example shrinks."""
+    room = most - len(batch)
+    if room <= 0 or (len(batch) >= least and draw(st.integers(0, room)) == 0):
+        return []
+    size = min(draw(SIZES) if groups else 0, room)
+    taken = sorted({it["atomicityGroup"] for it in batch if "atomicityGroup" in it})
+    group = unused(GROUP_NAMES, "group-", taken)[0] if size else None
+    found: List[Json] = []
+    for _ in range(size or 1):
+        found.append(request_after(draw, [*batch, *found], group, choices))
+    return found
+
+
+@st.composite
 def batches(
     draw: DrawFn,
     *,
@@ -146,14 +162,9 @@ def batches(
             all commands take. None if there are no bodies.
     """
     choices = Choices(references, headers, bodies)
-    count = draw(st.sampled_from(range(min_requests, max_requests + 1)))
     batch: List[Json] = []
-    while len(batch) < count:
-        size = min(draw(SIZES) if groups else 0, count - len(batch))
-        taken = sorted({it["atomicityGroup"] for it in batch if "atomicityGroup" in it})
-        group = unused(GROUP_NAMES, "group-", taken)[0] if size else None
-        for _ in range(size or 1):
-            batch.append(request_after(draw, batch, group, choices))
+    while found := draw(units(batch, min_requests, max_requests, groups, choices)):
+        batch += found
     return {"requests": batch}
 
 
