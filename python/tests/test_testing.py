@@ -12,6 +12,7 @@ from odb_batch import Answer, Fault, canon, check, match, replay, run
 from odb_batch._explanations import EXPLANATIONS
 from odb_batch.testing import Scripted, batches, events, faulty_batches, outcomes
 from odb_batch.testing._faults import CHANGES
+from odb_batch.testing._strategies import covered
 from support.profiles import share
 
 PRICE = Decimal("9.990")
@@ -81,6 +82,12 @@ class TestStrategies:
     @given(batches(min_requests=30, max_requests=40, bodies=None))
     def test_many_requests_without_bodies(self, batch):
         assert check(batch).requests >= 30 and not any("body" in it for it in batch["requests"])
+
+    @pytest.mark.parametrize("url, ids", [
+        ("Books", ["a"]), ("$metadata/Pages", []), ("%24root?$top=1", []), ("$all", []), ("$all-/Pages", ["a"]),
+    ])  # fmt: skip
+    def test_what_has_a_reserved_url_is_not_referred_to(self, url, ids):
+        assert covered([{"id": "a", "url": url}], {"dependsOn": ["a"]}) == ids
 
     def test_each_part_is_drawn(self):
         requests = [it for batch in drawn(batches(), 150) for it in batch["requests"]]

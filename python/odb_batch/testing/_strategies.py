@@ -6,6 +6,7 @@ functions that take `draw` make a part of a document, from what was drawn before
 
 import copy
 import functools
+import re
 from typing import Any, Dict, List, Mapping, NamedTuple, Optional, Protocol, Sequence, Tuple
 
 from hypothesis import strategies as st
@@ -35,6 +36,7 @@ URLS = of(
 )  # fmt: skip
 # Ids that no URL refers to, since $ and the name mean something else.
 RESERVED = frozenset({"all", "batch", "crossjoin", "entity", "id", "metadata", "root"})
+IS_RESERVED = re.compile(rf"(\$|%24)({'|'.join(sorted(RESERVED))})([/?#]|$)").match
 DOLLARS, TAILS = of("$", "%24"), of("", "/Pages", "?$top=1", "#x")
 METHODS = of("get", "post", "PATCH", "Delete", "put")
 WITH_BODY = ("post", "PATCH", "put")
@@ -90,7 +92,7 @@ def covered(batch: List[Json], request: Json) -> List[str]:
     to: that URL cannot take the place of a reference."""
     around = {*(request.get("dependsOn") or []), request.get("atomicityGroup")} - {None}
     found = [it for it in batch if it["id"] in around or it.get("atomicityGroup") in around]
-    return [it["id"] for it in found if it["url"] not in SPECIAL_URLS]
+    return [it["id"] for it in found if it["url"] not in SPECIAL_URLS and not IS_RESERVED(it["url"])]
 
 
 def add_body(draw: Any, request: Json, choices: Choices) -> None:
