@@ -46,13 +46,14 @@ def posting(url: str) -> Callable[[bytes], Posted]:
 def send_patiently(batch: Batch, post: Callable[[bytes], Posted], times: int = 3) -> Dict[str, Result]:
     """Sends a batch, and after a while what is left of it."""
     found: Dict[str, Result] = {}
+    wait = 0.0
     for _ in range(times):
+        time.sleep(wait)
         results = batch.send(post, limit=20)
         found.update({result.id: result for result in results})
-        batch = results.rest()
+        batch, wait = results.rest(), results.retry_after
         if not batch:
             break
-        time.sleep(results.retry_after)
     return found
 
 

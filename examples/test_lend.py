@@ -31,9 +31,12 @@ def test_a_busy_service():
     assert (first[1].url, second[0].url) == ("$book", "/Made('book')")
 
 
-def test_a_service_that_stays_busy():
-    service = Scripted(refusals=[429] * 3, retry_after=0)
+def test_a_service_that_stays_busy(monkeypatch):
+    waits = []
+    monkeypatch.setattr("time.sleep", waits.append)
+    service = Scripted(refusals=[429] * 3, retry_after=7)
     assert statuses(send_patiently(lending(42), service.post)) == [429] * 4
+    assert waits == [0, 7, 7]  # and not after the last time
 
 
 @given(batches(), st.data())

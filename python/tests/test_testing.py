@@ -12,6 +12,7 @@ from odb_batch import Answer, Fault, canon, check, match, replay, run
 from odb_batch._explanations import EXPLANATIONS
 from odb_batch.testing import Scripted, batches, events, faulty_batches, outcomes
 from odb_batch.testing._faults import CHANGES
+from odb_batch.testing._strategies import covered
 from support.profiles import share
 
 PRICE = Decimal("9.990")
@@ -82,6 +83,12 @@ class TestStrategies:
     def test_many_requests_without_bodies(self, batch):
         assert check(batch).requests >= 30 and not any("body" in it for it in batch["requests"])
 
+    @pytest.mark.parametrize("url, ids", [
+        ("Books", ["a"]), ("$metadata/Pages", []), ("%24root?$top=1", []), ("$all", []), ("$all-/Pages", ["a"]),
+    ])  # fmt: skip
+    def test_what_has_a_reserved_url_is_not_referred_to(self, url, ids):
+        assert covered([{"id": "a", "url": url}], {"dependsOn": ["a"]}) == ids
+
     def test_each_part_is_drawn(self):
         requests = [it for batch in drawn(batches(), 150) for it in batch["requests"]]
         texts = [json.dumps(it).lower() for it in requests]
@@ -93,6 +100,15 @@ class TestStrategies:
         assert find(batches(min_requests=1), lambda it: True, settings=quick) == {
             "requests": [{"id": "a", "method": "get", "url": "Books"}]
         }
+
+    @pytest.mark.parametrize("has, count", [
+        (lambda batch: any(it.get("body") for it in batch), 1),
+        (lambda batch: len({it.get("atomicityGroup") for it in batch} - {None}) > 1, 2),
+    ], ids=["body", "groups"])  # fmt: skip
+    def test_requests_of_no_use_are_left_out(self, has, count):
+        quick = settings(database=None, derandomize=True, max_examples=1000, deadline=None)
+        found = find(batches(), lambda it: has(it["requests"]), settings=quick)
+        assert len(found["requests"]) <= count
 
 
 def located(script, batch):

@@ -6,6 +6,7 @@ functions that take `draw` make a part of a document, from what was drawn before
 
 import copy
 import functools
+import re
 from typing import Any, Dict, List, Mapping, NamedTuple, Optional, Protocol, Sequence, Tuple
 
 from hypothesis import strategies as st
@@ -35,6 +36,7 @@ URLS = of(
 )  # fmt: skip
 # Ids that no URL refers to, since $ and the name mean something else.
 RESERVED = frozenset({"all", "batch", "crossjoin", "entity", "id", "metadata", "root"})
+IS_RESERVED = re.compile(rf"(\$|%24)({'|'.join(sorted(RESERVED))})([/?#]|$)").match
 DOLLARS, TAILS = of("$", "%24"), of("", "/Pages", "?$top=1", "#x")
 METHODS = of("get", "post", "PATCH", "Delete", "put")
 WITH_BODY = ("post", "PATCH", "put")
@@ -90,7 +92,7 @@ def covered(batch: List[Json], request: Json) -> List[str]:
     to: that URL cannot take the place of a reference."""
     around = {*(request.get("dependsOn") or []), request.get("atomicityGroup")} - {None}
     found = [it for it in batch if it["id"] in around or it.get("atomicityGroup") in around]
-    return [it["id"] for it in found if it["url"] not in SPECIAL_URLS]
+    return [it["id"] for it in found if it["url"] not in SPECIAL_URLS and not IS_RESERVED(it["url"])]
 
 
 def add_body(draw: Any, request: Json, choices: Choices) -> None:
@@ -122,6 +124,22 @@ def request_after(draw: Any, batch: List[Json], group: Optional[str], choices: C
 
 
 @st.composite
+def units(draw: DrawFn, batch: List[Json], least: int, most: int, groups: bool, choices: Choices) -> List[Json]:
+    """The requests of a unit that may come next in a batch, or none if it ends. All sizes of a batch are as likely. A
+    unit is drawn as one, so that it is left out as one where an example shrinks."""
+    room = most - len(batch)
+    if room <= 0 or (len(batch) >= least and draw(st.integers(0, room)) == 0):
+        return []
+    size = min(draw(SIZES) if groups else 0, room)
+    taken = sorted({it["atomicityGroup"] for it in batch if "atomicityGroup" in it})
+    group = unused(GROUP_NAMES, "group-", taken)[0] if size else None
+    found: List[Json] = []
+    for _ in range(size or 1):
+        found.append(request_after(draw, [*batch, *found], group, choices))
+    return found
+
+
+@st.composite
 def batches(
     draw: DrawFn,
     *,
@@ -146,14 +164,9 @@ def batches(
             all commands take. None if there are no bodies.
     """
     choices = Choices(references, headers, bodies)
-    count = draw(st.sampled_from(range(min_requests, max_requests + 1)))
     batch: List[Json] = []
-    while len(batch) < count:
-        size = min(draw(SIZES) if groups else 0, count - len(batch))
-        taken = sorted({it["atomicityGroup"] for it in batch if "atomicityGroup" in it})
-        group = unused(GROUP_NAMES, "group-", taken)[0] if size else None
-        for _ in range(size or 1):
-            batch.append(request_after(draw, batch, group, choices))
+    while found := draw(units(batch, min_requests, max_requests, groups, choices)):
+        batch += found
     return {"requests": batch}
 
 
