@@ -100,8 +100,8 @@ def test_addresses(text, address):
 
 
 def test_several_services_under_their_own_paths():
-    found = options_of([it for url in ("http://a/x/", "http://[::1]:80/y") for it in ("--upstream", url)]).routes
-    assert [(it.prefix, it.upstream) for it in found] == [("/x/", "http://a/x/"), ("/y/", "http://[::1]:80/y/")]
+    found = options_of([it for url in ("http://a/x@1/", "http://[::1]:80/y") for it in ("--upstream", url)]).routes
+    assert [(it.prefix, it.upstream) for it in found] == [("/x@1/", "http://a/x@1/"), ("/y/", "http://[::1]:80/y/")]
 
 
 def test_the_same_service_behind_two_routes():

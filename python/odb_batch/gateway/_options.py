@@ -49,7 +49,7 @@ def _is_service(url: str) -> bool:
         port = parts.port or 80
     except ValueError:
         return False
-    is_plain = re.fullmatch(r"[!-~]+", url) is not None and not set("?#@\\") & set(url)
+    is_plain = re.fullmatch(r"[!-~]+", url) is not None and not set("?#\\") & set(url) and "@" not in parts.netloc
     is_place = _is_host(parts.hostname or "") and port > 0 and ".." not in parts.path.split("/")
     return parts.scheme in ("http", "https") and is_plain and is_place
 
