@@ -187,6 +187,14 @@ class TestParts:
         with pytest.raises(ValueError, match="b refers to a, which was answered without a Location"):
             results.rest()
 
+    def test_a_location_that_cannot_be_read(self):
+        batch = Batch()
+        batch.get(batch.post("A", {}, id="a"), id="b")
+        results = batch.send(Scripted({"a": Answer(201, {"Location": "http://[x"})}).post, limit=1)
+        assert statuses_of(results) == [201, 424] and results["b"].json()["error"]["code"] == "NoLocation"
+        with pytest.raises(ValueError, match="b refers to a, which was answered without a Location"):
+            results.rest()
+
     @pytest.mark.parametrize("location", ["$b", "%24b", "$batch", "/v1/$batch", "$root"])
     def test_a_location_that_no_url_may_have(self, location):
         batch, script = Batch(), {"a": Answer(201, {"Location": location, "ETag": "7"}), "b": [503, 200]}
