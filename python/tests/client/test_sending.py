@@ -187,14 +187,6 @@ class TestParts:
         with pytest.raises(ValueError, match="b refers to a, which was answered without a Location"):
             results.rest()
 
-    def test_a_location_that_cannot_be_read(self):
-        batch = Batch()
-        batch.get(batch.post("A", {}, id="a"), id="b")
-        results = batch.send(Scripted({"a": Answer(201, {"Location": "http://[x"})}).post, limit=1)
-        assert statuses_of(results) == [201, 424] and results["b"].json()["error"]["code"] == "NoLocation"
-        with pytest.raises(ValueError, match="b refers to a, which was answered without a Location"):
-            results.rest()
-
     @pytest.mark.parametrize("location", ["$b", "%24b", "$batch", "/v1/$batch", "$root"])
     def test_a_location_that_no_url_may_have(self, location):
         batch, script = Batch(), {"a": Answer(201, {"Location": location, "ETag": "7"}), "b": [503, 200]}
@@ -211,7 +203,9 @@ class TestParts:
         batch = Batch()
         batch.get(batch.put(url, {}))
         results = batch.send(Scripted({"1": Answer(200, {"Location": "http://["})}).post, limit=1)
-        assert statuses_of(results) == [200, 400] and results["2"].json()["error"]["code"] == "BadUrl"
+        assert statuses_of(results) == [200, 424] and results["2"].json()["error"]["code"] == "NoLocation"
+        with pytest.raises(ValueError, match="2 refers to 1, which was answered without a Location"):
+            results.rest()
 
     def test_what_depends_on_a_failure_is_not_sent(self):
         batch, service = Batch(), Scripted({"a": 404})
