@@ -74,7 +74,8 @@ export class Batch {
    * Adds a request, and returns the reference to it.
    *
    * Throws a `RangeError` if the id is one that no URL can refer to, as `metadata`, or if a reference or a group is of another
-   * batch; and a `TypeError` for a body that has no JSON, for an id or a URL of another type, and for an option with another name.
+   * batch; and a `TypeError` for a body that has no JSON, as a `Map` or a promise, for an id or a URL of another type, and for an
+   * option with another name.
    *
    * @param url Its URL, relative to the service or absolute, or with a reference.
    * @param body Its body: bytes as they are on the wire, of JSON with all digits of its numbers; or a value that

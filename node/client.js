@@ -4,7 +4,7 @@
 
 const { isJson, toJson } = require('./bodies.js')
 const { check, optionsOf, plan } = require('./commands.js')
-const { arrayOf, headersOf } = require('./documents.js')
+const { arrayOf, headersOf, kindOf } = require('./documents.js')
 const { batchText, elementText } = require('./elements.js')
 const { foldedOf, mediaTypeOf, readAnswer } = require('./messages.js')
 const { Parts } = require('./parts.js')
@@ -18,6 +18,8 @@ const OF_GROUP = ['id']
 const OF_SEND = ['limit', 'mode']
 // Ids to which no URL refers, since $ and such a name mean something else (OData URL Conventions 4.01).
 const RESERVED = new Set(['all', 'batch', 'crossjoin', 'entity', 'id', 'metadata', 'root'])
+// Kinds of objects that JSON.stringify writes as {}, whatever they hold.
+const WITHOUT_JSON = new Set(['Blob', 'File', 'FormData', 'Headers', 'Map', 'Promise', 'ReadableStream', 'Set', 'URLSearchParams'])
 
 const COMMON = { 'content-type': 'application/json', accept: 'application/json' }
 
@@ -68,8 +70,17 @@ function requireJson(bytes) {
   }
 }
 
+/** Throws for a body that is neither bytes nor a value that has a JSON. */
+function requireBody(body) {
+  const kind = kindOf(body)
+  if (WITHOUT_JSON.has(kind) || (ArrayBuffer.isView(body) && arrayOf(body) === undefined)) {
+    throw new TypeError(`a body must be a Uint8Array, an ArrayBuffer or a value that has a JSON, not of the kind ${kind}`)
+  }
+}
+
 /** The text of a body in a document, or undefined if there is none. */
 function bodyText(body, headers) {
+  requireBody(body)
   const text = toJson(body, headers)
   if (text !== undefined && arrayOf(body) !== undefined && isJson(mediaTypeOf(headers))) requireJson(text)
   return text

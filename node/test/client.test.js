@@ -141,6 +141,9 @@ test('refuses what it cannot send', () => {
     [TypeError, () => batch.post('A', Buffer.from([0x22, 0xff, 0x22]))],
     [TypeError, () => batch.post('A', { p: 1n })],
     [TypeError, () => batch.post('A', () => {})],
+    ...[Promise.resolve({}), new Map(), new Set(), new Uint16Array(1), new DataView(new ArrayBuffer(1)), new URLSearchParams('a=1')].map(
+      (body) => [TypeError, () => batch.post('A', body)],
+    ),
   ]
   for (const [kind, call] of wrong) assert.throws(call, kind)
   assert.equal(batch.size, 0)

@@ -101,8 +101,13 @@ class Parts:
         """The URL of a request in a part, without a reference to another part."""
         if given.reference is None or given.reference in names:
             return given.url
-        url = self._preparation.url(given.id)
-        if not is_plain(url):
+        try:
+            url = self._preparation.url(given.id)
+        except Refusal as refusal:
+            if refusal.answer.status == 424:
+                raise
+            url = ""  # the URL that was answered cannot be read
+        if not url or not is_plain(url):
             raise Refusal(424, "NoLocation", f"{given.reference} was answered with a URL of no use", given.reference)
         return url
 

@@ -203,7 +203,9 @@ class TestParts:
         batch = Batch()
         batch.get(batch.put(url, {}))
         results = batch.send(Scripted({"1": Answer(200, {"Location": "http://["})}).post, limit=1)
-        assert statuses_of(results) == [200, 400] and results["2"].json()["error"]["code"] == "BadUrl"
+        assert statuses_of(results) == [200, 424] and results["2"].json()["error"]["code"] == "NoLocation"
+        with pytest.raises(ValueError, match="2 refers to 1, which was answered without a Location"):
+            results.rest()
 
     def test_what_depends_on_a_failure_is_not_sent(self):
         batch, service = Batch(), Scripted({"a": 404})
