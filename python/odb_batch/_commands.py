@@ -224,6 +224,33 @@ def match(batch: Document, responses: Document, *, mode: Mode = "continue") -> D
     return {id: int(status) for id, status in (line.split(" ") for line in lines)}
 
 
+def rest(batch: Document, responses: Document, *, mode: Mode = "continue") -> bytes:
+    """Returns the rest of a batch: what may be sent again by the responses of a service, as a batch of its own.
+
+    A unit, a group or a request without one, is done if all of its requests were answered 2xx. It is in the rest if it
+    is not done, each of its requests may be sent again, and each unit that it depends on is done or in the rest. A
+    request may be sent again if it was answered 2xx, 424, 429 or 503; or 408, 502 or 504, if it is a GET, a PUT or a
+    DELETE. Dependencies on what is done are dropped, and a URL that refers to it gets its ``Location``. A body is the
+    bytes of the document; headers stay as they are, also an ``If-Match`` that refers to a request.
+
+    Args:
+        batch: The batch.
+        responses: The response document of the service.
+        mode: That of :func:`match`.
+
+    Returns:
+        The document of the rest, as JSON without a newline; one of no requests if nothing may be sent again.
+
+    Raises:
+        Fault: A document is refused, the responses do not fit the batch, or what a URL refers to was answered without a
+            ``Location`` that the URL of a request may have (F90).
+        ValueError: The mode is not one of its values.
+        MemoryError: An allocation failed.
+    """
+    options = (_mode_number(mode), FORMS.index("lines"))
+    return answer("odb_rest", batch, responses, options=options)[:-1]
+
+
 def run(batch: Document, events: Events, *, mode: Mode = "continue", width: int = MAX_WIDTH) -> bytes:
     """Runs a batch by recorded events.
 

@@ -76,9 +76,9 @@ DEFECTS = {
     "responses-to-something-else": ("client/_parts", "match(self._part, text, mode=self._mode)", "pass", SENDING, "not_the_response"),
     "places-of-any-kind": ("client/_parts", "if not is_plain(url):", "if False:", SENDING, "no_url_may_have"),
     "the-shortest-wait": ("client/_results", "max(map(_seconds", "min(map(_seconds", SENDING, "retry_after"),
-    "a-rest-of-what-failed": ("client/_rest", "elif unit.needs <= sound and", "elif", REST, "in_the_rest"),
-    "a-post-twice": ("client/_rest", "status in _UNKNOWN and method in _IDEMPOTENT", "status in _UNKNOWN", REST, "may_be_sent_again"),
-    "half-a-group-again": ("client/_rest", "_is_success(status) or status in _UNPERFORMED", "status in _UNPERFORMED", REST, "undone"),
+    "etags-of-what-is-done": ("client/_rest", "referred in recorded and referred not in names", "False", REST, "in_the_rest"),
+    "etags-of-what-is-left": ("client/_rest", " and referred not in names", "", REST, "refers_to_in_the_rest"),
+    "a-place-that-is-there": ("client/_rest", "if place is None:", "if True:", SENDING, "no_url_may_have"),
     "one-status-for-ever": ("testing/_scripted", "left.pop(0) if len(left) > 1 else left[0]", "left[0]", TESTING, "in_turn"),
     "an-etag-by-luck": ("_preparation", "if id not in self._answers:", "if False:", PERFORM_REQUESTS, "not_in_depends_on"),
 }  # fmt: skip
