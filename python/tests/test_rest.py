@@ -6,7 +6,7 @@ import pytest
 from hypothesis import given
 from hypothesis import strategies as st
 
-from odb_batch import Fault, check, replay, requests, rest
+from odb_batch import Fault, plan, replay, requests, rest
 from odb_batch.testing import batches
 from support.profiles import share
 from support.rests import rest_of
@@ -92,8 +92,10 @@ def test_the_rest_by_plain_rules(drawn):
         with pytest.raises(Fault, match=f"^F90 NoLocation /requests/{wanted}$"):
             rest(batch, found, mode=mode)
         return
-    document = rest(batch, found, mode=mode)
-    check(document)
-    bodies = {it.id: it.body for it in requests(json.dumps(batch))}
+    text = json.dumps(batch)
+    document = rest(text, found, mode=mode)
+    bodies = {it.id: it.body for it in requests(text)}
     assert all(it.body == bodies[it.id] for it in requests(document))
-    assert [{name: value for name, value in it.items() if name != "body"} for it in requests_of(document)] == wanted
+    members = ("id", "method", "url", "headers", "atomicityGroup")
+    left = [{name: it[name] for name in members if name in it} for it in requests_of(document)]
+    assert [(it, planned.needs) for it, planned in zip(left, plan(document))] == wanted

@@ -40,10 +40,8 @@ def location_of(response):
 
 
 def rest_of(batch, responses, mode="continue"):
-    """The elements of the rest, without their bodies; or the position of the first request without a URL.
-
-    Locations must be relative, and name no batch.
-    """
+    """The elements of the rest without bodies and dependencies, each with what it depends on; or the position of the first
+    request without a URL. No Location may name a batch."""
     statuses, planned = match(batch, responses, mode=mode), plan(batch)
     given = {it.id: it for it in requests(batch)}
     left = kept(planned, {id: it.method for id, it in given.items()}, statuses)
@@ -56,8 +54,8 @@ def rest_of(batch, responses, mode="continue"):
             if place is None or unquote(place).startswith("$"):
                 return it.position
             url = place + request.rest
-        needs = [name for name in it.needs if name in names]
-        more = {"headers": request.headers, "atomicityGroup": it.group, "dependsOn": needs}
+        more = {"headers": request.headers, "atomicityGroup": it.group}
         element = {"id": it.id, "method": request.method.lower(), "url": url}
-        elements.append({**element, **{name: value for name, value in more.items() if value}})
+        element.update((name, value) for name, value in more.items() if value)
+        elements.append((element, tuple(name for name in it.needs if name in names)))
     return elements
