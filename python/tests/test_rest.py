@@ -3,13 +3,13 @@
 import json
 
 import pytest
-from hypothesis import given
+from hypothesis import Phase, find, given, settings
 from hypothesis import strategies as st
 
 from odb_batch import Fault, plan, replay, requests, rest
 from odb_batch.testing import batches
+from support import rests
 from support.profiles import share
-from support.rests import rest_of
 
 BATCH = (
     b'{"requests":[{"id":"a","method":"post","url":"A"},'
@@ -17,6 +17,8 @@ BATCH = (
 )
 LEFT = b'{"requests":[{"body":1.50,"headers":{"if-match":"$a"},"id":"b","method":"put","url":"%s/B"}]}'
 STATUSES = st.sampled_from([200, 201, 204, 304, 404, 409, 408, 424, 429, 500, 502, 503, 504])
+# The first example found is enough: it is not made smaller.
+EXAMPLES = settings(settings.get_profile("gate"), phases=[Phase.generate])
 PLACES = st.sampled_from(["Made(1)", "Made(2)?a=b", "/Made/3", "https://host/Made(4)", "$b", "%24b", "", None, 7])
 
 
@@ -83,19 +85,41 @@ def answered(draw):
     return batch, {"responses": found}, "continue"
 
 
-@share(2)
-@given(answered())
-def test_the_rest_by_plain_rules(drawn):
-    batch, found, mode = drawn
-    wanted = rest_of(batch, found, mode)
-    if isinstance(wanted, int):
-        with pytest.raises(Fault, match=f"^F90 NoLocation /requests/{wanted}$"):
-            rest(batch, found, mode=mode)
-        return
+def by_library(batch, found, mode):
+    """What the library has of the rest, in the form of the plain rules. Bodies have to be those of the batch."""
     text = json.dumps(batch)
-    document = rest(text, found, mode=mode)
+    try:
+        document = rest(text, found, mode=mode)
+    except Fault as fault:
+        assert fault.code == "F90"
+        return int(fault.place.rpartition("/")[2])
     bodies = {it.id: it.body for it in requests(text)}
     assert all(it.body == bodies[it.id] for it in requests(document))
     members = ("id", "method", "url", "headers", "atomicityGroup")
     left = [{name: it[name] for name in members if name in it} for it in requests_of(document)]
-    assert [(it, planned.needs) for it, planned in zip(left, plan(document))] == wanted
+    return [(it, planned.needs) for it, planned in zip(left, plan(document))]
+
+
+@share(2)
+@given(answered())
+def test_the_rest_by_plain_rules(drawn):
+    assert by_library(*drawn) == rests.rest_of(*drawn)
+
+
+def kept_by_itself(planned, methods, statuses):
+    again = [it for it in planned if rests.may_repeat(methods[it.id], statuses[it.id])]
+    return [it for it in again if not rests.is_success(statuses[it.id])]
+
+
+MISTAKES = {
+    "whatever the method": ("may_repeat", lambda method, status: status < 300 or status in rests.UNPERFORMED | rests.UNKNOWN),
+    "never after a timeout": ("may_repeat", lambda method, status: status < 300 or status in rests.UNPERFORMED),
+    "whatever it depends on": ("kept", kept_by_itself),
+    "any Location": ("location_of", lambda response: "Made(0)"),
+}
+
+
+@pytest.mark.parametrize("name", MISTAKES)
+def test_a_mistake_of_the_plain_rules_is_found(name, monkeypatch):
+    monkeypatch.setattr(rests, *MISTAKES[name])
+    find(answered(), lambda drawn: by_library(*drawn) != rests.rest_of(*drawn), settings=EXAMPLES)
