@@ -43,4 +43,4 @@ returns-clause-found g c =
     let was = WasRead g.R.Read.remaining c.args.batch.now c.read_document.new.input in
     let so = subst (λ bytes. Answers (RestsBy c.args.mode bytes given) bytes Done (string_bytes text)) c.deref.ensures.value c.in_ok-text.ensures.found in
     let asked = subst (λ bytes. (new ≡ old) ⊎ Accepts bytes (λ _. Unit {0})) c.deref.ensures.value c.in_ok-text.ensures.asked in
-    (bytes, c.in_ok-document.ensures.document, (ends-line (Answers (RestsBy c.args.mode bytes given) bytes) (string_bytes text) _ so ?, asked-after (was bytes) bytes old new c.in_ok-document.ensures.whole asked))
+    (bytes, c.in_ok-document.ensures.document, (ends-line (Answers (RestsBy c.args.mode bytes given) bytes) (string_bytes text) _ so c.in_ok-push_str.ensures.bytes, asked-after (was bytes) bytes old new c.in_ok-document.ensures.whole asked))
