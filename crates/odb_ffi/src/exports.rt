@@ -211,8 +211,8 @@ pub extern "C" fn odb_match_with(
     }
 }
 
-/// Writes the rest of the batch in a document by the response document of a service: what may be sent again, as a
-/// batch of its own (OData JSON Format 4.01, sections 19.1 and 19.4), and a newline. It is the same in each form.
+/// Writes the rest of the batch in a document by the response document of a service, as `odb_batch rest` does: what may
+/// be sent again, as a batch of its own (OData JSON Format 4.01, sections 19.1 and 19.4). It is the same in each form.
 ///
 /// `mode` is that of [`odb_match_with`]. Responses that do not fit the batch are refused as there; else the fault is
 /// F90.

@@ -8,8 +8,9 @@ from hypothesis import strategies as st
 from odb_batch import check, plan
 from odb_batch.client import Batch
 from odb_batch.testing import Scripted, batches
+from support import rules
 from support.profiles import share
-from support.rests import kept
+from support.rules_of_rests import kept
 
 STATUSES = st.sampled_from([200, 201, 204, 201, 200, 304, 404, 409, 408, 424, 429, 500, 502, 503, 504])
 MODES = st.sampled_from(["continue", "stop"])
@@ -51,7 +52,7 @@ def test_the_rest(drawn, mode):
     batch, script, limit = drawn
     results = Batch.read(batch).send(Scripted(script, mode=mode).post, limit=limit, mode=mode)
     planned, statuses = plan(batch), statuses_of(results)
-    left = kept(planned, {it["id"]: it["method"].upper() for it in batch["requests"]}, statuses)
+    left = [planned[at] for at in kept(rules.check(json.dumps(batch).encode()), list(statuses.values()))]
     rest = results.rest()
     check(rest.document())
     assert [(it.id, it.group) for it in plan(rest.document())] == [(it.id, it.group) for it in left]
