@@ -159,6 +159,17 @@ uint32_t odb_match_with(const uint8_t *batch, size_t batch_size, const uint8_t *
                         uint32_t mode, uint32_t form,
                         uint8_t *text, size_t text_size, size_t *text_length, uint64_t seed);
 
+/* Writes the rest of a batch by the response document of a service: what may be sent again, as a batch of its own (OData
+ * JSON Format 4.01, sections 19.1 and 19.4). The result is this text, with each body as the bytes of the document, and a
+ * newline; it is the same in each form. A request may be sent again if it was answered 424, 429 or 503; or 408, 502 or 504,
+ * and it is a GET, a PUT or a DELETE. A group is in the rest as a whole, and what a request of the rest depends on was
+ * answered 2xx or is in the rest. A URL that refers to a request that was answered 2xx gets its Location.
+ * `mode` and `form` are those of `odb_match_with`, and responses that do not fit the batch are refused as there; else, if a
+ * Location is missing or can be in no URL, the batch is refused by F90. Returns what `odb_match_with` does. */
+uint32_t odb_rest(const uint8_t *batch, size_t batch_size, const uint8_t *responses, size_t responses_size,
+                  uint32_t mode, uint32_t form,
+                  uint8_t *text, size_t text_size, size_t *text_length, uint64_t seed);
+
 /* Where a part of a request lies: `length` bytes from `start` on. `start` is ODB_NONE and `length` 0 if the request has
  * no such part. */
 typedef struct odb_part {
@@ -400,6 +411,14 @@ static inline uint32_t odb_inline_match_with(ODB_INLINE_IN(batch), ODB_INLINE_IN
                           text_length, seed);
 }
 
+static inline uint32_t odb_inline_rest(ODB_INLINE_IN(batch), ODB_INLINE_IN(responses), uint32_t mode, uint32_t form,
+                                       ODB_INLINE_TEXT, uint64_t seed)
+{
+    uint8_t none = 0;
+    return odb_rest(ODB_INLINE_SLICE(batch), ODB_INLINE_SLICE(responses), mode, form, ODB_INLINE_SLICE(text), text_length,
+                    seed);
+}
+
 static inline uint32_t odb_inline_run_as(ODB_INLINE_IN(batch), ODB_INLINE_IN(events), uint32_t mode, uint32_t width,
                                          uint32_t form, ODB_INLINE_TEXT, uint64_t seed)
 {
@@ -498,6 +517,7 @@ static inline uint32_t odb_inline_run_response(odb_live_run *run, ODB_INLINE_TEX
 #define odb_canon_as odb_inline_canon_as
 #define odb_match_as odb_inline_match_as
 #define odb_match_with odb_inline_match_with
+#define odb_rest odb_inline_rest
 #define odb_run_as odb_inline_run_as
 #define odb_replay_as odb_inline_replay_as
 #define odb_requests odb_inline_requests

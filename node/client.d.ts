@@ -155,6 +155,23 @@ export class Results implements Iterable<Result> {
   get(id: string): Result | undefined
   /** How many they are. */
   readonly size: number
+  /**
+   * For how many seconds the service asks to wait before the rest is sent: the greatest `Retry-After` of what did not succeed
+   * (RFC 9110, section 10.2.3), up to then if it is a date; 0 if it asks for nothing.
+   */
+  readonly retryAfter: number
+  /**
+   * Returns the batch of what failed for now or was skipped, and may be sent again; one of no requests if nothing may.
+   *
+   * A request may be sent again if it was answered 424, 429 or 503, since nothing was performed then; or 408, 502 or 504, if it
+   * is a GET, a PUT or a DELETE, since nobody knows. A group is in the rest as a whole: if it has failed, what succeeded in it was
+   * undone. What is in the rest depends only on what has succeeded or is in the rest, too. References to what has succeeded are
+   * replaced as in {@link Batch.send}. The references that the batch has returned hold for the rest and its results.
+   *
+   * Throws a `RangeError` if a request refers to one that was answered without an ETag, or without a usable URL of what it has
+   * created.
+   */
+  rest(): Batch
   /** What `post` threw, or why what it returned is not the response to a part; undefined if each part was answered. */
   readonly error: unknown
   [Symbol.iterator](): Iterator<Result>

@@ -96,12 +96,14 @@ class Batch {
   #elements = []
   // The group of each request, or null, by its id, and of each group itself: what is taken as a name.
   #names = new Map()
+  // The names of the batch of which this is the rest: a reference to it means the same in both.
+  #spent = new Set()
   // Of the group that is made: what its names were before.
   #before = []
   // By the prefix of a name, up to which number names are taken.
   #numbers = {}
   #group = null
-  // What a Reference and a Group have in common with the batch that has made them.
+  // What a Reference and a Group have in common with the batches that they may be used in.
   #origin = Symbol('batch')
 
   static read(document) {
@@ -186,13 +188,22 @@ class Batch {
       const answer = await answered(body).catch((error) => parts.fail(error))
       if (answer !== undefined) parts.take(answer)
     }
-    return new Results(parts, (named) => Named.nameIn(this.#origin, named))
+    return new Results(parts, (named) => Named.nameIn(this.#origin, named), (document) => this.#restOf(document))
+  }
+
+  /** The batch of a document with requests of this one, for which the same references hold. */
+  #restOf(document) {
+    const batch = Batch.read(document)
+    batch.#origin = this.#origin
+    batch.#spent = new Set([...this.#spent, ...this.#names.keys()])
+    return batch
   }
 
   /** The first name with a number that is not taken. */
   #free(prefix, least) {
     let count = Math.max(least, this.#numbers[prefix] ?? 0)
-    while (this.#names.has(`${prefix}${count + 1}`)) count++
+    const isTaken = (name) => this.#names.has(name) || this.#spent.has(name)
+    while (isTaken(`${prefix}${count + 1}`)) count++
     this.#numbers[prefix] = count
     return `${prefix}${count + 1}`
   }

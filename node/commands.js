@@ -6,7 +6,7 @@ const { bytesOf, eventsOf, kindOf } = require('./documents.js')
 const { DONE, REFUSED, settle } = require('./faults.js')
 const library = require('./library.js')
 
-const COMMANDS = ['check', 'plan', 'canon', 'match', 'run', 'replay']
+const COMMANDS = ['check', 'plan', 'canon', 'match', 'run', 'replay', 'rest']
 const MODES = ['continue', 'stop']
 const ORDERS = ['first', 'last', 'wide']
 const FORMS = ['lines', 'json']
@@ -90,6 +90,10 @@ function match(batch, responses, options = {}) {
   return new Map(lines.map((line) => line.split(' ')).map(([id, status]) => [id, Number(status)]))
 }
 
+function rest(batch, responses, options = {}) {
+  return answer('rest', batch, responses, optionsOf(options, OF_MATCH)).subarray(0, -1)
+}
+
 function run(batch, events, options = {}) {
   return answer('run', batch, eventsOf(events), optionsOf(options, OF_RUN)).subarray(0, -1)
 }
@@ -123,4 +127,4 @@ function output(command, batch, second, options = {}) {
   return { accepted: status === DONE, text }
 }
 
-module.exports = { OF_RUN, canon, check, match, numbersOf, optionsOf, output, plan, replay, run }
+module.exports = { OF_RUN, canon, check, match, numbersOf, optionsOf, output, plan, replay, rest, run }

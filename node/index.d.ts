@@ -35,7 +35,7 @@ export interface PlannedRequest {
   needs: string[]
 }
 
-/** Options of a match. In each call an option with another name throws a `TypeError`. */
+/** Options of a match, and of the rest of a batch. In each call an option with another name throws a `TypeError`. */
 export interface MatchOptions {
   /**
    * `stop` is for a service that stops at its first error: if a response has a status from 400 to 599, each request
@@ -143,6 +143,21 @@ export function canon(batch: Document): Bytes
 export function match(batch: Document, responses: Document, options?: MatchOptions): Map<string, number>
 
 /**
+ * Returns the rest of a batch: what may be sent again by the responses of a service, as a batch of its own, as JSON without a
+ * newline.
+ *
+ * A unit, a group or a request without one, is done if all of its requests were answered 2xx. It is in the rest if it is not
+ * done, each of its requests may be sent again, and each unit that it depends on is done or in the rest. A request may be sent
+ * again if it was answered 2xx, 424, 429 or 503; or 408, 502 or 504, if it is a GET, a PUT or a DELETE. Dependencies on what is
+ * done are dropped, and a URL that refers to it gets its `Location`. A body is the bytes of the document; headers stay as they
+ * are, also an `If-Match` that refers to a request.
+ *
+ * Throws a {@link Fault} also if what a URL refers to was answered without a `Location` that the URL of a request may have
+ * (F90), and a `RangeError` for a mode that is none of its values.
+ */
+export function rest(batch: Document, responses: Document, options?: MatchOptions): Bytes
+
+/**
  * Runs a batch by recorded events, and returns the response document, as JSON without a newline. Throws a
  * `RangeError` for an option that has none of its values.
  */
@@ -200,7 +215,7 @@ export interface OutputOptions extends ReplayOptions {
  * canonical text, a response and a trace are the same in both forms. Throws a `RangeError` for a command or
  * an option that has none of its values, and a `TypeError` if the second document is missing or one too many.
  *
- * @param second The document that `match`, `run` or `replay` takes beside the batch; else null or undefined.
+ * @param second The document that `match`, `run`, `replay` or `rest` takes beside the batch; else null or undefined.
  */
 export function output(
   command: 'check' | 'plan' | 'canon',
@@ -209,7 +224,7 @@ export function output(
   options?: OutputOptions,
 ): Output
 export function output(
-  command: 'match' | 'run' | 'replay',
+  command: 'match' | 'run' | 'replay' | 'rest',
   batch: Document,
   second: Events,
   options?: OutputOptions,

@@ -2,7 +2,7 @@
 
 // odb_batch in this process. index.d.ts says what each call takes and returns.
 
-const { canon, check, match, output, plan, replay, run } = require('./commands.js')
+const { canon, check, match, output, plan, replay, rest, run } = require('./commands.js')
 const { Fault, Refused } = require('./faults.js')
 const { version: number } = require('./library.js')
 const { GroupFailed, Refusal } = require('./messages.js')
@@ -27,6 +27,7 @@ module.exports = {
   plan,
   replay,
   requests,
+  rest,
   run,
   version,
 }

@@ -15,6 +15,7 @@ const COMMANDS = [
   ['odb_match_with', 'mode', 'form'],
   ['odb_run_as', 'mode', 'width', 'form'],
   ['odb_replay_as', 'mode', 'width', 'order', 'trace', 'form'],
+  ['odb_rest', 'mode', 'form'],
 ]
 const TAKES_ONE = 3 // so many of them take one document
 

@@ -38,9 +38,11 @@ static uint32_t make(void *given, struct bytes text, size_t *length)
     case 4:
         return odb_run_as(a.at, a.size, b.at, b.size, it->mode, it->width, it->form,
                           text.at, text.size, length, it->seed);
-    default:
+    case 5:
         return odb_replay_as(a.at, a.size, b.at, b.size, it->mode, it->width, it->order, it->trace, it->form,
                              text.at, text.size, length, it->seed);
+    default:
+        return odb_rest(a.at, a.size, b.at, b.size, it->mode, it->form, text.at, text.size, length, it->seed);
     }
 }
 

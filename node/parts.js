@@ -52,6 +52,8 @@ function isError(answers, isSkipped) {
 }
 
 class Parts {
+  /** The document of the batch. */
+  document
   /** What the requests were answered, by their ids, in the order of the batch. */
   answers
   /** The exception by which a part was not answered, or undefined. */
@@ -59,6 +61,7 @@ class Parts {
   #limit
   #mode
   #needs
+  #groups
   #units
   #references
   // The number of the next unit, and of those that have succeeded or are in the part that is out.
@@ -77,7 +80,9 @@ class Parts {
     requireLimit(limit, this.#units)
     this.#limit = limit
     this.#mode = mode
+    this.document = document
     this.#needs = new Map(planned.map(({ id, needs }) => [id, needs]))
+    this.#groups = new Map(planned.map(({ id, group }) => [id, group]))
     this.#references = new References(requests(document), new Service())
     this.answers = new Map(planned.map(({ id }) => [id, SKIPPED]))
   }
@@ -149,6 +154,14 @@ class Parts {
   fail(error) {
     this.error = error
     this.#end(refusalOf(error, broken).answer)
+  }
+
+  /** The responses to the whole batch, as `match` accepts them: statuses, and of what others refer to the URL and the ETag. */
+  responses() {
+    const responses = Array.from(this.answers, ([id, { status }]) => {
+      return { id, status, atomicityGroup: this.#groups.get(id), headers: this.#references.recorded(id) }
+    })
+    return { responses }
   }
 
   /** Gives each request of the part that is out the same answer. Nothing more is sent. */

@@ -34,6 +34,16 @@ function outcomeOf(call) {
   }
 }
 
+/** What a call returns, or undefined for a refusal. */
+function foundBy(call) {
+  try {
+    return call()
+  } catch (error) {
+    if (error instanceof Refusal) return undefined
+    throw error
+  }
+}
+
 class References {
   #requests
   #service
@@ -59,6 +69,13 @@ class References {
     if (!this.#named.has(id)) return
     this.#answers.set(id, { headers, text })
     this.#urlOf(id)
+  }
+
+  /** What others may refer to of what a request was answered, as headers: its URL and its ETag, where it has them. */
+  recorded(id) {
+    if (!this.#answers.has(id)) return {}
+    const [location, etag] = [() => this.#placeOf(id), () => this.#tagOf(id)].map(foundBy)
+    return { ...(location !== undefined && { location }), ...(etag !== undefined && { etag }) }
   }
 
   /** The URL to which a request is sent, or a refusal. */

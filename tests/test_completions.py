@@ -18,7 +18,7 @@ from support.shells import FILE, Unread
 # Lines, each with what is offered for its last word.
 LINES = [
     ("odb_batch ch", ["check"]),
-    ("odb_batch re", ["replay"]),
+    ("odb_batch re", ["replay", "rest"]),
     ("odb_batch --v", ["--version"]),
     ("odb_batch check ", [FILE]),
     ("odb_batch replay --or", ["--order"]),

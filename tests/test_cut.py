@@ -18,6 +18,7 @@ SECONDS = {
     "replay": ("outcomes", "lent.json"),
     "match": ("responses", "served.json"),
     "run": ("events", "recorded.json"),
+    "rest": ("responses", "served.json"),
 }
 LIMIT = 60
 
@@ -42,7 +43,7 @@ def wrong_parts(program, path, parts, place, words):
 @pytest.mark.parametrize("command", OF_BATCHES)
 @pytest.mark.parametrize("name", BATCHES)
 def test_batch(program, tmp_path, name, command):
-    """A command has one part of six; `check` reads standard input."""
+    """A command has one part of seven; `check` reads standard input."""
     path, parts = tmp_path / "batch", parts_of(name)[OF_BATCHES.index(command) :: len(OF_BATCHES)]
     words = [command, path, *SECONDS.get(command, ())[1:]] if command != "check" else []
     assert list(wrong_parts(program, path, parts, "batch", words)) == []

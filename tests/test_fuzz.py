@@ -9,6 +9,7 @@ from hypothesis import event, example, given
 
 from support.calls import OF_LOGS, OPTIONS, ORDERS, Trial, trials
 from support.helps import Texts, read_helps
+from support.pages import WITH_LINES
 from support.profiles import share
 
 examples = share(len(OPTIONS))
@@ -66,9 +67,17 @@ def test_run(program, trial):
     follows_rules(program, trial)
 
 
+@examples
+@given(trial=trials("rest"))
+@example(trial=Trial("rest", {}, [TWO, b'{"responses":[{"id":"a","status":200},{"id":"b","status":429}]}']))
+def test_rest(program, trial):
+    follows_rules(program, trial)
+
+
 def test_each_option_is_tried(program):
     helps = read_helps(Texts(program))[1]
     for command, options in OPTIONS.items():
         listed = {option.long[2:]: option.values for option in helps[command].options}
-        assert set(listed) == {*options, *OF_LOGS, "help"}, f"the options of {command}"
+        logs = OF_LOGS if command in WITH_LINES else ()
+        assert set(listed) == {*options, *logs, "help"}, f"the options of {command}"
         assert tuple(listed.get("order", ORDERS)) == ORDERS

@@ -12,7 +12,7 @@ from hypothesis import strategies as st
 
 from support import rules, rules_of_runs, strategies
 from support.calls import ALONE, SECONDS, call, options_of, words_of
-from support.pages import OF_BATCHES
+from support.pages import WITH_LINES
 from support.profiles import share
 
 LONG_BYTES = 16_777_216
@@ -59,7 +59,7 @@ def answered(program, command, words, log):
     return call(program, [command, "--lines", *words], given=log)
 
 
-@pytest.mark.parametrize("command", OF_BATCHES)
+@pytest.mark.parametrize("command", WITH_LINES)
 @share(40)
 @given(data=st.data())
 def test_log_is_answered_as_its_lines_are(program, command, data):

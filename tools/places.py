@@ -28,9 +28,9 @@ NOT_ASKED = {
     "where code finds it": ("F07|F66", "the constant is used beside it"),
     "rule of docs/batches.md": (r"F07|F50|F6\d|F70|F[89]\d|[SP]\d", "no rule of batches"),
     "test of its message": ("F07|F66", "it has no message"),
-    "plain name": ("F8[12]|F90", NOT_PRINTED),
-    "plain rule": ("F8[12]|F90", NOT_PRINTED),
-    "case": ("F8[12]|F90", NOT_PRINTED),
+    "plain name": ("F8[12]", NOT_PRINTED),
+    "plain rule": ("F8[12]", NOT_PRINTED),
+    "case": ("F8[12]", NOT_PRINTED),
 }
 
 

@@ -24,7 +24,9 @@ export function read(found: Results): unknown[] {
   const result: Result = found.get(order)
   const failed: unknown[] = [...found].filter(({ ok }) => !ok).map((it: Result) => it.id)
   try {
-    return [result.raiseForStatus().json(), result.body.length, found.get('order')?.status, found.size, found.error]
+    const rest: Batch = found.rest()
+    const wait: number = found.retryAfter
+    return [rest, wait, result.raiseForStatus().json(), result.body.length, found.get('order')?.status, found.size, found.error]
   } catch (error) {
     return error instanceof RequestFailed ? [error.result.headers['etag']] : failed
   }

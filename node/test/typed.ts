@@ -2,7 +2,7 @@
 
 import {
   Bytes, Counts, Document, Fault, Output, PlannedRequest, Refused, Replay, Request, Run, RunEvent,
-  canon, check, match, output, plan, replay, requests, run, version,
+  canon, check, match, output, plan, replay, requests, rest, run, version,
 } from '../index'
 
 interface Batch { requests: { id: string; method: string; url: string }[] }
@@ -14,13 +14,14 @@ const counts: Counts = check(documents[0])
 const planned: PlannedRequest[] = plan(batch)
 const statuses: Map<string, number> = match(batch, run(batch, events, { mode: 'stop', width: 2 }))
 const stopped: Map<string, number> = match(batch, '', { mode: 'stop' })
+const left: Uint8Array = rest(batch, '', { mode: 'stop' })
 const sent: Request[] = [...requests(batch), new Run(batch).request('a')]
 const lengths: number[] = sent.map(({ body, rest, reference }) => (body?.length ?? 0) + rest.length + (reference ?? '').length)
 const replayed: Replay = replay(batch, '', { order: 'wide', mode: 'continue', trace: true })
 const printed: Output = output('run', batch, events, { form: 'lines' })
 const text: string = canon(batch).toString() + version
 const bytes: Uint8Array = replayed.response
-const length: number = printed.text.length + bytes.length + counts.groups + planned.length + statuses.size + stopped.size + text.length + lengths.length
+const length: number = printed.text.length + bytes.length + counts.groups + planned.length + statuses.size + stopped.size + left.length + text.length + lengths.length
 
 // @ts-expect-error
 run(batch, events, { mode: 'stopp' })
@@ -32,6 +33,8 @@ replay(batch, '', { ordre: 'wide' })
 output('chek', batch)
 // @ts-expect-error
 output('match', batch)
+// @ts-expect-error
+output('rest', batch)
 // @ts-expect-error
 new Run(batch, null)
 // @ts-expect-error

@@ -50,6 +50,7 @@ from ._commands import (
     output,
     plan,
     replay,
+    rest,
     run,
 )
 from ._documents import Document, Events, Report, Start
@@ -102,5 +103,6 @@ __all__ = [
     "plan",
     "replay",
     "requests",
+    "rest",
     "run",
 ]

@@ -10,13 +10,16 @@ from ._faults import fault_of
 Mode = Literal["continue", "stop"]
 Order = Literal["first", "last", "wide"]
 Form = Literal["lines", "json"]
-Command = Literal["check", "plan", "canon", "match", "run", "replay"]
+Command = Literal["check", "plan", "canon", "match", "run", "replay", "rest"]
 
 MODES: Tuple[str, ...] = get_args(Mode)
 ORDERS: Tuple[str, ...] = get_args(Order)
 FORMS: Tuple[str, ...] = get_args(Form)
 COMMANDS: Tuple[str, ...] = get_args(Command)
 MAX_WIDTH = 10_000
+
+# The functions of the commands that take a mode and a form.
+_OF_MODE = {"match": "odb_match_with", "rest": "odb_rest"}
 
 # How much longer than its documents a text is thought to be; a longer one takes a second call.
 _MORE = 256
@@ -224,6 +227,33 @@ def match(batch: Document, responses: Document, *, mode: Mode = "continue") -> D
     return {id: int(status) for id, status in (line.split(" ") for line in lines)}
 
 
+def rest(batch: Document, responses: Document, *, mode: Mode = "continue") -> bytes:
+    """Returns the rest of a batch: what may be sent again by the responses of a service, as a batch of its own.
+
+    A unit, a group or a request without one, is done if all of its requests were answered 2xx. It is in the rest if it
+    is not done, each of its requests may be sent again, and each unit that it depends on is done or in the rest. A
+    request may be sent again if it was answered 2xx, 424, 429 or 503; or 408, 502 or 504, if it is a GET, a PUT or a
+    DELETE. Dependencies on what is done are dropped, and a URL that refers to it gets its ``Location``. A body is the
+    bytes of the document; headers stay as they are, also an ``If-Match`` that refers to a request.
+
+    Args:
+        batch: The batch.
+        responses: The response document of the service.
+        mode: That of :func:`match`.
+
+    Returns:
+        The document of the rest, as JSON without a newline; one of no requests if nothing may be sent again.
+
+    Raises:
+        Fault: A document is refused, the responses do not fit the batch, or what a URL refers to was answered without a
+            ``Location`` that the URL of a request may have (F90).
+        ValueError: The mode is not one of its values.
+        MemoryError: An allocation failed.
+    """
+    options = (_mode_number(mode), FORMS.index("lines"))
+    return answer("odb_rest", batch, responses, options=options)[:-1]
+
+
 def run(batch: Document, events: Events, *, mode: Mode = "continue", width: int = MAX_WIDTH) -> bytes:
     """Runs a batch by recorded events.
 
@@ -302,13 +332,13 @@ def output(
     """Returns the text that a command prints, to be passed on: a fault is a text, too, and is not raised.
 
     Args:
-        command: ``"check"``, ``"plan"``, ``"canon"``, ``"match"``, ``"run"`` or ``"replay"``.
+        command: ``"check"``, ``"plan"``, ``"canon"``, ``"match"``, ``"run"``, ``"replay"`` or ``"rest"``.
         batch: The batch.
-        second: The document that :func:`match`, :func:`run` or :func:`replay` takes beside the batch.
+        second: The document that :func:`match`, :func:`run`, :func:`replay` or :func:`rest` takes beside the batch.
         form: ``"json"`` for one line of JSON, as ``odb_batch --json`` prints, or ``"lines"``. A canonical
-            text, a response and a trace are the same in both.
+            text, a response, a trace and a rest are the same in both.
         order, mode, width, trace: The options of :func:`replay`, of which ``run`` takes mode and width, and
-            ``match`` the mode.
+            ``match`` and ``rest`` the mode.
 
     Raises:
         ValueError: The command, or an option that it takes, has a value that it may not have.
@@ -318,13 +348,13 @@ def output(
     if (second is None) == (_number(COMMANDS, "command", command) > 2):
         raise TypeError(f"{command} takes {'no second' if second is not None else 'a second'} document")
     numbers: Tuple[int, ...] = policy(mode, width) if command in ("run", "replay") else ()
-    if command == "match":
+    if command in _OF_MODE:
         numbers = (_mode_number(mode),)
     if command == "replay":
         numbers = (*numbers, _number(ORDERS, "order", order), int(bool(trace)))
     given = (bytes_of(batch),) if second is None else (bytes_of(batch), events_of(second))
     options = (*numbers, _number(FORMS, "form", form))
-    name = "odb_match_with" if command == "match" else f"odb_{command}_as"
+    name = _OF_MODE.get(command, f"odb_{command}_as")
     status, text = _library.call(name, given, options, sum(map(len, given)) + _MORE)
     if status in (_library.DONE, _library.REFUSED):
         return Output(status == _library.DONE, text)

@@ -48,6 +48,7 @@ _PARAMETERS: Dict[str, List[Any]] = {
     "odb_canon_as": [*_BYTES, *_NUMBER, *_SEEDED],
     "odb_match_as": [*_BYTES, *_BYTES, *_NUMBER, *_SEEDED],
     "odb_match_with": [*_BYTES, *_BYTES, *_NUMBER * 2, *_SEEDED],
+    "odb_rest": [*_BYTES, *_BYTES, *_NUMBER * 2, *_SEEDED],
     "odb_run_as": [*_BYTES, *_BYTES, *_NUMBER * 3, *_SEEDED],
     "odb_replay_as": [*_BYTES, *_BYTES, *_NUMBER * 5, *_SEEDED],
     "odb_requests": [*_BYTES, *_TEXT, ctypes.c_void_p, ctypes.c_size_t, _SIZE, ctypes.c_uint64],

@@ -23,6 +23,7 @@ from odb_batch import (
     output,
     plan,
     replay,
+    rest,
     run,
 )
 from odb_batch.conformance import conformance_cases, judge, serving
@@ -38,6 +39,7 @@ some: Tuple[PlannedRequest, ...] = planned[0:2]
 place: int = planned.index(first)
 statuses: Dict[str, int] = match(batch, memoryview(run(batch, [Start("a"), Report("a", 200)], mode=mode, width=1)))
 stopped: Dict[str, int] = match(batch, "", mode=mode)
+left: bytes = rest(batch, "", mode=mode)
 undone: Tuple[str, ...] = replay(batch, {"outcomes": []}, order="wide", mode="continue", trace=True).undone
 printed: Output = output("run", batch, "", form="lines")
 
@@ -59,6 +61,7 @@ planned.requests = ()  # type: ignore[misc]
 planned[0] = first  # type: ignore[index]
 run(batch, "", mode="stopp")  # type: ignore[arg-type]
 match(batch, "", mode="half")  # type: ignore[arg-type]
+rest(batch)  # type: ignore[call-arg]
 replay(batch, "", order="middle")  # type: ignore[arg-type]
 output("chek", batch)  # type: ignore[arg-type]
 output("check", batch, form="xml")  # type: ignore[arg-type]

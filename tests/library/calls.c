@@ -98,6 +98,12 @@ static uint32_t match_with(const struct arguments *it, uint8_t *text, size_t siz
                           text, size, length, it->seed);
 }
 
+static uint32_t rest(const struct arguments *it, uint8_t *text, size_t size, size_t *length)
+{
+    return odb_rest(it->batch.bytes, it->batch.size, it->second.bytes, it->second.size, it->mode, it->form,
+                    text, size, length, it->seed);
+}
+
 static uint32_t run_as(const struct arguments *it, uint8_t *text, size_t size, size_t *length)
 {
     return odb_run_as(it->batch.bytes, it->batch.size, it->second.bytes, it->second.size,
@@ -117,6 +123,11 @@ static uint32_t replay_as(const struct arguments *it, uint8_t *text, size_t size
 #define RESPONSES "{\"responses\":[{\"id\":\"a\",\"status\":200}," \
     "{\"atomicityGroup\":\"g\",\"id\":\"b\",\"status\":409}]}"
 #define LEFT_OUT "{\"responses\":[{\"id\":\"a\",\"status\":500}]}"
+#define CHAIN "{\"requests\":[{\"id\":\"a\",\"method\":\"post\",\"url\":\"X\"}," \
+    "{\"id\":\"b\",\"dependsOn\":[\"a\"],\"method\":\"put\",\"url\":\"$a/Y\",\"body\":{\"P\":9.990}}]}"
+#define MADE "{\"responses\":[{\"id\":\"a\",\"status\":201,\"headers\":{\"Location\":\"X(7)\"}},{\"id\":\"b\",\"status\":503}]}"
+#define UNPLACED "{\"responses\":[{\"id\":\"a\",\"status\":201},{\"id\":\"b\",\"status\":503}]}"
+#define LEFT "{\"requests\":[{\"body\":{\"P\":9.990},\"id\":\"b\",\"method\":\"put\",\"url\":\"X(7)/Y\"}]}\n"
 #define EVENTS "{\"events\":[{\"start\":\"a\"},{\"report\":\"a\",\"status\":200}," \
     "{\"start\":\"b\"},{\"report\":\"b\",\"status\":409}]}"
 #define FREE "{\"requests\":[" ONE ",{\"id\":\"b\",\"method\":\"get\",\"url\":\"Y\"}]}"
@@ -208,6 +219,23 @@ static const struct trial trials[] = {
     {"a match in no mode", match_with, BATCH, RESPONSES, 2, 0, 0, 0, ODB_LINES, ODB_WRONG_OPTION, ""},
     {"a match in a mode far off", match_with, NULL, NULL, UINT32_MAX, 0, 0, 0, ODB_JSON, ODB_WRONG_OPTION, ""},
     {"a match in a mode and no form", match_with, BATCH, RESPONSES, ODB_STOP, 0, 0, 0, 2, ODB_WRONG_OPTION, ""},
+    {"a rest", rest, CHAIN, MADE, ODB_CONTINUE, 0, 0, 0, ODB_LINES, ODB_DONE, LEFT},
+    {"a rest in JSON", rest, CHAIN, MADE, ODB_CONTINUE, 0, 0, 0, ODB_JSON, ODB_DONE, LEFT},
+    {"a rest without requests", rest, BATCH, RESPONSES, ODB_STOP, 0, 0, 0, ODB_LINES, ODB_DONE, "{\"requests\":[]}\n"},
+    {"a rest without a Location", rest, CHAIN, UNPLACED, ODB_CONTINUE, 0, 0, 0, ODB_LINES, ODB_REFUSED,
+     "fault F90 NoLocation /requests/1\n"},
+    {"a rest without a Location in JSON", rest, CHAIN, UNPLACED, ODB_STOP, 0, 0, 0, ODB_JSON, ODB_REFUSED,
+     FAULT("F90", "NoLocation", "/requests/1")},
+    {"a rest by what a service left out", rest, FREE, "{\"responses\":[{\"id\":\"a\",\"status\":503}]}", ODB_STOP, 0, 0, 0,
+     ODB_LINES, ODB_DONE, "{\"requests\":[{\"id\":\"a\",\"method\":\"get\",\"url\":\"X\"},"
+     "{\"id\":\"b\",\"method\":\"get\",\"url\":\"Y\"}]}\n"},
+    {"a rest by responses that do not fit", rest, BATCH, LEFT_OUT, ODB_CONTINUE, 0, 0, 0, ODB_LINES, ODB_REFUSED,
+     "fault F73 ResponseMissing /requests/1\n"},
+    {"a rest by nothing", rest, BATCH, NULL, ODB_CONTINUE, 0, 0, 0, ODB_LINES, ODB_REFUSED, "fault F02 NotJson responses\n"},
+    {"a rest of nothing in JSON", rest, NULL, NULL, ODB_CONTINUE, 0, 0, 0, ODB_JSON, ODB_REFUSED, FAULT("F02", "NotJson", "batch")},
+    {"a rest in no mode", rest, CHAIN, MADE, 2, 0, 0, 0, ODB_LINES, ODB_WRONG_OPTION, ""},
+    {"a rest in a mode far off and no form", rest, NULL, NULL, UINT32_MAX, 0, 0, 0, 2, ODB_WRONG_OPTION, ""},
+    {"a rest in no form", rest, CHAIN, MADE, ODB_STOP, 0, 0, 0, 2, ODB_WRONG_OPTION, ""},
     {"a run in JSON", run_as, BATCH, EVENTS, ODB_CONTINUE, 1, 0, 0, ODB_JSON, ODB_DONE, RESPONSES "\n"},
     {"a run that is not finished in lines", run_as, BATCH, "{\"events\":[]}", ODB_STOP, 10000, 0, 0, ODB_LINES, ODB_REFUSED,
      "fault F66 Unfinished events\n"},

@@ -85,6 +85,12 @@ static int match_in_json(void)
                                 text, sizeof text, &length, 7));
 }
 
+static int rest_in_json(void)
+{
+    return is_done(odb_rest(bytes(batch), strlen(batch), bytes(second), strlen(second), ODB_CONTINUE, ODB_JSON,
+                            text, sizeof text, &length, 7));
+}
+
 static int run_in_json(void)
 {
     return is_done(odb_run_as(bytes(batch), strlen(batch), bytes(second), strlen(second), ODB_CONTINUE, ODB_MAX_WIDTH,
@@ -267,6 +273,8 @@ static void measure_deep(void)
     make(second, "{\"responses\":[{\"id\":\"a\",\"status\":200,\"body\":", DEEPEST, "}]}");
     measure("a match of a deep body", match);
     measure("a match of a deep body in JSON", match_in_json);
+    make(second, "{\"responses\":[{\"id\":\"a\",\"status\":503,\"body\":", DEEPEST, "}]}");
+    measure("the rest of a deep body", rest_in_json);
     make(second, "{\"outcomes\":[{\"id\":\"a\",\"status\":200,\"body\":", DEEPEST, "}]}");
     measure("a replay of a deep body", replay);
     measure("a replay of a deep body in JSON", replay_in_json);
@@ -298,6 +306,7 @@ static void measure_chain(void)
     make_chain("responses", "");
     measure("a match of a chain", match);
     measure("a match of a chain in JSON", match_in_json);
+    measure("the rest of a chain", rest_in_json);
 }
 
 int main(void)

@@ -20,6 +20,7 @@ NAMES = (seeds.IDS + seeds.GROUPS) // 2
 ROOM = 4_000_000
 POLICY = (0, 10_000)
 LINES, STOP = 0, 1
+NOTHING_LEFT = '{"requests":[]}\n'  # of a batch whose requests have all succeeded
 
 # The commands, each with the options of its calls.
 OPTIONS = {"check": (), "plan": (), "canon": (), "match": (), "run": POLICY, "replay": (*POLICY, 0, 0)}
@@ -40,7 +41,8 @@ class Calls:
         status, text = self.library.call(name, documents, options, ROOM)
         spent = time.process_time() - begun
         assert status == self.library.DONE, name
-        assert text.decode() == self.content.wanted(name.split("_")[1]) or name == "odb_run_open", name
+        wanted = NOTHING_LEFT if name == "odb_rest" else self.content.wanted(name.split("_")[1])
+        assert text.decode() == wanted or name == "odb_run_open", name
         return spent
 
     def timed(self, seed):
@@ -52,6 +54,7 @@ class Calls:
             spent[f"odb_{command}_as"] = self.seconds(f"odb_{command}_as", documents, (*options, LINES))
         documents = tuple(self.texts[kind] for kind in contents.KINDS["match"])
         spent["odb_match_with"] = self.seconds("odb_match_with", documents, (STOP, LINES))
+        spent["odb_rest"] = self.seconds("odb_rest", documents, (STOP, LINES))
         documents, place = (self.texts["batch"], self.texts["events"]), ctypes.byref(handle)
         spent["odb_run_open"] = self.seconds("odb_run_open", documents, (*POLICY, place))
         self.seconds("odb_run_response", (), (place,))

@@ -15,7 +15,7 @@ from support.program import MODULE, MODULE32
 from support.worked import CALLS
 
 HERE = os.path.join(os.path.dirname(os.path.abspath(__file__)), "wasm")
-COMMANDS = ["check", "plan", "canon", "match", "run", "replay"]
+COMMANDS = ["check", "plan", "canon", "match", "run", "replay", "rest"]
 ORDERS = ["first", "last", "wide"]
 RUNS = 400
 MOST_BYTES, MOST_PACKED_BYTES = 600_000, 200_000

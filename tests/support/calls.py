@@ -27,6 +27,7 @@ OPTIONS = {
     "match": ("json", "quiet", "stop"),
     "replay": ("json", "quiet", "stop", "width", "trace", "order"),
     "run": ("json", "quiet", "stop", "width"),
+    "rest": ("json", "quiet", "stop"),
 }
 OF_LOGS = {"lines", "flush", "number"}
 

@@ -5,7 +5,7 @@ from contextlib import contextmanager
 from dataclasses import dataclass
 from urllib.parse import unquote_to_bytes
 
-from . import full_plans, rules, rules_of_runs
+from . import full_plans, rules, rules_of_rests, rules_of_runs
 
 
 @dataclass
@@ -48,7 +48,7 @@ def planted(name):
 
 right_id_faults, right_canonical = rules.id_faults, rules.canonical_request
 right_starts, right_response = rules_of_runs.start_faults, rules_of_runs.is_response
-right_completed = rules_of_runs.completed
+right_completed, right_repeats = rules_of_runs.completed, rules_of_rests.may_repeat
 
 
 @mistake(rules, "is_base64url")
@@ -192,3 +192,22 @@ def waiting_before_failed(run, i):
 def unfinished_passes(run):
     """A run is taken for finished once nothing runs."""
     return not run.running()
+
+
+@mistake(rules_of_rests, "may_repeat", "rest")
+def repeated_after_timeout(method, status):
+    """A POST is sent again though nobody knows whether it was performed."""
+    return right_repeats("get", status)
+
+
+@mistake(rules_of_rests, "left_out", "rest")
+def left_out_alone(batch, statuses):
+    """What needs a request that may not be sent again is sent again."""
+    out = {i for i, request in enumerate(batch) if not rules_of_rests.may_repeat(request.method, statuses[i])}
+    return {j for i in out for j in rules_of_rests.unit(batch, i)}
+
+
+@mistake(rules_of_rests, "moved_url", "rest")
+def location_as_it_is(request, location):
+    """A Location may make a URL that refers to a request."""
+    return None if location is None else location + full_plans.rest_of(request)

@@ -29,7 +29,7 @@ NAMES = dict(
     F60="BadOutcomes", F61="OutcomeTwice", F62="BadStatus", F63="NotWhole",
     F64="BadEvents", F65="UnknownEvent", F66="Unfinished",
     F70="BadResponses", F71="UnknownResponse", F72="ResponseTwice", F73="ResponseMissing",
-    F74="GroupDiffers", F75="UnsoundSuccess", F80="NoOutcome",
+    F74="GroupDiffers", F75="UnsoundSuccess", F80="NoOutcome", F90="NoLocation",
     S1="AlreadyStarted", S2="Stopped", S3="UnitFailed", S4="Waiting", S5="WidthReached",
     P1="NotRunning", P2="BadStatus",
 )

@@ -7,6 +7,7 @@ from dataclasses import dataclass, field
 from . import rules
 from .full_plans import full_plan
 from .rules import Fault, first_fault, fold, is_number, is_status, is_whole, json_text
+from .rules_of_rests import rest_text
 
 
 @dataclass
@@ -307,7 +308,12 @@ def match_text(found):
 # Commands
 
 
-def text_of(command, batch, second, options):
+def rest(batch, first, second, options):
+    responses = read_responses(second)
+    return rest_text(batch, first, responses, [it["status"] for it in match(batch, responses, **options)])
+
+
+def text_of(command, batch, first, second, options):
     if command == "check":
         return rules.checked_line(batch)
     if command == "plan":
@@ -318,6 +324,8 @@ def text_of(command, batch, second, options):
         return replay(batch, read_outcomes(second), **options)
     if command == "match":
         return match_text(match(batch, read_responses(second), **options))
+    if command == "rest":
+        return rest(batch, first, second, options)
     return run_events(batch, read_events(second), **options)
 
 
@@ -337,7 +345,7 @@ def printed(command, first, second=b"", json=False, **options):
         batch = rules.check(first)
         if json and command in ("check", "plan", "match"):
             return (json_text(value_of(command, batch, first, second, options)) + "\n").encode(), 0
-        return text_of(command, batch, second, options).encode(), 0
+        return text_of(command, batch, first, second, options).encode(), 0
     except Fault as fault:
         return fault.text(json).encode(), 1
 

@@ -178,5 +178,17 @@ def escapes():
     yield Trial("a body of escapes in an outcome", "replay", [ONE, outcomes], response)
 
 
+def rests():
+    ids = [f"{n:04}" for n in range(MOST_REQUESTS)]
+    listed = lambda n: ",".join(f'"{it}"' for it in ids[max(n - NAMED, 0) : n])
+    names = lambda n: f'"dependsOn":[{listed(n)}],' if n else ""
+    request = lambda n: f'{{"body":{n}.50,{names(n)}"id":"{ids[n]}","method":"post","url":"X"}}'
+    document = '{"requests":[' + ",".join(map(request, range(MOST_REQUESTS))) + "]}"
+    response = lambda n, first: f'{{"id":"{ids[n]}","status":{424 if n else first}}}'
+    responses = lambda first: '{"responses":[' + ",".join(response(n, first) for n in range(MOST_REQUESTS)) + "]}"
+    yield Trial("a batch that was not begun", "rest", [document, responses(429)], document + "\n")
+    yield Trial("a batch that needs what has failed", "rest", [document, responses(409)], '{"requests":[]}\n')
+
+
 # What makes the trials of each kind; a document is made when it is wanted, since they have 16 MB each.
-KINDS = (crowded, dense, seconds, members, headers, names, urls, escapes, runs)
+KINDS = (crowded, dense, seconds, members, headers, names, urls, escapes, runs, rests)

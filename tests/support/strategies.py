@@ -226,6 +226,27 @@ def responses(draw, requests):
     return second(draw, "responses", draw(st.permutations(found)))
 
 
+# What answers a request that may be sent again, and what does not; the headers of a response with a Location, or without.
+AGAIN = of(424, 429, 503, 408, 502, 504, 404)
+LOCATIONS = of(
+    {}, {"Location": "/made/Books(1)"}, {"location": "Loans('2')?x=1"}, {"LOCATION": "$a", "Etag": "1"}, {"Location": "$batch"},
+    {"Location": 7}, {"Location": "First", "location": "second"}, [],
+).map(copy.deepcopy)  # fmt: skip
+
+
+@st.composite
+def responses_with_rest(draw, requests):
+    """The responses to a run that the rules allow, of which many may be sent again, in any order."""
+    statuses = {it.id: draw(good.SUCCESSES if draw(chance(60)) else AGAIN) for it in requests}
+    recorded = {name: rules_of_runs.Outcome(status, {}, None) for name, status in statuses.items()}
+    found = json.loads(rules_of_runs.replay(requests, recorded, draw(of("first", "wide"))))["responses"]
+    for it in found:
+        it["headers"] = draw(LOCATIONS) if draw(chance(80)) else None
+    if draw(chance(20)):
+        found = [it for it in found if it["status"] != 424]
+    return draw(documents({"responses": draw(st.permutations(found))}))
+
+
 def seconds(command, first, options):
     """The second document of a command, which fits the batch if that is accepted; a list, empty if there is none."""
     try:
@@ -237,5 +258,6 @@ def seconds(command, first, options):
         "replay": lambda: outcomes([it.id for it in requests]),
         "match": lambda: responses(requests),
         "run": lambda: events(requests, **policy),
+        "rest": lambda: st.one_of(responses_with_rest(requests), responses_with_rest(requests), responses(requests)),
     }
     return st.tuples(made[command]()) if command in made else st.just(())

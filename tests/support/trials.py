@@ -71,9 +71,17 @@ def many_responses(requests):
     return [{"id": it["id"], "status": 201, "atomicityGroup": it["atomicityGroup"]} for it in requests]
 
 
+def busy_responses(requests):
+    """Responses by which the first group is done and records a Location, and all else may be sent again."""
+    done, again = {"status": 201, "headers": {"Location": "Made(1)"}}, {"status": 424}
+    groups = [it["atomicityGroup"] for it in requests]
+    answers = (done if group == groups[0] else again for group in groups)
+    return [{"id": it["id"], "atomicityGroup": it["atomicityGroup"], **answer} for it, answer in zip(requests, answers)]
+
+
 def write(folder, examples):
     """Writes all documents to the folder."""
-    for name in ("usual.json", "lent.json", "not_lent.json", "stopped.json", "wrong_body.json"):
+    for name in ("usual.json", "lent.json", "not_lent.json", "stopped.json", "busy.json", "wrong_body.json"):
         shutil.copy(os.path.join(examples, name), os.path.join(folder, name))
     many = many_requests()
     made = {
@@ -83,6 +91,7 @@ def write(folder, examples):
         "many_outcomes.json": {"outcomes": many_outcomes(many)},
         "many_events.json": {"events": many_events(many)},
         "many_responses.json": {"responses": many_responses(many)},
+        "busy_responses.json": {"responses": busy_responses(many)},
     }
     for name, value in made.items():
         with open(os.path.join(folder, name), "w", encoding="utf-8") as file:
@@ -137,6 +146,8 @@ def trials():
         trial("match usual.json usual_responses.json"),
         trial("match usual.json lent.json", 1),
         trial("match usual.json stopped.json --stop"),
+        trial("rest usual.json busy.json"),
+        trial("rest usual.json lent.json -q", 1),
         trial("run usual.json usual_events.json"),
         trial("run usual.json usual_events.json --stop --width 1", 1),
         trial("check --lines log.jsonl", 1),
@@ -162,5 +173,6 @@ def trials():
         trial("canon many.json", large=True),
         trial("replay many.json many_outcomes.json --order wide --trace", large=True),
         trial("match many.json many_responses.json", large=True),
+        trial("rest many.json busy_responses.json", large=True),
         trial("run many.json many_events.json", large=True),
     ]

@@ -9,6 +9,8 @@ import os
 from . import pages
 from .program import ROOT
 
+# The commands that are calls, and how many documents each takes.
+DOCUMENTS = {"check": 1, "plan": 1, "canon": 1, "match": 2, "run": 2, "replay": 2, "rest": 2}
 OPTIONS = {"--order": "order", "--width": "width"}
 FLAGS = {"--stop": ("mode", "stop"), "--trace": ("trace", True), "--json": ("form", "json")}
 
@@ -48,15 +50,14 @@ class Call:
 
 def call_of(case):
     """The call of a case, or None where it needs more than documents."""
-    if case.status not in (0, 1) or case.command not in pages.OF_BATCHES:
+    if case.status not in (0, 1) or case.command not in DOCUMENTS:
         return None
     if case.arguments[:1] != [case.command.encode()]:
         return None
     if case.source or case.to or case.closed or case.memory or case.terminal:
         return None
     found = options_of([it.decode() for it in case.arguments[1:]])
-    count = 2 if case.command in ("match", "run", "replay") else 1
-    if not found or len(found[0]) != count or any(it not in case.documents for it in found[0]):
+    if not found or len(found[0]) != DOCUMENTS[case.command] or any(it not in case.documents for it in found[0]):
         return None
     return Call(case, *found)
 

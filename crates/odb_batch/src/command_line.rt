@@ -16,9 +16,20 @@ pub enum Origin<'a> {
     File(&'a str),
 }
 
+/// What a command does on its documents.
+#[derive(Clone, Copy)]
+pub enum Action {
+    /// A work, which may also be done on each line of a log.
+    Work(Work),
+    /// Write the rest of a batch, by whether an error stops the service.
+    Rest(Mode),
+}
+
 /// How a log is answered.
 #[derive(Clone, Copy)]
 pub struct LogOptions {
+    /// What is done on each line.
+    pub work: Work,
     /// Whether each answer is written at once.
     pub flush: bool,
     /// Whether each fault has the number of its line.
@@ -28,16 +39,16 @@ pub struct LogOptions {
 /// A command over documents.
 #[derive(Clone, Copy)]
 pub struct Job<'a> {
-    pub work: Work,
+    pub action: Action,
     /// Where the batch is read, or the log.
     pub first: Origin<'a>,
-    /// Where the second document is read, if the work takes one.
+    /// Where the second document is read, if the action takes one.
     pub second: Origin<'a>,
     /// The form in which a result or a fault is printed.
     pub form: Form,
     /// Whether nothing is printed: only the exit status reports it.
     pub quiet: bool,
-    /// How a log is answered, if the work is done on each of its lines.
+    /// How a log is answered, if something is done on each of its lines.
     pub log: Option<LogOptions>,
 }
 
@@ -140,12 +151,17 @@ fn task_of(name: &str, args: &ArgMatches<'_>) -> Result<Option<Task>, BadArgumen
     Ok(Some(task))
 }
 
-/// Returns the work of the command of this name, or `None` if it is not a command over documents.
-fn work_of(name: &str, args: &ArgMatches<'_>) -> Result<Option<Work>, BadArguments> {
-    if name == names::PLAN && args.get_flag(names::FULL) {
-        return Ok(Some(Work::FullPlan));
-    }
-    Ok(task_of(name, args)?.map(Work::Task))
+/// Returns what the command of this name does, or `None` if it is not a command over documents.
+fn action_of(name: &str, args: &ArgMatches<'_>) -> Result<Option<Action>, BadArguments> {
+    let action = match name {
+        names::PLAN if args.get_flag(names::FULL) => Action::Work(Work::FullPlan),
+        names::REST => Action::Rest(mode_of(args)),
+        _ => {
+            let task = task_of(name, args)?;
+            return Ok(task.map(|task| Action::Work(Work::Task(task))));
+        }
+    };
+    Ok(Some(action))
 }
 
 /// Returns where this argument is read: a file, or standard input if it is `-` or absent.
@@ -156,10 +172,12 @@ fn origin_of<'a>(args: &ArgMatches<'a>, id: &str) -> Origin<'a> {
     }
 }
 
-/// Returns where the second document is read, if the work takes one.
-fn second_of<'a>(args: &ArgMatches<'a>, work: Work) -> Origin<'a> {
-    let Work::Task(task) = work else {
-        return Origin::Nowhere;
+/// Returns where the second document is read, if the action takes one.
+fn second_of<'a>(args: &ArgMatches<'a>, action: Action) -> Origin<'a> {
+    let task = match action {
+        Action::Rest(_) => return origin_of(args, names::RESPONSES),
+        Action::Work(Work::FullPlan) => return Origin::Nowhere,
+        Action::Work(Work::Task(task)) => task,
     };
     match task {
         Task::Match { .. } => origin_of(args, names::RESPONSES),
@@ -169,20 +187,24 @@ fn second_of<'a>(args: &ArgMatches<'a>, work: Work) -> Origin<'a> {
     }
 }
 
-/// Returns how a log is answered, if a command is asked for that.
-fn log_of(args: &ArgMatches<'_>) -> Option<LogOptions> {
-    args.get_flag(names::LINES).then_some(LogOptions {
-        flush: args.get_flag(names::FLUSH),
-        numbered: args.get_flag(names::NUMBER),
-    })
+/// Returns how a log is answered, if a command is asked for that. There is no log for a rest.
+fn log_of(args: &ArgMatches<'_>, action: Action) -> Option<LogOptions> {
+    match action {
+        Action::Work(work) if args.get_flag(names::LINES) => Some(LogOptions {
+            work,
+            flush: args.get_flag(names::FLUSH),
+            numbered: args.get_flag(names::NUMBER),
+        }),
+        _ => None,
+    }
 }
 
 /// Returns the form of an answer. A plan and a match of a line of a log are always JSON, and so is a full plan.
-fn form_of(args: &ArgMatches<'_>, work: Work) -> Form {
-    let is_json = match work {
-        Work::FullPlan => true,
-        Work::Task(Task::Plan | Task::Match { .. }) => args.get_flag(names::LINES),
-        Work::Task(_) => false,
+fn form_of(args: &ArgMatches<'_>, action: Action) -> Form {
+    let is_json = match action {
+        Action::Work(Work::FullPlan) => true,
+        Action::Work(Work::Task(Task::Plan | Task::Match { .. })) => args.get_flag(names::LINES),
+        _ => false,
     };
     if is_json || args.get_flag(names::JSON) {
         Form::Json
@@ -191,17 +213,17 @@ fn form_of(args: &ArgMatches<'_>, work: Work) -> Form {
     }
 }
 
-/// Returns this work on the documents that the arguments name.
-fn job_of<'a>(args: &ArgMatches<'a>, work: Work) -> Result<Job<'a>, BadArguments> {
-    let log = log_of(args);
+/// Returns this action on the documents that the arguments name.
+fn job_of<'a>(args: &ArgMatches<'a>, action: Action) -> Result<Job<'a>, BadArguments> {
+    let log = log_of(args, action);
     let job = Job {
-        work,
+        action,
         first: origin_of(args, names::FILE),
         second: match log {
-            None => second_of(args, work),
+            None => second_of(args, action),
             Some(_) => Origin::Nowhere,
         },
-        form: form_of(args, work),
+        form: form_of(args, action),
         quiet: args.get_flag(names::QUIET),
         log,
     };
@@ -239,8 +261,8 @@ fn asked_by<'a>(
     name: &str,
     args: &ArgMatches<'a>,
 ) -> Result<CommandLine<'a>, BadArguments> {
-    match work_of(name, args)? {
-        Some(work) => Ok(CommandLine::Answer(job_of(args, work)?)),
+    match action_of(name, args)? {
+        Some(action) => Ok(CommandLine::Answer(job_of(args, action)?)),
         None => Ok(CommandLine::Print(text_of(alloc, name, args)?)),
     }
 }
@@ -258,7 +280,10 @@ impl<'a> CommandLine<'a> {
             .map_err(BadArguments::Arguments)?;
         match found.subcommand() {
             Some((name, matches)) => asked_by(alloc, name, matches),
-            None => Ok(CommandLine::Answer(job_of(&found, Work::Task(Task::Check))?)),
+            None => {
+                let check = Action::Work(Work::Task(Task::Check));
+                Ok(CommandLine::Answer(job_of(&found, check)?))
+            }
         }
     }
 }

@@ -13,6 +13,7 @@ const COMMANDS: &[&str] = &[
     names::REPLAY,
     names::MATCH,
     names::RUN,
+    names::REST,
     names::EXPLAIN,
     names::COMPLETIONS,
     names::MAN,
@@ -53,6 +54,12 @@ const BATCH: Argument = Argument {
     ..FILE
 };
 
+const BATCH_ALONE: Argument = Argument {
+    kind: Kind::Required,
+    help: "The batch document; `-` is standard input",
+    ..FILE
+};
+
 const OUTCOMES: Argument = Argument {
     id: names::OUTCOMES,
     kind: Kind::Second,
@@ -63,6 +70,11 @@ const RESPONSES: Argument = Argument {
     id: names::RESPONSES,
     kind: Kind::Second,
     help: "The response document of the service; `-` is standard input",
+};
+
+const RESPONSES_ALONE: Argument = Argument {
+    kind: Kind::Required,
+    ..RESPONSES
 };
 
 const EVENTS: Argument = Argument {
@@ -240,6 +252,16 @@ const RUN: Row = Row {
     ],
 };
 
+const REST: Row = Row {
+    name: names::REST,
+    about: "Print what may be sent again of a batch by a service's responses, as a batch of its own",
+    usage: "odb_batch rest [OPTIONS] <FILE> <RESPONSES>",
+    notes: "Example: odb_batch rest batch.json responses.json\n\n\
+        Exit status: 0 for a batch, which may be empty, 1 for a fault of a document, responses that do not fit or \
+        a reference without a Location, 2 for wrong arguments, 3 if a file or the output fails, 4 if out of memory",
+    arguments: &[BATCH_ALONE, RESPONSES_ALONE, LEFT_OUT, FAULT, QUIET],
+};
+
 pub const EXPLAIN: Row = Row {
     name: names::EXPLAIN,
     about: "Explain faults: what each means, the reason for it, and how to repair it",
@@ -279,13 +301,14 @@ const HELP: Row = Row {
 };
 
 /// The commands, in the order in which help shows them.
-pub const ROWS: [Row; 10] = [
+pub const ROWS: [Row; 11] = [
     CHECK,
     PLAN,
     CANON,
     REPLAY,
     MATCH,
     RUN,
+    REST,
     EXPLAIN,
     COMPLETIONS,
     MAN,

@@ -1,10 +1,10 @@
 //! The commands over documents: each opens its files and does its task.
 
-use crate::command_line::Job;
+use crate::command_line::{Action, Job};
 use crate::devices::{open, writer_of};
 use crate::ending::{Status, finish};
 use odb_check::Seed;
-use odb_engine::{Disposal, Form, Setup, Work, answer_task, full_plan_batch};
+use odb_engine::{Disposal, Form, Setup, Work, answer_task, full_plan_batch, rest_batch};
 use odb_io::{Input, Output};
 use std::rt::Runtime;
 
@@ -48,9 +48,14 @@ pub fn answer_documents<R: Runtime + AllocGlobal>(
     let (alloc, setup) = (rt.alloc(), environment.setup(job.form));
     let (mut first, mut second) = (Input::new(first), Input::new(second));
     let mut output = Output::new(writer_of(rt, job.quiet));
-    let ended = match job.work {
-        Work::Task(task) => answer_task(alloc, &mut first, &mut second, &mut output, task, setup),
-        Work::FullPlan => full_plan_batch(alloc, &mut first, &mut output, setup),
+    let ended = match job.action {
+        Action::Work(Work::Task(task)) => {
+            answer_task(alloc, &mut first, &mut second, &mut output, task, setup)
+        }
+        Action::Work(Work::FullPlan) => full_plan_batch(alloc, &mut first, &mut output, setup),
+        Action::Rest(mode) => {
+            rest_batch(alloc, &mut first, &mut second, &mut output, mode, setup)
+        }
     };
     finish(rt, ended)
 }

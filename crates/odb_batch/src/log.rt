@@ -9,7 +9,7 @@ use crate::engines::Environment;
 use crate::numbered::NumberedLines;
 use crate::progress::Watched;
 use odb_engine::{
-    Disposal, EachLine, Ended, EngineFault, LineCommand, LineInput, Setup, answer_lines,
+    Disposal, EachLine, Ended, EngineFault, Form, LineCommand, LineInput, Setup, answer_lines,
 };
 use odb_io::Output;
 use std::alloc::Global;
@@ -20,15 +20,15 @@ use std::rt::Runtime;
 const BUFFER_BYTES: usize = 65_536;
 
 /// Returns the command on each line of a log. It frees the memory of a line before the next one.
-fn command_of(environment: Environment, job: Job<'_>, numbered: bool) -> NumberedLines {
+fn command_of(environment: Environment, form: Form, options: LogOptions) -> NumberedLines {
     let command = EachLine {
-        work: job.work,
+        work: options.work,
         setup: Setup {
             disposal: Disposal::Drop,
-            ..environment.setup(job.form)
+            ..environment.setup(form)
         },
     };
-    NumberedLines::new(command, numbered)
+    NumberedLines::new(command, options.numbered)
 }
 
 /// Answers each line of a reader, and flushes the output at the end.
@@ -64,13 +64,13 @@ fn answer_watched<R: Runtime + AllocGlobal, I: Read + Drop, W: Write>(
     let flush = options.flush || environment.stdout_is_terminal;
     let is_alone = environment.stderr_is_terminal && !environment.stdout_is_terminal;
     if is_alone && !job.quiet {
-        if let Ok(watched) = Watched::new(rt, command_of(environment, job, options.numbered)) {
+        if let Ok(watched) = Watched::new(rt, command_of(environment, job.form, options)) {
             let ended = answer(rt.alloc(), reader, output, &watched, flush);
             watched.end();
             return ended;
         }
     }
-    let command = command_of(environment, job, options.numbered);
+    let command = command_of(environment, job.form, options);
     answer(rt.alloc(), reader, output, &command, flush)
 }
 

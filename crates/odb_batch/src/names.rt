@@ -13,6 +13,8 @@ pub const MATCH: &str = "match";
 
 pub const RUN: &str = "run";
 
+pub const REST: &str = "rest";
+
 pub const EXPLAIN: &str = "explain";
 
 pub const COMPLETIONS: &str = "completions";

@@ -1,6 +1,7 @@
 -- The exits of a rest, and its result.
-use Rattle.std.proofs.Common.{ℕ, List, Bool, inl, inr, refl}
+use Rattle.std.proofs.Common.{◌≡◌, ◌⊎◌, ◌++◌, ◌∷◌, ℕ, List, [], Bool, inl, inr, refl}
 use Rattle.odb_check.specs.LeastNameFault.{HasGoodNames}
+use Rattle.odb_check.specs.Texts.{newline}
 use Rattle.odb_doc.specs.declared.fault.Place.TheVariants.{Batch}
 use Rattle.odb_doc.specs.Documents.{IsDocument}
 use Rattle.odb_doc.specs.Refusals.{Printed}
@@ -26,10 +27,12 @@ use Rattle.odb_send.specs.Parts.{IsBatchIn}
 use Rattle.odb_engine.specs.declared.ending.Ended.{Ended}
 use Rattle.odb_engine.specs.declared.ending.Ended.TheVariants.{Done, Refused}
 use Rattle.odb_engine.specs.declared.halt.Halt.{Halt}
-use Rattle.odb_engine.specs.Cascade.{Answers, IsLeast, IsLeastOfBatch, RefusesBytes, Writes, line_of}
+use Rattle.odb_engine.specs.Cascade.{Accepts, Answers, IsLeast, IsLeastOfBatch, RefusesBytes, Writes, line_of}
+use Rattle.odb_engine.specs.Contents.{IsAskedFor}
+use Rattle.odb_engine.specs.Contents.Content.{Bytes}
 use Rattle.odb_engine.specs.Halts.{Refuses, HaltsBy}
 use Rattle.odb_engine.specs.Matches.{IsFaultOfResponses, Lists, Misfits, decided}
-use Rattle.odb_engine.specs.Rests.{LacksLocations, RestsValue}
+use Rattle.odb_engine.specs.Rests.{EndsLine, LacksLocations, RestsValue}
 use Rattle.odb_engine.proofs.EngineLemmas.{reports, halted-by, halt-fault}
 
 -- the response document has a fault
@@ -85,3 +88,12 @@ least-answers P bytes refusal (inr has) = inr (record { value = has.value; docum
 -- what is written of a batch that is accepted
 pub accepted-answers : (P : List Record → Writes) (bytes : List ℕ) (value : Data) (batch : List Record) (ended : Ended) (text : List ℕ) → IsDocument bytes value → IsWellShaped value → IsBatchOf value batch → HasGoodNames batch → P batch ended text → Answers P bytes ended text
 accepted-answers P bytes value batch ended text document shaped is good writes = inr (record { value = value; document = document; holds = inr (record { batch = batch; plan_graph = shaped; is_batch = is; holds = (good, writes) }) })
+
+-- the second reader was asked only after the first
+pub asked-after : {S : Type 0} (was_read : Type 0) (bytes : List ℕ) (old new : S) → was_read → (new ≡ old) ⊎ Accepts bytes (λ _. Unit {0}) → IsAskedFor was_read (Bytes bytes) old new
+asked-after was_read bytes old new was (inl same) = inl same
+asked-after was_read bytes old new was (inr accepts) = inr (was, accepts)
+
+-- the text of the rest and a newline
+pub ends-line : (P : Writes) (text line : List ℕ) → P Done text → line ≡ text ++ newline ∷ [] → EndsLine P Done line
+ends-line P text line so same = (text, so, same)

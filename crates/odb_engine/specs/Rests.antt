@@ -1,10 +1,11 @@
 -- What is written of the rest of a batch, by the response document of a service (OData JSON Format 4.01, sections 19.1 and
 -- 19.4).
-use Rattle.std.specs.Prelude.{◌≡◌, ◌⊎◌, ℕ, List, Bool, Some}
+use Rattle.std.specs.Prelude.{◌≡◌, ◌⊎◌, ◌++◌, ◌∷◌, ℕ, List, [], Bool, Some}
 use Rattle.serde_json.specs.Data.{Data}
 use Rattle.odb_doc.specs.declared.fault.Place.TheVariants as places
 use Rattle.odb_doc.specs.batch.Records.{Record}
 use Rattle.odb_doc.specs.Refusals.{Printed}
+use Rattle.odb_check.specs.Texts.{newline}
 use Rattle.odb_sched.specs.declared.policy.Mode.{Mode}
 use Rattle.odb_reply.specs.Fits.{Fits, IsTableOf}
 use Rattle.odb_reply.specs.ResponseDocuments.{Entry}
@@ -17,8 +18,10 @@ use Rattle.odb_rest.specs.Texts.{IsTextOf}
 use Rattle.odb_rest.specs.Units.{AreMarksOf, IsInRest}
 use Rattle.odb_send.specs.Parts.{IsBatchIn}
 use Rattle.odb_engine.specs.declared.ending.Ended.{Ended}
-use Rattle.odb_engine.specs.declared.ending.Ended.TheVariants.{Done}
-use Rattle.odb_engine.specs.Cascade.{Writes, Reports, OfDocument}
+use Rattle.odb_engine.specs.declared.ending.Ended.TheVariants.{Done, Refused}
+use Rattle.odb_engine.specs.Cascade.{Answers, Reports, Writes}
+use Rattle.odb_engine.specs.Contents.{Given, OfGiven}
+use Rattle.odb_engine.specs.Contents.Given.{InMemory}
 use Rattle.odb_engine.specs.Matches.{IsFaultOfResponses, Lists, Misfits, decided}
 
 -- a request of the rest lacks a Location, and this is the first fault
@@ -50,6 +53,19 @@ RestsEntries document batch value entries ended text = Reports (Misfits batch en
 abbrev pub RestsValue : Mode → List ℕ → List Record → Data → Writes
 RestsValue mode document batch value ended text = Reports (IsFaultOfResponses value) ended text ⊎ ((entries : List Entry) × Lists value entries × RestsEntries document batch value (decided mode batch entries) ended text)
 
+-- the same of the response document that is given
+abbrev pub RestsBy : Mode → List ℕ → Given → List Record → Writes
+RestsBy mode document given batch = OfGiven given places.Responses (RestsValue mode document batch)
+
 -- the same of the bytes of a response document
 abbrev pub RestsIn : Mode → List ℕ → List ℕ → List Record → Writes
-RestsIn mode document responses batch = OfDocument places.Responses (RestsValue mode document batch) responses
+RestsIn mode document responses = RestsBy mode document (InMemory responses)
+
+-- a result has a newline after it, and a fault is as it was
+abbrev pub EndsLine : Writes → Writes
+EndsLine P Done written = (text : List ℕ) × P Done text × (written ≡ text ++ newline ∷ [])
+EndsLine P Refused written = P Refused written
+
+-- what the command writes of a batch document and of the response document that is given
+abbrev pub Rests : Mode → List ℕ → Given → Writes
+Rests mode document given = EndsLine (Answers (RestsBy mode document given) document)

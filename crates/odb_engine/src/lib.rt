@@ -15,6 +15,7 @@
 //! returns its text. [`answer_in_memory`] returns what a task writes of documents in memory, and [`answer_lines`]
 //! does an [`EachLine`] on each line of an input. `live` opens a run that its caller drives, and
 //! [`requests_in`] returns what is to be sent of each request, and [`rest_in`] what may be sent again of a batch.
+//! [`full_plan_batch`] and [`rest_batch`] are commands over readers that need the bytes of the batch, so they are no tasks.
 #![tactic(auto)]
 
 mod answer;
@@ -58,7 +59,7 @@ pub use match_responses::match_batch;
 pub use plan::plan_batch;
 pub use replay::replay_batch;
 pub use requests::requests_in;
-pub use rest::{rest_in, rest_written};
+pub use rest::{rest_batch, rest_in, rest_written};
 pub use run::run_batch;
 pub use setup::Setup;
 pub use source::Source;

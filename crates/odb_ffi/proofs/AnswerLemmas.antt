@@ -1,5 +1,5 @@
 -- What is given to the caller is what an engine has found.
-use Rattle.std.proofs.Common.{◌≡◌, ℕ, List, IfOk, Result, Ok, Err, Some, String, string_bytes, sym, subst}
+use Rattle.std.proofs.Common.{◌≡◌, ℕ, List, IfOk, Result, Ok, Err, Some, String, string_bytes, sym, subst, inl, inr}
 use Rattle.serde_json.specs.Read.{read}
 use Rattle.odb_sched.specs.run.Answers.{answer}
 use Rattle.odb_reply.specs.BodyTexts.{value_with}
@@ -12,9 +12,11 @@ use Rattle.odb_doc.specs.Refusals.{Printed, printed}
 use Rattle.odb_engine.specs.declared.ending.Ended.{Ended}
 use Rattle.odb_engine.specs.declared.ending.Ended.TheVariants.{Done, Refused}
 use Rattle.odb_engine.specs.declared.halt.Halt.{Halt}
+use Rattle.odb_engine.specs.declared.form.Form.{Form}
 use Rattle.odb_engine.specs.declared.form.Form.TheVariants as forms
 use Rattle.odb_engine.specs.declared.halt.Halt.TheVariants as halts
 use Rattle.odb_engine.specs.Cascade.{Reports, Writes}
+use Rattle.odb_engine.specs.Forms.{InForm}
 use Rattle.odb_engine.specs.Halts.{Found, Halted, text_found}
 use Rattle.odb_engine.specs.declared.answer.Answer.{Answer}
 
@@ -34,6 +36,19 @@ pub answer-written : (P : Writes) (found : Result (String Global) Halt) (answer 
     → IfOk answer (λ a. P a.ended a.text.items)
 answer-written P found (Err error) so is = tt
 answer-written P found (Ok a) so is = written P found a.ended a.text.items so is
+
+in-form : (form : Form) (P : Writes) (found : Result (String Global) Halt) (ended : Ended) (text : List ℕ) → Found P found → text_found form found ended text → InForm form P ended text
+in-form forms.Lines P found ended text so is = written P found ended text so is
+in-form forms.Json P (Ok line) ended text so (ends, same) = inl (ends, subst (P Done) (sym same) so)
+in-form forms.Json P (Err (halts.Refused refusal)) ended text so (ends, same) = inr (record { refusal = printed refusal; is = so; ends = ends; prints = same })
+in-form forms.Json P (Err halts.Read) ended text so none = absurd none
+in-form forms.Json P (Err halts.OutOfMemory) ended text so none = absurd none
+
+-- and in a form
+pub answered-in : (form : Form) (P : Writes) (found : Result (String Global) Halt) (answer : Result Answer AllocError) → Found P found → IfOk answer (λ a. text_found form found a.ended a.text.items)
+    → IfOk answer (λ a. InForm form P a.ended a.text.items)
+answered-in form P found (Err error) so is = tt
+answered-in form P found (Ok a) so is = in-form form P found a.ended a.text.items so is
 
 -- the line of a fault
 pub answer-reported : (Is : Printed → Type 0) (halt : Halt) (answer : Result Answer AllocError) → Halted Is halt → IfOk answer (λ a. text_found forms.Lines (Err halt) a.ended a.text.items)

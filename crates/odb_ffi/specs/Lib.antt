@@ -5,6 +5,7 @@ pub mod Positions
 pub mod Live
 pub mod Units
 pub mod Requests
+pub mod Rests
 pub mod Handles
 pub mod Sessions
 -- What a slot owns.

@@ -18,10 +18,12 @@ ghost use Rattle.odb_sched.specs.declared.policy.Mode.TheVariants as modes;
 ghost use Rattle.odb_engine.specs.declared.form.Form.TheVariants as forms;
 ghost use Rattle.odb_engine.specs.declared.task.Task.TheVariants as tasks;
 ghost use Rattle.odb_ffi.specs.Options as options;
+ghost use Rattle.odb_ffi.specs.Rests.{RestIn};
 ghost use Rattle.odb_ffi.specs.Returns.{Does, Returns, ReturnsBy};
 
 use crate::answer::{answer, answer_as, wrong_option};
-use crate::options::{match_of, replay_of, run_of};
+use crate::options::{match_of, mode_of, replay_of, run_of};
+use crate::rest::rest_as;
 use odb_engine::Form::Lines;
 use odb_engine::Task::{Canon, Check, Match, Plan};
 use odb_sched::Mode;
@@ -205,6 +207,33 @@ pub extern "C" fn odb_match_with(
 {
     match match_of(mode) {
         Some(task) => answer_as(alloc, batch, responses, task, form, seed, text, text_length),
+        None => wrong_option(text_length),
+    }
+}
+
+/// Writes the rest of the batch in a document by the response document of a service, as `odb_batch rest` does: what may
+/// be sent again, as a batch of its own (OData JSON Format 4.01, sections 19.1 and 19.4). It is the same in each form.
+///
+/// `mode` is that of [`odb_match_with`]. Responses that do not fit the batch are refused as there; else the fault is
+/// F90.
+#[unsafe(no_mangle)]
+pub extern "C" fn odb_rest(
+    alloc: Global,
+    batch: &[u8],
+    responses: &[u8],
+    mode: u32,
+    form: u32,
+    text: &mut [u8],
+    text_length: &mut usize,
+    seed: u64,
+) -> u32
+    ensures { ReturnsBy (options.IsMode mode) (options.NamesNoMode mode)
+        (λ mode. ReturnsBy (options.IsForm form) (options.NamesNoForm form)
+        (λ form. Returns (RestIn mode batch.now responses.now form)))
+        result text_length.new text.old text.new }
+{
+    match mode_of(mode) {
+        Some(mode) => rest_as(alloc, batch, responses, mode, form, seed, text, text_length),
         None => wrong_option(text_length),
     }
 }

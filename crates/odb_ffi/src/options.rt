@@ -20,7 +20,7 @@ pub fn seed_of(seed: u64) -> Seed
 }
 
 /// Returns the mode that a number names, or `None` if it may not be.
-fn mode_of(mode: u32) -> Option<Mode>
+pub fn mode_of(mode: u32) -> Option<Mode>
     ensures some { IfSome result (options.IsMode mode) }
     ensures none { result ≡ None → options.NamesNoMode mode }
 {

@@ -8,11 +8,12 @@ from hypothesis import strategies as st
 from odb_batch import check, plan
 from odb_batch.client import Batch
 from odb_batch.testing import Scripted, batches
+from support import rules
 from support.profiles import share
+from support.rules_of_rests import kept
 
 STATUSES = st.sampled_from([200, 201, 204, 201, 200, 304, 404, 409, 408, 424, 429, 500, 502, 503, 504])
 MODES = st.sampled_from(["continue", "stop"])
-REPEATABLE = {"GET": {408, 502, 504}, "PUT": {408, 502, 504}, "DELETE": {408, 502, 504}}
 
 
 @st.composite
@@ -45,42 +46,18 @@ def test_a_split_batch_is_answered_as_the_whole(drawn, mode):
     assert all(status == 424 for id, status in wanted.items() if id not in sent)
 
 
-def left_out(planned, methods, statuses):
-    """The ids that are neither done nor in the rest, by a closure of the rules over requests."""
-    group = {it.id: it.group for it in planned}
-    members = {}
-    for it in planned:
-        members.setdefault(it.group or it.id, []).append(it.id)
-    done = {name for name, ids in members.items() if all(200 <= statuses[id] <= 299 for id in ids)}
-
-    def may(id):
-        again = {424, 429, 503} | REPEATABLE.get(methods[id].upper(), set())
-        return 200 <= statuses[id] <= 299 or statuses[id] in again
-
-    out = {name for name, ids in members.items() if not all(map(may, ids))}
-    while True:
-        more = {
-            it.group or it.id for it in planned
-            if any((group.get(name) or name) in out for name in it.needs) and (it.group or it.id) not in done
-        }  # fmt: skip
-        if more <= out:
-            return done, out
-        out |= more
-
-
 @share(10)
 @given(scripted(), MODES)
 def test_the_rest(drawn, mode):
     batch, script, limit = drawn
     results = Batch.read(batch).send(Scripted(script, mode=mode).post, limit=limit, mode=mode)
     planned, statuses = plan(batch), statuses_of(results)
-    done, out = left_out(planned, {it["id"]: it["method"] for it in batch["requests"]}, statuses)
+    left = [planned[at] for at in kept(rules.check(json.dumps(batch).encode()), list(statuses.values()))]
     rest = results.rest()
     check(rest.document())
-    kept = [it for it in planned if (it.group or it.id) not in done | out]
-    assert [(it.id, it.group) for it in plan(rest.document())] == [(it.id, it.group) for it in kept]
-    names = {name for it in kept for name in (it.id, it.group)}
-    assert [it.needs for it in plan(rest.document())] == [tuple(n for n in it.needs if n in names) for it in kept]
+    assert [(it.id, it.group) for it in plan(rest.document())] == [(it.id, it.group) for it in left]
+    names = {name for it in left for name in (it.id, it.group)}
+    assert [it.needs for it in plan(rest.document())] == [tuple(n for n in it.needs if n in names) for it in left]
     bodies = {it["id"]: it.get("body") for it in batch["requests"]}
     assert all(it.get("body") == bodies[it["id"]] for it in requests_of(rest.document()))
     again = rest.send(Scripted().post, limit=limit)

@@ -124,39 +124,28 @@ def test_a_reference_that_stands_for_nothing(answer, url, message):
         rest_of(batch, {"a": answer, "b": 503})
 
 
+def test_what_a_condition_refers_to_in_the_rest():
+    batch = Batch()
+    batch.patch("B", {}, headers={"If-Match": batch.put("A", {}), "If-None-Match": "$other"})
+    left = json.loads(rest_of(batch, {"1": 503}).document())["requests"]
+    assert left[1]["headers"] == {"content-type": "application/json", "if-match": "$1", "if-none-match": "$other"}
+
+
 def test_what_was_read_has_its_own_url():
     batch = Batch()
     batch.patch(batch.get("A(1)"), {})
     assert json.loads(rest_of(batch, {"2": 503}).document())["requests"][0]["url"] == "A(1)"
 
 
-class TestDocuments:
-    """The plain rules over documents, without what the client adds to a response."""
-
-    BATCH = (
+def test_the_documents_of_a_client():
+    """What takes the place of references is what the responses record."""
+    batch = (
         b'{"requests":[{"id":"a","method":"post","url":"A"},'
         b'{"id":"b","dependsOn":["a"],"method":"put","url":"$a/B","headers":{"If-Match":"$a"},"body":1.50}]}'
     )
-
-    def test_the_headers_of_the_response(self):
-        made = b'{"id":"a","status":201,"headers":{"Age":7,"LOCATION":"A(1)","location":"A(2)","ETag":"7"}}'
-        responses = b'{"responses":[{"id":"b","status":504},%s]}' % made
-        assert rest(self.BATCH, responses) == (
-            b'{"requests":[{"id":"b","method":"put","url":"A(1)/B","headers":{"if-match":"7"},"body":1.50}]}'
-        )
-
-    def test_nothing_is_left(self):
-        responses = b'{"responses":[{"id":"a","status":201},{"id":"b","status":200}]}'
-        assert rest(self.BATCH, responses) == b'{"requests":[]}'
-
-    def test_what_succeeded_in_a_group_that_failed_was_undone(self):
-        batch = b'{"requests":[%s]}' % b",".join(
-            b'{"id":"%s","atomicityGroup":"g","method":"post","url":"A"}' % id for id in (b"a", b"b")
-        )
-        answers = b'{"responses":[{"id":"a","atomicityGroup":"g","status":201},{"id":"b","atomicityGroup":"g","status":%d}]}'
-        assert rest(batch, answers % 503) == batch
-        assert rest(batch, answers % 409) == b'{"requests":[]}'
-
-    def test_responses_that_do_not_fit(self):
-        with pytest.raises(Fault, match="F73 ResponseMissing /requests/1"):
-            rest(self.BATCH, b'{"responses":[{"id":"a","status":201}]}')
+    made = b'{"id":"a","status":201,"headers":{"location":"A(1)","etag":"7"}}'
+    assert rest(batch, b'{"responses":[{"id":"b","status":504},%s]}' % made) == (
+        b'{"requests":[{"id":"b","method":"put","url":"A(1)/B","headers":{"if-match":"7"},"body":1.50}]}'
+    )
+    with pytest.raises(Fault, match="F73 ResponseMissing /requests/1"):
+        rest(batch, b'{"responses":[%s]}' % made)

@@ -1,0 +1,98 @@
+"""The rules of the rest of a batch as a plain program: what may be sent again by the responses of a service.
+
+The responses fit the batch: `match` of rules_of_runs.py has found the status of each request.
+"""
+
+from . import rules
+from .full_plans import bodies_of, rest_of
+from .rules import first_fault, fold, json_text
+
+UNPERFORMED, UNCERTAIN = (424, 429, 503), (408, 502, 504)
+IDEMPOTENT = ("delete", "get", "put")
+
+
+def is_success(status):
+    return status // 100 == 2
+
+
+def may_repeat(method, status):
+    """Whether a request may be sent again, if its unit is not done."""
+    return is_success(status) or status in UNPERFORMED or (status in UNCERTAIN and method in IDEMPOTENT)
+
+
+def unit(batch, i):
+    """The members of the request's unit: its group, or the request alone."""
+    return rules.members(batch, batch[i].group) or [i]
+
+
+def needed(batch, i):
+    """The positions that a request needs something of."""
+    return {j for name in rules.needs(batch, i) for j in rules.needed_positions(batch, name)}
+
+
+def left_out(batch, statuses):
+    """The positions of the units with a request that may not be sent again, and of what needs one of them."""
+    out = {i for i, request in enumerate(batch) if not may_repeat(request.method, statuses[i])}
+    while True:
+        units = {j for i in out for j in unit(batch, i)}
+        more = units | {i for i in range(len(batch)) if needed(batch, i) & units}
+        if more == out:
+            return out
+        out = more
+
+
+def kept(batch, statuses):
+    """The positions of the requests in the rest."""
+    out = left_out(batch, statuses)
+    is_done = [all(is_success(statuses[j]) for j in unit(batch, i)) for i in range(len(batch))]
+    return [i for i in range(len(batch)) if i not in out and not is_done[i]]
+
+
+def location(response):
+    """The Location that a response records, or None: of two names that differ in case the first in byte order counts."""
+    headers = response.get("headers")
+    names = sorted(headers, key=str.encode) if isinstance(headers, dict) else []
+    found = [headers[name] for name in names if fold(name) == "location"]
+    return found[0] if found and isinstance(found[0], str) else None
+
+
+def moved_url(request, location):
+    """The URL with a Location in the place of its reference, or None if it is not a plain URL."""
+    url = None if location is None else location + rest_of(request)
+    return url if url is not None and rules.front(url)[0] == "plain" and not rules.is_nested_batch(url) else None
+
+
+def urls(batch, positions, responses):
+    """The URL of each request in the rest, or F90."""
+    answers = {it["id"]: it for it in responses}
+    found = {}
+    for i in positions:
+        request, at = batch[i], rules.position(batch, batch[i].reference)
+        stays = at is None or at in positions
+        found[i] = request.url if stays else moved_url(request, location(answers.get(request.reference, {})))
+        first_fault({"F90": found[i] is None}, f"/requests/{i}")
+    return found
+
+
+def request_text(batch, data, i, positions, url, body):
+    """A request in the rest: in canonical form, but its body as the document has it."""
+    request = batch[i]
+    names = [it for it in request.names if set(rules.needed_positions(batch, it)) <= set(positions)]
+    members = {
+        "atomicityGroup": request.group and json_text(request.group),
+        "body": body and data[body["offset"] : body["offset"] + body["length"]].decode(),
+        "dependsOn": json_text(names) if names else None,
+        "headers": json_text(request.headers) if request.headers else None,
+        "id": json_text(request.id),
+        "method": json_text(request.method),
+        "url": json_text(url),
+    }
+    return "{" + ",".join(f'"{name}":{text}' for name, text in members.items() if text is not None) + "}"
+
+
+def rest_text(batch, data, responses, statuses):
+    """The rest of the batch in a document, by the responses of a service and the status of each request."""
+    positions = kept(batch, statuses)
+    moved, bodies = urls(batch, positions, responses), list(bodies_of(data))
+    texts = [request_text(batch, data, i, positions, moved[i], bodies[i]) for i in positions]
+    return '{"requests":[' + ",".join(texts) + "]}\n"
