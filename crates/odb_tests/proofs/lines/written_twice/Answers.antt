@@ -24,3 +24,9 @@ returns c =
     let P : Form → Work → Writes = λ form work. AnswersEach (OfAnyLine (λ line. InForm form (OfWork work form line))) lines in
     let one = subst (λ work. IsOne (P Lines work)) each.ensures.work (subst (λ form. IsOne (P form each.result.work)) each.ensures.form (c.one_text-2.ensures lines)) in
     one_of (λ it. it.0) (λ it. it.1.items) (P Lines (works.Task c.args.task)) one c.written.result c.written-2.result c.written.ensures c.written-2.ensures
+
+pub one_text-requires-2 : goal.one_text-requires-2
+one_text-requires-2 c bytes =
+    let each = c.on_each_line in
+    let P : Form → Work → Writes = λ form work. InForm form (OfWork work form bytes) in
+    subst (λ work. IsOne (P each.result.setup.form work)) (sym each.ensures.work) (subst (λ form. IsOne (P form (works.Task c.args.task))) (sym each.ensures.form) (c.one_text.ensures.line c.args.task Lines bytes))
