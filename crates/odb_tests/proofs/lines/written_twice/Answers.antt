@@ -11,12 +11,6 @@ use Rattle.odb_engine.specs.lines.Lines.{lines_of}
 use Rattle.odb_tests.proofs.LawLemmas.{one_of}
 use Rattle.odb_tests.proofs.lines.written_twice.Goals as goal
 
-pub one_text-requires-2 : goal.one_text-requires-2
-one_text-requires-2 c = λ line.
-    let each = c.on_each_line in
-    let task = subst (λ work. IsOne (InForm Lines (OfWork work Lines line))) (sym each.ensures.work) (c.one_text.ensures.line c.args.task Lines line) in
-    subst (λ form. IsOne (InForm form (OfWork each.result.work form line))) (sym each.ensures.form) task
-
 pub returns : goal.returns
 returns c =
     let each = c.on_each_line in
