@@ -42,24 +42,24 @@ def program_fault(path):
     return older and f"the program {older}; run bin/odb_batch first, which builds it"
 
 
+def fault_in(folder, usual, file, what, tool):
+    """Why what a tool writes to a folder cannot be tested, in a line; or nothing."""
+    how = f"run bin/{tool} {os.path.relpath(folder, ROOT) if folder == usual else folder} first, which builds it"
+    path = os.path.join(folder, file)
+    if not os.path.exists(path):
+        return f"{folder} has no {what}; {how}"
+    older = older_than(path, "odb_ffi") if folder == usual else None
+    return older and f"the {what} {older}; {how}"
+
+
 def library_fault(folder):
     """Why the library in a folder cannot be tested, in a line; or nothing."""
-    shared = os.path.join(folder, SHARED)
-    how = f"run bin/odb_library {os.path.relpath(folder, ROOT) if folder == LIBRARY else folder} first, which builds it"
-    if not os.path.exists(shared):
-        return f"{folder} has no library; {how}"
-    older = older_than(shared, "odb_ffi") if folder == LIBRARY else None
-    return older and f"the library {older}; {how}"
+    return fault_in(folder, LIBRARY, SHARED, "library", "odb_library")
 
 
 def wasm_fault(folder):
     """Why the WebAssembly modules in a folder cannot be tested, in a line; or nothing."""
-    module = os.path.join(folder, MODULE32)
-    how = f"run bin/odb_wasm {os.path.relpath(folder, ROOT) if folder == WASM else folder} first, which builds it"
-    if not os.path.exists(module):
-        return f"{folder} has no {MODULE32}; {how}"
-    older = older_than(module, "odb_ffi") if folder == WASM else None
-    return older and f"the module {older}; {how}"
+    return fault_in(folder, WASM, MODULE32, "module", "odb_wasm")
 
 
 # What tests may need that is built here: where it is, and what finds a fault of it.
