@@ -13,7 +13,8 @@ use Rattle.serde_json.specs.Data.{Data, null, boolean, number, string, array, ob
 use Rattle.serde_json.specs.Find.{as_null}
 use Rattle.serde_json.specs.Read.{number_of, of_json, of_items, of_members, read}
 use Rattle.odb_doc.specs.Documents.{IsDocument, most_bytes}
-use Rattle.odb_reply.specs.BodyTexts.{IsBody, NestsWithin}
+use Rattle.odb_doc.specs.Nesting.{NestsWithin}
+use Rattle.odb_reply.specs.BodyTexts.{IsBody}
 use Rattle.odb_reply.specs.BodyTexts.IsBody.{NoBody, Text}
 use Rattle.odb_reply.specs.Parts.{IsValue}
 use Rattle.odb_reply.specs.Passes.{is_null_token, has_numbers, left_if, pass_value}

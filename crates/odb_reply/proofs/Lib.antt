@@ -14,11 +14,12 @@ pub mod RuleLemmas
 pub mod FitLemmas
 pub mod AnsweredLemmas
 pub mod OneFaultLemmas
+pub mod StartsLemmas
 mod DoneLemmas
 mod PassLemmas
 mod JsonTextLemmas
 mod StringLemmas
 mod LexLemmas
 mod PieceLemmas
-mod SpliceLemmas
+pub mod SpliceLemmas
 mod TextedLemmas

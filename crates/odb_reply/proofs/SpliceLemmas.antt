@@ -1,5 +1,5 @@
--- The tokens of a response, part by part, where each body is a value or a text.
-use Rattle.std.proofs.Common.{◌≡◌, ◌∙◌, ℕ, zero, suc, ◌+◌, ◌<◌, ◌≤◌, max, List, [], ◌∷◌, ◌++◌, length, Bool, true, false, cond, nat_lt, Option, Some, None, option_map, option_and_then, IfSome, codes, decimal, refl, sym, ap, ap₂, subst, arith, append_assoc, append-nil, lt-ltb}
+-- The tokens of a document whose array holds objects, part by part, where the value of a member may be any text.
+use Rattle.std.proofs.Common.{◌≡◌, ◌∙◌, ℕ, suc, ◌+◌, ◌≤◌, max, List, [], ◌∷◌, ◌++◌, Bool, true, false, Option, Some, None, option_map, option_and_then, IfSome, codes, refl, sym, ap, ap₂, arith, append_assoc, append-nil}
 use Rattle.std.specs.Prelude.{⊤}
 use Rattle.json.specs.Json as json
 use Rattle.json.specs.Lex.{Lexeme, token, colon, between, lex, Place, fresh, after_value, after_comma, after_key, begins_colon, may_begin, punctuate, tokens}
@@ -13,14 +13,13 @@ use Rattle.json.proofs.Printed.Trees.{value-json_tokens, ArePrintable-json_token
 use Rattle.json.proofs.Unique.Spelling.{value-json_tokens_back}
 use Rattle.serde_json.proofs.OnLiterals.{serde_json_on_literals}
 use Rattle.serde_json.proofs.Texts.{print-outline}
-use Rattle.serde_json.specs.Data.{Data, unsigned, null, boolean, number, string, array, object, Items, no_items, item, Members, no_members, member, put, depth, items_depth, members_depth}
+use Rattle.serde_json.specs.Data.{Data, null, boolean, number, string, array, object, Items, no_items, item, Members, no_members, member, put, depth, items_depth, members_depth}
 use Rattle.serde_json.specs.Read.{of_json, of_items, of_members, read}
-use Rattle.serde_json.specs.Written.{outline, items_outline, members_outline, compact_text}
+use Rattle.serde_json.specs.Written.{outline, items_outline, members_outline, comma_if, compact_text}
 use Rattle.odb_doc.proofs.ReadBackLemmas.{outline-numbers, read_back}
-use Rattle.odb_doc.proofs.SafeLemmas.{IsSafe, safe-string}
+use Rattle.odb_doc.proofs.SafeLemmas.{IsSafe}
 use Rattle.odb_doc.specs.Texts.{member_part}
-use Rattle.odb_doc.specs.canonical.Canonical.{with_some}
-use Rattle.odb_reply.specs.BodyTexts.{NestsWithin, end_part}
+use Rattle.odb_doc.specs.Nesting.{NestsWithin}
 use Rattle.odb_reply.proofs.PieceLemmas.{value-joined}
 
 -- ---- the text of one value
@@ -142,15 +141,19 @@ pub headers-name : IsName (codes "\"headers\":") (codes "headers")
 unfolding lex serde_json_on_literals
 headers-name rest = refl
 
-id-name : IsName (codes "\"id\":") (codes "id")
+pub id-name : IsName (codes "\"id\":") (codes "id")
 unfolding lex serde_json_on_literals
 id-name rest = refl
 
-status-name : IsName (codes "\"status\":") (codes "status")
+pub status-name : IsName (codes "\"status\":") (codes "status")
 unfolding lex serde_json_on_literals
 status-name rest = refl
 
--- ---- the text of a response
+-- ---- the text of an object
+
+-- the text is that of these members and of the end of their object, whatever comes after it
+abbrev pub EndsObject : List ℕ → json.Members → Type 0
+EndsObject text ms = (rest : List ℕ) → AreMembers (text ++ rest) ms (punctuate after_value (lex between rest))
 
 brace-after : (rest : List ℕ) → punctuate after_value (lex between (125 ∷ rest)) ≡ end_object ∷ punctuate after_value (lex between rest)
 unfolding lex punctuate
@@ -160,39 +163,31 @@ no-colon-brace : (rest : List ℕ) → begins_colon (lex between (125 ∷ rest))
 unfolding lex
 no-colon-brace rest = refl
 
--- the last two members, of which the status is such a tree
-abbrev pub last_members : List ℕ → json.Json → json.Members
-last_members id status = json.member (codes "id") (json.string id) (json.member (codes "status") status json.no_members)
+-- the last member and the end of the object
+pub last-member : (head name text : List ℕ) (d : Data) → IsName head name → (piece : IsPiece text d) → EndsObject (head ++ (text ++ 125 ∷ [])) (json.member name piece.parsed json.no_members)
+last-member head name text d named piece rest p begins =
+    ap (λ l. punctuate p (lex between l)) (append_assoc head (text ++ 125 ∷ []) rest ∙ ap (λ l. head ++ l) (append_assoc text (125 ∷ []) rest))
+    ∙ member-joined p begins head name named text d piece (125 ∷ rest) refl (no-colon-brace rest)
+    ∙ ap (λ ts. key name ∷ (tree.json_tokens piece.parsed ++ ts)) (brace-after rest)
+    ∙ ap (λ ts. key name ∷ ts) (sym (append_assoc (tree.json_tokens piece.parsed) (end_object ∷ []) (punctuate after_value (lex between rest))))
 
--- the text of the last two members, and of the end of the object
-pub record IsEndPart (id : List ℕ) (status : ℕ) : Type 0 where
-  pub parsed : json.Json
-  pub joined : (rest : List ℕ) → AreMembers (end_part id status ++ rest) (last_members id parsed) (punctuate after_value (lex between rest))
-  pub reads : of_json parsed ≡ Some (number (unsigned status))
-  pub shallow : tree.depth parsed ≤ 124
+-- a member that may be absent, before others
+pub member-before : (text name : List ℕ) (o : Option Data) (part : IsPart text name o) (others : List ℕ) (ms : json.Members) → EndsObject others ms → EndsObject (text ++ others) (with_tree name o part.parsed ms)
+member-before text name o part others ms ends rest p begins =
+    ap (λ l. punctuate p (lex between l)) (append_assoc text others rest)
+    ∙ part.joined (others ++ rest) ms (punctuate after_value (lex between rest)) (ends rest) p begins
 
-end-parts : (id : List ℕ) (status : ℕ) (piece : IsPiece (decimal status) (number (unsigned status))) (first : IsPiece (compact_text (string id)) (string id)) → first.parsed ≡ json.string id → IsEndPart id status
-unfolding serde_json_on_literals
-end-parts id status piece first named = record {
-  parsed = piece.parsed;
-  joined = λ rest p begins.
-      let last = decimal status ++ 125 ∷ rest in
-      let second = codes "\"status\":" ++ last in
-      ap (λ l. punctuate p (lex between l)) (append_assoc (codes "\"id\":") (compact_text (string id) ++ (codes ",\"status\":" ++ (decimal status ++ codes "}"))) rest
-      ∙ ap (λ l. codes "\"id\":" ++ l) (append_assoc (compact_text (string id)) (codes ",\"status\":" ++ (decimal status ++ codes "}")) rest
-      ∙ ap (λ l. compact_text (string id) ++ (codes ",\"status\":" ++ l)) (append_assoc (decimal status) (codes "}") rest)))
-      ∙ member-joined p begins (codes "\"id\":") (codes "id") id-name (compact_text (string id)) (string id) first (44 ∷ second) refl (no-colon-comma second)
-      ∙ ap (λ ts. key (codes "id") ∷ (tree.json_tokens first.parsed ++ ts))
-      (comma-after second ∙ member-joined after_comma refl (codes "\"status\":") (codes "status") status-name (decimal status) (number (unsigned status)) piece (125 ∷ rest) refl (no-colon-brace rest)
-      ∙ ap (λ ts. key (codes "status") ∷ (tree.json_tokens piece.parsed ++ ts)) (brace-after rest) ∙ ap (λ ts. key (codes "status") ∷ ts) (sym (append_assoc (tree.json_tokens piece.parsed) (end_object ∷ []) (punctuate after_value (lex between rest)))))
-      ∙ ap (λ j. key (codes "id") ∷ (tree.json_tokens j ++ (key (codes "status") ∷ ((tree.json_tokens piece.parsed ++ end_object ∷ []) ++ punctuate after_value (lex between rest))))) named;
-  reads = piece.reads;
-  shallow = piece.shallow;
-}
+-- a member with a comma after it, before others
+pub member-then : (head name text : List ℕ) (d : Data) → IsName head name → (piece : IsPiece text d) → (others : List ℕ) (ms : json.Members) → EndsObject others ms → EndsObject (head ++ (text ++ 44 ∷ others)) (json.member name piece.parsed ms)
+unfolding some-part
+member-then head name text d named piece others ms ends rest p begins =
+    let split : head ++ (text ++ 44 ∷ others) ≡ (head ++ (text ++ 44 ∷ [])) ++ others = sym (append_assoc head (text ++ 44 ∷ []) others ∙ ap (λ l. head ++ l) (append_assoc text (44 ∷ []) others)) in
+    ap (λ l. punctuate p (lex between (l ++ rest))) split
+    ∙ member-before (head ++ (text ++ 44 ∷ [])) name (Some d) (some-part head name text d named piece) others ms ends rest p begins
 
-pub end-of-response : (id : List ℕ) (status : ℕ) → IsSafe 124 (number (unsigned status)) → IsEndPart id status
-unfolding piece-value piece-of
-end-of-response id status safe = end-parts id status (piece-value (number (unsigned status)) safe) (piece-value (string id) (safe-string 124 id)) refl
+pub with-tree-depth : (name : List ℕ) (o : Option Data) (t : Tree o) (ms : json.Members) → tree.members_depth ms ≤ 124 → tree.members_depth (with_tree name o t ms) ≤ 124
+with-tree-depth name None t ms shallow = shallow
+with-tree-depth name (Some d) t ms shallow = omega (arith, t.2, shallow)
 
 open-brace : (p : Place) (rest : List ℕ) → may_begin p ≡ true → punctuate p (lex between (123 ∷ rest)) ≡ begin_object ∷ punctuate fresh (lex between rest)
 unfolding lex punctuate
@@ -201,56 +196,81 @@ open-brace after_value rest begins = absurd (cc (begins))
 open-brace after_comma rest begins = refl
 open-brace after_key rest begins = absurd (cc (begins))
 
--- the text of a response by its parts
-pub record AreParts (group body headers : Option Data) (id : List ℕ) (status : ℕ) (group_text body_text headers_text : List ℕ) : Type 0 where
-  pub of_group : IsPart group_text (codes "atomicityGroup") group
-  pub of_body : IsPart body_text (codes "body") body
-  pub of_headers : IsPart headers_text (codes "headers") headers
-  pub of_end : IsEndPart id status
+-- the text is that of a tree which reads as the value and nests at most 125 deep, whatever comes after it
+pub record IsObjectText (text : List ℕ) (d : Data) : Type 0 where
+  pub parsed : json.Json
+  pub joined : (p : Place) → may_begin p ≡ true → (rest : List ℕ) → punctuate p (lex between (text ++ rest)) ≡ tree.json_tokens parsed ++ punctuate after_value (lex between rest)
+  pub reads : of_json parsed ≡ Some d
+  pub shallow : tree.depth parsed ≤ 125
 
-module _ (group body headers : Option Data) (id : List ℕ) (status : ℕ) (group_text body_text headers_text : List ℕ) (whole : AreParts group body headers id status group_text body_text headers_text) where
-  abbrev pub members_of : json.Members
-  members_of = with_tree (codes "atomicityGroup") group whole.of_group.parsed (with_tree (codes "body") body whole.of_body.parsed (with_tree (codes "headers") headers whole.of_headers.parsed (last_members id whole.of_end.parsed)))
+pub object-text : (text : List ℕ) (ms : json.Members) (found : Members) → EndsObject text ms → of_members ms no_members ≡ Some found → tree.members_depth ms ≤ 124 → IsObjectText (123 ∷ text) (object found)
+object-text text ms found ends reads shallow = record {
+  parsed = json.object ms;
+  joined = λ p begins rest. open-brace p (text ++ rest) begins ∙ ap (λ ts. begin_object ∷ ts) (ends rest fresh refl);
+  reads = ap (option_map object) reads;
+  shallow = omega (arith, shallow);
+}
 
-  abbrev pub text_of_parts : List ℕ
-  text_of_parts = codes "{" ++ (group_text ++ (body_text ++ (headers_text ++ end_part id status)))
+-- ---- the text of objects in an array
 
-  pub response-joined : (p : Place) → may_begin p ≡ true → (rest : List ℕ) → punctuate p (lex between (text_of_parts ++ rest)) ≡ tree.json_tokens (json.object members_of) ++ punctuate after_value (lex between rest)
-  unfolding serde_json_on_literals
-  response-joined p begins rest =
-      let more = punctuate after_value (lex between rest) in
-      let last = end_part id status ++ rest in
-      let headed = whole.of_headers.joined last _ more (whole.of_end.joined rest) in
-      let bodied = whole.of_body.joined (headers_text ++ last) _ more headed in
-      let grouped = whole.of_group.joined (body_text ++ (headers_text ++ last)) _ more bodied in
-      ap (λ l. punctuate p (lex between (123 ∷ l))) (append_assoc group_text (body_text ++ (headers_text ++ end_part id status)) rest
-      ∙ ap (λ l. group_text ++ l) (append_assoc body_text (headers_text ++ end_part id status) rest ∙ ap (λ l. body_text ++ l) (append_assoc headers_text (end_part id status) rest)))
-      ∙ open-brace p (group_text ++ (body_text ++ (headers_text ++ last))) begins ∙ ap (λ ts. begin_object ∷ ts) (grouped fresh refl)
+-- the place before an element
+abbrev pub place_before : Bool → Place
+place_before false = fresh
+place_before true = after_value
 
-  with-tree-depth : (name : List ℕ) (o : Option Data) (t : Tree o) (ms : json.Members) → tree.members_depth ms ≤ 124 → tree.members_depth (with_tree name o t ms) ≤ 124
-  with-tree-depth name None t ms shallow = shallow
-  with-tree-depth name (Some d) t ms shallow = omega (arith, t.2, shallow)
+-- the text is that of the elements and of the end of their array, whatever comes after it
+pub record AreObjectTexts (later : Bool) (text : List ℕ) (ds : Items) : Type 0 where
+  pub trees : json.Items
+  pub joined : (rest : List ℕ) → punctuate (place_before later) (lex between (text ++ rest)) ≡ tree.items_tokens trees ++ punctuate after_value (lex between rest)
+  pub reads : of_items trees ≡ Some ds
+  pub shallow : tree.items_depth trees ≤ 125
 
-  pub response-depth : tree.depth (json.object members_of) ≤ 125
-  response-depth =
-      let last = last_members id whole.of_end.parsed in
-      let end : tree.members_depth last ≤ 124 = omega (arith, whole.of_end.shallow) in
-      let headed = with_tree (codes "headers") headers whole.of_headers.parsed last in
-      let bodied = with_tree (codes "body") body whole.of_body.parsed headed in
-      let all : tree.members_depth members_of ≤ 124 =
-      with-tree-depth (codes "atomicityGroup") group whole.of_group.parsed bodied
-      (with-tree-depth (codes "body") body whole.of_body.parsed headed (with-tree-depth (codes "headers") headers whole.of_headers.parsed last end)) in
-      omega (arith, all)
+bracket-after : (later : Bool) (rest : List ℕ) → punctuate (place_before later) (lex between (93 ∷ rest)) ≡ end_array ∷ punctuate after_value (lex between rest)
+unfolding lex punctuate
+bracket-after false rest = refl
+bracket-after true rest = refl
 
-pub members-read : (group body headers : Option Data) (first : Tree group) (second : Tree body) (third : Tree headers) (id : List ℕ) (last : json.Json) (status : ℕ) → of_json last ≡ Some (number (unsigned status))
-    → of_members (with_tree (codes "atomicityGroup") group first (with_tree (codes "body") body second (with_tree (codes "headers") headers third (last_members id last)))) no_members
-    ≡ Some (with_some (codes "atomicityGroup") group (with_some (codes "body") body (with_some (codes "headers") headers (put (codes "id") (string id) (put (codes "status") (number (unsigned status)) no_members)))))
+pub no-objects : (later : Bool) → AreObjectTexts later (codes "]") no_items
 unfolding serde_json_on_literals
-members-read None None None first second third id last status is = rw is refl
-members-read None None (Some h) first second third id last status is = rw (third.1, is) refl
-members-read None (Some b) None first second third id last status is = rw (second.1, is) refl
-members-read None (Some b) (Some h) first second third id last status is = rw (second.1, third.1, is) refl
-members-read (Some g) None None first second third id last status is = rw (first.1, is) refl
-members-read (Some g) None (Some h) first second third id last status is = rw (first.1, third.1, is) refl
-members-read (Some g) (Some b) None first second third id last status is = rw (first.1, second.1, is) refl
-members-read (Some g) (Some b) (Some h) first second third id last status is = rw (first.1, second.1, third.1, is) refl
+no-objects later = record { trees = json.no_items; joined = λ rest. bracket-after later rest; reads = refl; shallow = omega arith }
+
+-- a comma first, unless it is the first element
+comma-first : (later : Bool) (rest : List ℕ) (ts : List Token) → ((p : Place) → may_begin p ≡ true → punctuate p (lex between rest) ≡ ts) → punctuate (place_before later) (lex between (comma_if later ++ rest)) ≡ ts
+unfolding lex punctuate
+comma-first false rest ts reads = reads fresh refl
+comma-first true rest ts reads = reads after_comma refl
+
+pub one-object-more : (later : Bool) (text others : List ℕ) (d : Data) (ds : Items) → IsObjectText text d → AreObjectTexts true others ds → AreObjectTexts later (comma_if later ++ (text ++ others)) (item d ds)
+one-object-more later text others d ds first next = record {
+  trees = json.item first.parsed next.trees;
+  joined = λ rest.
+      ap (λ l. punctuate (place_before later) (lex between l)) (append_assoc (comma_if later) (text ++ others) rest ∙ ap (λ l. comma_if later ++ l) (append_assoc text others rest))
+      ∙ comma-first later (text ++ (others ++ rest)) (tree.json_tokens first.parsed ++ punctuate after_value (lex between (others ++ rest))) (λ p begins. first.joined p begins (others ++ rest))
+      ∙ ap (λ ts. tree.json_tokens first.parsed ++ ts) (next.joined rest)
+      ∙ sym (append_assoc (tree.json_tokens first.parsed) (tree.items_tokens next.trees) (punctuate after_value (lex between rest)));
+  reads = ap (option_and_then (λ e. option_map (item e) (of_items next.trees))) first.reads ∙ ap (option_map (item d)) next.reads;
+  shallow = omega (arith, first.shallow, next.shallow);
+}
+
+-- ---- the text of a document of objects
+
+-- the text begins an object with one member, which is an array
+abbrev pub BeginsArray : List ℕ → List ℕ → Type 0
+BeginsArray head name = (rest : List ℕ) → tokens (head ++ rest) ≡ begin_object ∷ key name ∷ begin_array ∷ punctuate fresh (lex between rest)
+
+ended : (tail : List ℕ) → lex between tail ≡ [] → punctuate after_value (lex between (125 ∷ tail)) ≡ end_object ∷ []
+unfolding lex punctuate
+ended tail none = ap (λ ls. end_object ∷ punctuate after_value ls) none
+
+-- the text, and after it maybe blanks, is read as the document
+pub document-read : (head name text tail : List ℕ) (ds : Items) → BeginsArray head name → lex between tail ≡ [] → AreObjectTexts false text ds
+    → read ((head ++ (text ++ codes "}")) ++ tail) ≡ Some (object (put name (array ds) no_members))
+unfolding serde_json_on_literals
+document-read head name text tail ds begun none are =
+    let whole = json.object (json.member name (json.array are.trees) json.no_members) in
+    let last = 125 ∷ tail in
+    let same : tokens ((head ++ (text ++ codes "}")) ++ tail) ≡ tree.json_tokens whole =
+    ap tokens (append_assoc head (text ++ codes "}") tail ∙ ap (λ l. head ++ l) (append_assoc text (codes "}") tail))
+    ∙ begun (text ++ last)
+    ∙ ap (λ ts. begin_object ∷ key name ∷ begin_array ∷ ts) (are.joined last ∙ ap (λ ts. tree.items_tokens are.trees ++ ts) (ended tail none)) in
+    read-tree ((head ++ (text ++ codes "}")) ++ tail) whole same (omega (arith, are.shallow)) ∙ rw are.reads refl

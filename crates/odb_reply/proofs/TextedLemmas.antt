@@ -1,15 +1,14 @@
 -- The text of a response with bodies that were reported as text is read as the value of the response.
-use Rattle.std.proofs.Common.{◌≡◌, ◌∙◌, ◌⊎◌, ℕ, zero, suc, ◌+◌, ◌<◌, ◌≤◌, max, List, [], ◌∷◌, ◌++◌, length, Bool, true, false, nat_lt, Option, Some, None, option_map, option_and_then, IfSome, codes, inl, inr, refl, sym, ap, ap₂, subst, arith, append_assoc, append-nil, lt-ltb}
+use Rattle.std.proofs.Common.{◌≡◌, ◌∙◌, ℕ, suc, ◌+◌, ◌<◌, ◌≤◌, List, [], ◌∷◌, ◌++◌, length, true, nat_lt, Option, Some, None, option_map, IfSome, codes, decimal, refl, sym, ap, subst, arith, append-nil, lt-ltb}
 use Rattle.json.specs.Json as json
-use Rattle.json.specs.Lex.{between, lex, Place, fresh, after_value, after_comma, may_begin, punctuate, tokens}
-use Rattle.json.specs.Token.{Token, begin_object, end_object, begin_array, end_array, key}
+use Rattle.json.specs.Lex.{between, lex, punctuate}
 use Rattle.json.specs.Tree as tree
 use Rattle.serde_json.proofs.OnLiterals.{serde_json_on_literals}
-use Rattle.serde_json.specs.Data.{Data, unsigned, number, string, array, object, Items, no_items, item, no_members, put}
-use Rattle.serde_json.specs.Read.{of_json, of_items, of_members, read}
+use Rattle.serde_json.specs.Data.{Data, unsigned, number, string, object, no_members, put}
+use Rattle.serde_json.specs.Read.{of_json, of_members, read}
 use Rattle.serde_json.specs.View.{items_of}
-use Rattle.serde_json.specs.Written.{comma_if}
-use Rattle.odb_doc.proofs.SafeLemmas.{IsSafe, safe-group, safe-headers, safe-body}
+use Rattle.serde_json.specs.Written.{compact_text}
+use Rattle.odb_doc.proofs.SafeLemmas.{IsSafe, safe-group, safe-headers, safe-body, safe-string}
 use Rattle.odb_doc.specs.Texts.{member_part}
 use Rattle.odb_doc.specs.canonical.Canonical.{headers_value, with_some}
 use Rattle.odb_doc.specs.declared.recorded.outcome.Outcome.{Outcome}
@@ -18,15 +17,14 @@ use Rattle.odb_doc.specs.Statuses.{is_status}
 use Rattle.odb_doc.specs.WholeNumbers.{IsWhole}
 use Rattle.odb_sched.specs.run.Answers.{answer, status_of}
 use Rattle.odb_sched.specs.run.State.{State, size}
-use Rattle.odb_reply.specs.BodyTexts.{IsBody, body_part, response_with, responses_with, text_at, text_with, valued, value_body, value_with, values_of}
+use Rattle.odb_reply.specs.BodyTexts.{IsBody, body_part, end_part, response_with, responses_with, text_at, text_with, valued, value_body, value_with, values_of}
 use Rattle.odb_reply.specs.BodyTexts.IsBody.{NoBody, Text}
 use Rattle.odb_reply.specs.NotWhole.{HasWholeValues}
 use Rattle.odb_reply.specs.Parts.{AreHeldBy, IsHeldBy}
 use Rattle.odb_reply.specs.Readable.{HasShallowValues}
-use Rattle.odb_reply.specs.Responses.{LabelValue, answer_body, answer_headers, response, responses_from, value_of}
+use Rattle.odb_reply.specs.Responses.{LabelValue, answer_body, answer_headers, response, responses_from}
 use Rattle.odb_reply.proofs.ReadableLemmas.{safe-status}
-use Rattle.odb_reply.proofs.SpliceLemmas as splice
-use Rattle.odb_reply.proofs.SpliceLemmas.{AreParts, IsPart, group-name, body-name, headers-name, end-of-response, no-part, piece-text, read-tree, some-part, value-part}
+use Rattle.odb_reply.proofs.SpliceLemmas.{AreObjectTexts, BeginsArray, EndsObject, IsObjectText, IsPart, IsPiece, Tree, body-name, document-read, group-name, headers-name, id-name, last-member, member-before, member-then, no-objects, no-part, object-text, one-object-more, piece-text, piece-value, some-part, status-name, value-part, with-tree-depth, with_tree}
 
 -- ---- one response
 
@@ -67,14 +65,54 @@ same-response label None (Some text) = refl
 same-response label (Some outcome) None = refl
 same-response label (Some outcome) (Some text) = refl
 
-of-response : (label : LabelValue) (answered : Option Outcome) (text : Option (List ℕ)) → IsAnswer answered text
-    → AreParts (option_map string label.group) (answer_body (valued answered text)) (headers_value (answer_headers answered)) label.id (status_of answered) (group_text label) (body_part answered text) (headers_text answered)
-of-response label answered text is = record {
-  of_group = value-part (codes "\"atomicityGroup\":") (codes "atomicityGroup") group-name (option_map string label.group) (safe-group 124 label.group);
-  of_body = of-body answered text is;
-  of_headers = value-part (codes "\"headers\":") (codes "headers") headers-name (headers_value (answer_headers answered)) (safe-answer_headers answered text is.held);
-  of_end = end-of-response label.id (status_of answered) (safe-status 124 (status_of answered) is.status);
-}
+-- what is read of the members of a response
+members-read : (group body headers : Option Data) (first : Tree group) (second : Tree body) (third : Tree headers) (id status : Data) (fourth fifth : json.Json) → of_json fourth ≡ Some id → of_json fifth ≡ Some status
+    → of_members (with_tree (codes "atomicityGroup") group first (with_tree (codes "body") body second (with_tree (codes "headers") headers third (json.member (codes "id") fourth (json.member (codes "status") fifth json.no_members))))) no_members
+    ≡ Some (with_some (codes "atomicityGroup") group (with_some (codes "body") body (with_some (codes "headers") headers (put (codes "id") id (put (codes "status") status no_members)))))
+unfolding serde_json_on_literals
+members-read None None None first second third id status fourth fifth is also = rw (is, also) refl
+members-read None None (Some h) first second third id status fourth fifth is also = rw (third.1, is, also) refl
+members-read None (Some b) None first second third id status fourth fifth is also = rw (second.1, is, also) refl
+members-read None (Some b) (Some h) first second third id status fourth fifth is also = rw (second.1, third.1, is, also) refl
+members-read (Some g) None None first second third id status fourth fifth is also = rw (first.1, is, also) refl
+members-read (Some g) None (Some h) first second third id status fourth fifth is also = rw (first.1, third.1, is, also) refl
+members-read (Some g) (Some b) None first second third id status fourth fifth is also = rw (first.1, second.1, is, also) refl
+members-read (Some g) (Some b) (Some h) first second third id status fourth fifth is also = rw (first.1, second.1, third.1, is, also) refl
+
+-- the last two members
+last_members : (id : List ℕ) (status : ℕ) (first : IsPiece (compact_text (string id)) (string id)) (second : IsPiece (decimal status) (number (unsigned status)))
+    → EndsObject (end_part id status) (json.member (codes "id") first.parsed (json.member (codes "status") second.parsed json.no_members))
+unfolding serde_json_on_literals
+last_members id status first second =
+    member-then (codes "\"id\":") (codes "id") (compact_text (string id)) (string id) id-name first (codes "\"status\":" ++ (decimal status ++ 125 ∷ [])) (json.member (codes "status") second.parsed json.no_members)
+    (last-member (codes "\"status\":") (codes "status") (decimal status) (number (unsigned status)) status-name second)
+
+of-response : (label : LabelValue) (answered : Option Outcome) (text : Option (List ℕ)) → IsAnswer answered text → IsObjectText (response_with label answered text) (response label (valued answered text))
+unfolding serde_json_on_literals
+of-response label answered text is =
+    let status = status_of answered in
+    let headers = headers_value (answer_headers answered) in
+    let first : IsPiece (compact_text (string label.id)) (string label.id) = piece-value (string label.id) (safe-string 124 label.id) in
+    let second : IsPiece (decimal status) (number (unsigned status)) = piece-value (number (unsigned status)) (safe-status 124 status is.status) in
+    let last = json.member (codes "id") first.parsed (json.member (codes "status") second.parsed json.no_members) in
+    let of_group = value-part (codes "\"atomicityGroup\":") (codes "atomicityGroup") group-name (option_map string label.group) (safe-group 124 label.group) in
+    let of_text = of-body answered text is in
+    let of_headers = value-part (codes "\"headers\":") (codes "headers") headers-name headers (safe-answer_headers answered text is.held) in
+    let headed = with_tree (codes "headers") headers of_headers.parsed last in
+    let bodied = with_tree (codes "body") (answer_body (valued answered text)) of_text.parsed headed in
+    let grouped = with_tree (codes "atomicityGroup") (option_map string label.group) of_group.parsed bodied in
+    let after_body = headers_text answered ++ end_part label.id status in
+    let whole = group_text label ++ (body_part answered text ++ after_body) in
+    let ends : EndsObject whole grouped =
+    member-before (group_text label) (codes "atomicityGroup") (option_map string label.group) of_group (body_part answered text ++ after_body) bodied
+    (member-before (body_part answered text) (codes "body") (answer_body (valued answered text)) of_text after_body headed
+    (member-before (headers_text answered) (codes "headers") headers of_headers (end_part label.id status) last (last_members label.id status first second))) in
+    let shallow : tree.members_depth grouped ≤ 124 =
+    with-tree-depth (codes "atomicityGroup") (option_map string label.group) of_group.parsed bodied
+    (with-tree-depth (codes "body") (answer_body (valued answered text)) of_text.parsed headed
+    (with-tree-depth (codes "headers") headers of_headers.parsed last (omega (arith, first.shallow, second.shallow)))) in
+    subst (IsObjectText (response_with label answered text)) (same-response label answered text)
+    (object-text whole grouped _ ends (members-read (option_map string label.group) (answer_body (valued answered text)) headers of_group.parsed of_text.parsed of_headers.parsed (string label.id) (number (unsigned status)) first.parsed second.parsed first.reads second.reads) shallow)
 
 -- ---- the responses
 
@@ -82,119 +120,30 @@ of-response label answered text is = record {
 abbrev AreAnswers : List (Option (List ℕ)) → (ℕ → Option Outcome) → ℕ → ℕ → Type 0
 AreAnswers texts answers i count = (k : ℕ) → k < count → IsAnswer (answers (i + k)) (text_at texts (i + k))
 
--- the place before the response at a position
-abbrev place_before : Bool → Place
-place_before false = fresh
-place_before true = after_value
-
--- the text of the responses from a position on is that of these trees, and then the rest
-record AreResponses (labels : List LabelValue) (texts : List (Option (List ℕ))) (answers : ℕ → Option Outcome) (i : ℕ) : Type 0 where
-  trees : json.Items
-  joined : (later : Bool) → later ≡ nat_lt 0 i → (rest : List ℕ) → punctuate (place_before later) (lex between (responses_with texts answers i labels ++ rest)) ≡ tree.items_tokens trees ++ punctuate after_value (lex between rest)
-  reads : of_items trees ≡ Some (items_of (responses_from (values_of texts answers) i labels))
-  shallow : tree.items_depth trees ≤ 125
-
-bracket-after : (later : Bool) (rest : List ℕ) → punctuate (place_before later) (lex between (93 ∷ rest)) ≡ end_array ∷ punctuate after_value (lex between rest)
-unfolding lex punctuate
-bracket-after false rest = refl
-bracket-after true rest = refl
-
--- a comma first, unless it is the first response
-comma-first : (later : Bool) (rest : List ℕ) (ts : List Token) → ((p : Place) → may_begin p ≡ true → punctuate p (lex between rest) ≡ ts) → punctuate (place_before later) (lex between (comma_if later ++ rest)) ≡ ts
-unfolding lex punctuate
-comma-first false rest ts reads = reads fresh refl
-comma-first true rest ts reads = reads after_comma refl
-
-module _ (texts : List (Option (List ℕ))) (answers : ℕ → Option Outcome) (i : ℕ) (label : LabelValue) (is : IsAnswer (answers i) (text_at texts i)) where
-  abbrev group : Option Data
-  group = option_map string label.group
-
-  abbrev body : Option Data
-  body = answer_body (values_of texts answers i)
-
-  abbrev headers : Option Data
-  headers = headers_value (answer_headers (answers i))
-
-  abbrev status : ℕ
-  status = status_of (answers i)
-
-  abbrev body_text : List ℕ
-  body_text = body_part (answers i) (text_at texts i)
-
-  abbrev text : List ℕ
-  text = response_with label (answers i) (text_at texts i)
-
-  abbrev parts : AreParts group body headers label.id status (group_text label) body_text (headers_text (answers i))
-  parts = of-response label (answers i) (text_at texts i) is
-
-  abbrev whole : json.Json
-  whole = json.object (splice.members_of group body headers label.id status (group_text label) body_text (headers_text (answers i)) parts)
-
-  whole-read : of_json whole ≡ Some (response label (values_of texts answers i))
-  whole-read =
-      ap (option_map object) (splice.members-read group body headers parts.of_group.parsed parts.of_body.parsed parts.of_headers.parsed label.id parts.of_end.parsed status parts.of_end.reads)
-      ∙ ap Some (same-response label (answers i) (text_at texts i))
-
-  module _ (labels : List LabelValue) (next : AreResponses labels texts answers (i + 1)) where
-    abbrev others : List ℕ
-    others = responses_with texts answers (i + 1) labels
-
-    split : (later : Bool) → later ≡ nat_lt 0 i → (rest : List ℕ) → responses_with texts answers i (label ∷ labels) ++ rest ≡ comma_if later ++ (text ++ (others ++ rest))
-    split later same rest =
-        append_assoc (comma_if (nat_lt 0 i)) (text ++ others) rest
-        ∙ ap (λ b. comma_if b ++ ((text ++ others) ++ rest)) (sym same)
-        ∙ ap (λ l. comma_if later ++ l) (append_assoc text others rest)
-
-    one-more : AreResponses (label ∷ labels) texts answers i
-    one-more = record {
-      trees = json.item whole next.trees;
-      joined = λ later same rest.
-          let after = others ++ rest in
-          ap (λ l. punctuate (place_before later) (lex between l)) (split later same rest)
-          ∙ comma-first later (text ++ after) (tree.json_tokens whole ++ punctuate after_value (lex between after))
-          (λ p begins. splice.response-joined group body headers label.id status (group_text label) body_text (headers_text (answers i)) parts p begins after)
-          ∙ ap (λ ts. tree.json_tokens whole ++ ts) (next.joined true (sym (lt-ltb 0 (i + 1) (omega arith))) rest)
-          ∙ sym (append_assoc (tree.json_tokens whole) (tree.items_tokens next.trees) (punctuate after_value (lex between rest)));
-      reads =
-          ap (option_and_then (λ d. option_map (item d) (of_items next.trees))) whole-read
-          ∙ ap (option_map (item (response label (values_of texts answers i)))) next.reads;
-      shallow = omega (arith, splice.response-depth group body headers label.id status (group_text label) body_text (headers_text (answers i)) parts, next.shallow);
-    }
-
-are-responses : (labels : List LabelValue) (texts : List (Option (List ℕ))) (answers : ℕ → Option Outcome) (i : ℕ) → AreAnswers texts answers i (length labels) → AreResponses labels texts answers i
-unfolding serde_json_on_literals
-are-responses [] texts answers i each = record { trees = json.no_items; joined = λ later same rest. bracket-after later rest; reads = refl; shallow = omega arith }
+are-responses : (labels : List LabelValue) (texts : List (Option (List ℕ))) (answers : ℕ → Option Outcome) (i : ℕ) → AreAnswers texts answers i (length labels)
+    → AreObjectTexts (nat_lt 0 i) (responses_with texts answers i labels) (items_of (responses_from (values_of texts answers) i labels))
+are-responses [] texts answers i each = no-objects (nat_lt 0 i)
 are-responses (label ∷ labels) texts answers i each =
     let here : i + 0 ≡ i = omega arith in
     let is = subst (λ j. IsAnswer (answers j) (text_at texts j)) here (each 0 (omega arith)) in
-    one-more texts answers i label is labels (are-responses labels texts answers (i + 1) (λ k within.
+    let others = are-responses labels texts answers (i + 1) (λ k within.
     let next : i + suc k ≡ i + 1 + k = omega arith in
-    subst (λ j. IsAnswer (answers j) (text_at texts j)) next (each (suc k) (omega (arith, within)))))
+    subst (λ j. IsAnswer (answers j) (text_at texts j)) next (each (suc k) (omega (arith, within)))) in
+    let ds = items_of (responses_from (values_of texts answers) (i + 1) labels) in
+    one-object-more (nat_lt 0 i) (response_with label (answers i) (text_at texts i)) (responses_with texts answers (i + 1) labels) (response label (values_of texts answers i)) ds (of-response label (answers i) (text_at texts i) is)
+    (subst (λ later. AreObjectTexts later (responses_with texts answers (i + 1) labels) ds) (lt-ltb 0 (i + 1) (omega arith)) others)
 
 -- ---- the whole text
 
-begun : (rest : List ℕ) → tokens (codes "{\"responses\":[" ++ rest) ≡ begin_object ∷ key (codes "responses") ∷ begin_array ∷ punctuate fresh (lex between rest)
+begun : BeginsArray (codes "{\"responses\":[") (codes "responses")
 unfolding lex punctuate serde_json_on_literals
 begun rest = refl
-
-ended : (tail : List ℕ) → lex between tail ≡ [] → punctuate after_value (lex between (125 ∷ tail)) ≡ end_object ∷ []
-unfolding lex punctuate
-ended tail none = ap (λ ls. end_object ∷ punctuate after_value ls) none
 
 -- the text, and after it maybe blanks, is read as the value
 pub texted-read : (labels : List LabelValue) (texts : List (Option (List ℕ))) (answers : ℕ → Option Outcome) (tail : List ℕ) → lex between tail ≡ [] → AreAnswers texts answers 0 (length labels)
     → read (text_with labels texts answers ++ tail) ≡ Some (value_with labels texts answers)
-unfolding text_with serde_json_on_literals
-texted-read labels texts answers tail none each =
-    let are = are-responses labels texts answers 0 each in
-    let whole = json.object (json.member (codes "responses") (json.array are.trees) json.no_members) in
-    let last = 125 ∷ tail in
-    let same : tokens (text_with labels texts answers ++ tail) ≡ tree.json_tokens whole =
-    ap tokens (append_assoc (codes "{\"responses\":[") (responses_with texts answers 0 labels ++ codes "}") tail ∙ ap (λ l. codes "{\"responses\":[" ++ l) (append_assoc (responses_with texts answers 0 labels) (codes "}") tail))
-    ∙ begun (responses_with texts answers 0 labels ++ last)
-    ∙ ap (λ ts. begin_object ∷ key (codes "responses") ∷ begin_array ∷ ts) (are.joined false refl last ∙ ap (λ ts. tree.items_tokens are.trees ++ ts) (ended tail none)) in
-    read-tree (text_with labels texts answers ++ tail) whole same (omega (arith, are.shallow))
-    ∙ rw are.reads refl
+unfolding text_with
+texted-read labels texts answers tail none each = document-read (codes "{\"responses\":[") (codes "responses") (responses_with texts answers 0 labels) tail _ begun none (are-responses labels texts answers 0 each)
 
 if-some : (P : Outcome → Type 0) (found answered : Option Outcome) → found ≡ answered → ((outcome : Outcome) → found ≡ Some outcome → P outcome) → IfSome answered P
 if-some P found None is each = tt

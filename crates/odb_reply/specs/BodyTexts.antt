@@ -1,21 +1,15 @@
 -- Bodies that were reported as JSON text, which a response repeats byte for byte (OData JSON Format 4.01, section 19.5).
 use Rattle.std.specs.Prelude.{◌≡◌, ◌≢◌, ◌+◌, ◌++◌, ℕ, List, [], ◌∷◌, Option, Some, None, option_map, option_and_then, slice_get, nat_lt, decimal, codes}
-use Rattle.json.specs.Json.{skip_value}
-use Rattle.json.specs.Lex.{tokens}
 use Rattle.serde_json.specs.Data.{Data, null, string}
 use Rattle.serde_json.specs.Read.{read}
 use Rattle.serde_json.specs.Written.{compact_text, comma_if}
 use Rattle.odb_doc.specs.canonical.Canonical.{headers_value}
 use Rattle.odb_doc.specs.declared.recorded.outcome.Outcome.{Outcome}
 use Rattle.odb_doc.specs.Documents.{IsDocument}
+use Rattle.odb_doc.specs.Nesting.{NestsWithin}
 use Rattle.odb_doc.specs.Texts.{member_part}
 use Rattle.odb_sched.specs.run.Answers.{status_of}
 use Rattle.odb_reply.specs.Responses.{LabelValue, answer_body, answer_headers, value_of}
-
--- The bytes are one value in which arrays and objects nest so deep at most, also in a member that a later one of its name
--- replaces.
-abbrev pub NestsWithin : ℕ → List ℕ → Type 0
-NestsWithin n bytes = skip_value n (tokens bytes) ≡ Some []
 
 -- what the bytes of a reported body are: none if they are the JSON null, else their own text
 pub data IsBody (bytes : List ℕ) : Option (List ℕ) → Type 0 where

@@ -10,7 +10,9 @@ pub mod Completed
 pub mod Fits
 pub mod MatchFaults
 pub mod LeastMatchFault
+pub mod StatusFaults
 -- What serves invariants and private clauses: no public clause cites it.
 pub mod Parts
 pub mod Passes
 pub mod Places
+pub mod Starts

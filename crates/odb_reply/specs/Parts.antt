@@ -8,7 +8,8 @@ use Rattle.odb_doc.specs.Headers.{IsInOrder}
 use Rattle.odb_doc.specs.recorded.OutcomeValues.{IsHeldOutcome}
 use Rattle.odb_sched.specs.run.Answers.{answer}
 use Rattle.odb_sched.specs.run.State.{State, size}
-use Rattle.odb_reply.specs.BodyTexts.{IsBody, NestsWithin, responses_with, text_at}
+use Rattle.odb_doc.specs.Nesting.{NestsWithin}
+use Rattle.odb_reply.specs.BodyTexts.{IsBody, responses_with, text_at}
 use Rattle.odb_reply.specs.Responses.{LabelValue}
 
 -- the text is JSON that nests at most 124 deep, and by this it is null or not

@@ -21,7 +21,11 @@ use odb_doc::status::is_success;
 use std::alloc::{AllocError, Global};
 
 /// Returns, for each unit, whether the responses to all its members are successes.
-fn units_of(alloc: Global, plan: &Plan<'_>, table: &Table) -> Result<Vec<bool>, AllocError>
+pub(crate) fn units_of(
+    alloc: Global,
+    plan: &Plan<'_>,
+    table: &Table,
+) -> Result<Vec<bool>, AllocError>
     requires { length (fits.statuses table.now) ≡ length (plan_records plan.now) }
     ensures { IfOk result (λ units. known.AreUnits (plan_records plan.now)
         (fits.statuses table.now) (length (plan_records plan.now)) units.items) }

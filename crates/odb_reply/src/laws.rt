@@ -9,9 +9,10 @@ ghost use Rattle.serde_json.specs.Data.{Data};
 ghost use Rattle.serde_json.specs.Read.{read};
 ghost use Rattle.odb_doc.specs.batch.Records.{Record};
 ghost use Rattle.odb_check.specs.Laws.{HasPositions};
-ghost use Rattle.odb_check.specs.PlanGraph.{IsPlanGraphOf};
+ghost use Rattle.odb_check.specs.PlanGraph.{IsPlanGraphOf, PlanGraph};
 ghost use Rattle.odb_doc.specs.Statuses.{is_status};
 ghost use Rattle.odb_sched.specs.run.Answers.{answer, status_of};
+ghost use Rattle.odb_sched.specs.run.Possible.{IsPossible};
 ghost use Rattle.odb_sched.specs.run.State.{size};
 ghost use Rattle.odb_sched.specs.run.Steps.{is_finished};
 ghost use Rattle.odb_reply.specs.declared.match_fault.MatchFault.{MatchFault};
@@ -21,11 +22,14 @@ ghost use Rattle.odb_reply.specs.Completed.{completed, has_error};
 ghost use Rattle.odb_reply.specs.BodyTexts.{value_with};
 ghost use Rattle.odb_reply.specs.Fits.{Fits, IsTableOf, ListsFit};
 ghost use Rattle.odb_reply.specs.LeastMatchFault.{HasNoMisfit, RefusesMatch};
+ghost use Rattle.odb_reply.specs.declared.status_fault.StatusFault.{StatusFault};
 ghost use Rattle.odb_reply.specs.MatchFaults as match_faults;
 ghost use Rattle.odb_reply.specs.MatchFaults.{Breaks};
 ghost use Rattle.odb_reply.specs.ResponseDocuments.{Entry, IsResponseDocument, RefusesResponses, ReadsAs};
 ghost use Rattle.odb_reply.specs.ResponseDocuments as response_documents;
 ghost use Rattle.odb_reply.specs.OnePerId.{HasOnePerId};
+ghost use Rattle.odb_reply.specs.StatusFaults as status_faults;
+ghost use Rattle.odb_reply.specs.StatusFaults.{RefusesStatuses};
 ghost use Rattle.odb_reply.specs.Readable.{AnswersBy, IsReadable};
 ghost use Rattle.odb_reply.specs.Responses.{labels_of, response_text, response_value, text_of, value_of};
 
@@ -61,6 +65,16 @@ pub fn one_match()
         → IsTableOf requests responses places statuses
         → IsTableOf requests responses others different
         → (places ≡ others) × (statuses ≡ different) }
+{}
+
+/// Statuses have one first fault of F76 to F78 at most, and none if some finished run answers them.
+pub fn one_status()
+    ensures one { (plan : PlanGraph) (statuses : ℕ → ℕ) (fault other : StatusFault)
+        → IsSome (status_faults.status_row fault) → IsSome (status_faults.status_row other)
+        → RefusesStatuses fault plan statuses → RefusesStatuses other plan statuses → fault ≡ other }
+    ensures none { (plan : PlanGraph) (statuses : ℕ → ℕ) (fault : StatusFault)
+        → IsSome (status_faults.status_row fault) → RefusesStatuses fault plan statuses
+        → ¬ IsPossible plan statuses }
 {}
 
 /// What is true of responses that are completed, as [`crate::Responses::completed`] does it: if one of them is an

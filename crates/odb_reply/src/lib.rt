@@ -8,7 +8,7 @@
 //! `odb_sched` decides.
 //!
 //! [`Responses::read`] reads the response document of a service, and [`match_responses`] checks that
-//! its responses fit the batch of a plan.
+//! its responses fit the batch of a plan; [`check_statuses`], that some run answers their statuses.
 #![tactic(auto)]
 
 mod completed;
@@ -20,9 +20,11 @@ mod match_fault;
 mod parts;
 mod pass;
 mod places;
+mod possible;
 mod reply;
 mod response_fault;
 mod responses;
+mod status_fault;
 mod table;
 mod text;
 mod whole;
@@ -31,8 +33,10 @@ pub use fits::match_responses;
 pub use json_text::{BodyFault, JsonText};
 pub use labels::{Label, Labels};
 pub use match_fault::{MatchFault, MatchRule};
+pub use possible::check_statuses;
 pub use reply::{ReplyFault, write_responses};
 pub use response_fault::ResponseFault;
 pub use responses::{Response, Responses};
+pub use status_fault::{StatusFault, StatusRule};
 pub use table::Table;
 pub use text::{push_whole_response, response_of, response_text};

@@ -17,6 +17,9 @@ pub mod ReachedLemmas
 pub mod RunLemmas
 pub mod EventLemmas
 pub mod ResultLemmas
+pub mod PossibleLemmas
+pub mod ReachableLemmas
+pub mod WitnessLemmas
 pub mod WholeLemmas
 pub mod LiveLemmas
 pub mod LiveWidthLemmas

@@ -1,5 +1,5 @@
 -- The prefix of a list of events that a run has taken.
-use Rattle.std.proofs.Common.{◌≡◌, ℕ, ◌<◌, ◌+◌, ◌∙◌, sym, refl, ap, subst, arith, true, List, [], ◌∷◌, ◌++◌, length, false, All, append_assoc, append-nil, length-append}
+use Rattle.std.proofs.Common.{◌≡◌, ◌≢◌, ℕ, ◌<◌, ◌+◌, ◌∙◌, sym, refl, ap, subst, arith, true, List, [], ◌∷◌, ◌++◌, length, false, All, append_assoc, append-nil, length-append}
 use Rattle.std.proofs.lemmas.List.Elements.{All-contains, Contains-append_right}
 use Rattle.odb_sched.specs.declared.event.Event.{Event}
 use Rattle.odb_sched.specs.declared.event.Event.TheVariants as kinds
@@ -8,6 +8,7 @@ use Rattle.odb_sched.specs.declared.refusal.RunRefusal.TheVariants as refusal
 use Rattle.odb_sched.specs.run.State.{State, size, after}
 use Rattle.odb_sched.specs.run.Steps.{may_come}
 use Rattle.odb_sched.specs.run.Runs.{event_position, after_all, IsRunFrom, RefusesEvent, StopsAt, Refuses}
+use Rattle.odb_sched.specs.run.Taking.{TakesUpTo}
 use Rattle.odb_sched.proofs.CauseLemmas.{start_barred, report_barred}
 use Rattle.odb_sched.proofs.RunLemmas.{after_all-push, joined, plan_graph-after_all}
 
@@ -68,10 +69,22 @@ refused_next first events event later at count now cause taken place refused = r
   refused = subst (λ state. RefusesEvent state (length taken.before) event cause) taken.state (subst (λ n. RefusesEvent now n event cause) (place ∙ sym taken.counted) refused);
 }
 
-pub taken_refused : (first : State) (events : List Event) (event : Event) (later : List Event) (at count : ℕ) (now : State) (cause : RunRefusal) → HasTaken first events (event ∷ later) count now → at ≡ count → RefusesEvent now at event cause → Refuses first events cause
-taken_refused first events event later at count now (refusal.Start n cause) taken place refused = refused_next first events event later at count now (refusal.Start n cause) taken place refused
-taken_refused first events event later at count now (refusal.Report n cause) taken place refused = refused_next first events event later at count now (refusal.Report n cause) taken place refused
-taken_refused first events event later at count now refusal.OutOfMemory taken place refused = tt
+pub taken_refused : (first : State) (events : List Event) (event : Event) (later : List Event) (at count : ℕ) (now : State) (cause : RunRefusal) → HasTaken first events (event ∷ later) count now → at ≡ count → RefusesEvent now at event cause → TakesUpTo first events cause now
+unfolding refused_next
+taken_refused first events event later at count now cause taken place refused = record { stops = refused_next first events event later at count now cause taken place refused; taken = taken.state }
+
+-- where events stop, they are refused, and not for want of memory
+pub refuses_there : (first : State) (events : List Event) (cause : RunRefusal) → StopsAt first events cause → Refuses first events cause
+refuses_there first events (refusal.Start n cause) stops = stops
+refuses_there first events (refusal.Report n cause) stops = stops
+refuses_there first events refusal.OutOfMemory stops = tt
+
+refused_numbered : (state : State) (at : ℕ) (event : Event) → ¬ RefusesEvent state at event refusal.OutOfMemory
+refused_numbered state at (kinds.Start i) refused = refused
+refused_numbered state at (kinds.Report i outcome) refused = refused
+
+pub stops_numbered : (first : State) (events : List Event) (cause : RunRefusal) → StopsAt first events cause → cause ≢ refusal.OutOfMemory
+stops_numbered first events cause stops same = refused_numbered (after_all first stops.before) (length stops.before) stops.event (subst (RefusesEvent (after_all first stops.before) (length stops.before) stops.event) same stops.refused)
 
 -- each event names a request that there is
 pub sized : (first : State) (n : ℕ) (events : List Event) → size first ≡ n → All (λ e. event_position e < n) events → All (λ e. event_position e < size first) events

@@ -3,10 +3,12 @@ pub mod State
 pub mod Failing
 pub mod Steps
 pub mod Runs
+pub mod Taking
 pub mod States
 pub mod Units
 pub mod Answers
 pub mod Laws
+pub mod Possible
 pub mod Whole
 pub mod LiveEvents
 pub mod LiveLaws

@@ -1,10 +1,11 @@
 //! Events of a run, recorded events, and steps: events without their outcomes.
 
-ghost use Rattle.std.specs.Prelude.{◌≡◌, ◌≢◌, ◌<◌, [], true, length, All, Err, OnOk, IfOk, IfErr, IsErr, List, Some};
+ghost use Rattle.std.specs.Prelude.{◌≡◌, ◌≢◌, ◌<◌, [], true, length, All, Err, OnErr, OnOk, IfOk, IfErr, IsErr, List, Some};
 ghost use Rattle.odb_check.specs.Plans.{plan_records};
 ghost use Rattle.odb_sched.specs.run.State as state;
 ghost use Rattle.odb_sched.specs.run.Steps.{may_come};
 ghost use Rattle.odb_sched.specs.run.Runs.{event_position, after_all, IsRunFrom, IsRun, state_after, RefusesEvent, Refuses};
+ghost use Rattle.odb_sched.specs.run.Taking.{TakesUpTo};
 ghost use Rattle.odb_sched.specs.run.Laws.{StartsAfterDependencies, HasFewEvents};
 ghost use Rattle.std.specs.List.{AllZip};
 ghost use Rattle.odb_doc.specs.recorded.EventLists.{entries};
@@ -33,12 +34,13 @@ pub enum Event {
     Report(u32, Outcome),
 }
 
-/// Takes the event at index `at` of its list, if it may come.
+/// Takes the event at index `at` of its list, if it may come. Else the run is unchanged.
 fn take(scheduler: &mut Scheduler<'_>, at: usize, event: Event) -> Result<(), RunRefusal>
     requires { event_position event < state.size scheduler.old }
     ensures allowed { OnOk result (may_come scheduler.old event ≡ true) }
     ensures state { OnOk result (scheduler.new ≡ state.after scheduler.old event) }
     ensures refused { IfErr result (RefusesEvent scheduler.old at event) }
+    ensures err { OnErr result (scheduler.new ≡ scheduler.old) }
 {
     match event {
         Event::Start(i) => match scheduler.start(i) {
@@ -52,25 +54,36 @@ fn take(scheduler: &mut Scheduler<'_>, at: usize, event: Event) -> Result<(), Ru
     }
 }
 
-/// Takes the events in their order, up to the first that may not come.
-fn take_all(scheduler: &mut Scheduler<'_>, events: Vec<Event>) -> Result<(), RunRefusal>
-    requires { All (λ event. event_position event < state.size scheduler.old) events.items }
-    ensures run { OnOk result (IsRunFrom scheduler.old events.items) }
-    ensures state { OnOk result (scheduler.new ≡ after_all scheduler.old events.items) }
-    ensures refused { IfErr result (Refuses scheduler.old events.items) }
-{
-    for (at, event) in events.into_iter().enumerate() {
-        take(scheduler, at, event)?;
+impl Scheduler<'_> {
+    /// Takes these events in their order, up to the first that may not come.
+    ///
+    /// Costs O(events + requests + dependencies), and allocates nothing.
+    ///
+    /// # Errors
+    ///
+    /// `Start` or `Report` for the first event that may not come: its place, and the least of the causes
+    /// S1 to S5 or P1 and P2 that bar it. The run has taken the events before it. Never `OutOfMemory`.
+    pub fn take_all(&mut self, events: Vec<Event>) -> Result<(), RunRefusal>
+        requires { All (λ event. event_position event < state.size self.old) events.items }
+        ensures run { OnOk result (IsRunFrom self.old events.items) }
+        ensures state { OnOk result (self.new ≡ after_all self.old events.items) }
+        ensures refused { IfErr result (Refuses self.old events.items) }
+        ensures memory { result ≢ Err RunRefusal.OutOfMemory }
+        ensures taken { IfErr result (λ cause. TakesUpTo self.old events.items cause self.new) }
+    {
+        for (at, event) in events.into_iter().enumerate() {
+            take(self, at, event)?;
+        }
+        Ok(())
     }
-    Ok(())
 }
 
-/// Runs a plan by these events, in their order.
+/// Runs a plan by these events, in their order: takes them all in a new scheduler.
 ///
 /// # Errors
 ///
-/// `Start` or `Report` for the first event that may not come: its place, and the least of the causes
-/// S1 to S5 or P1 and P2 that bar it. `OutOfMemory` if allocation failed.
+/// Those of [`Scheduler::take_all`]; `OutOfMemory` if [`Scheduler::new`] cannot allocate its memory, as
+/// events need none.
 pub fn run<'a: 'p, 'p>(
     alloc: Global,
     plan: &'p Plan<'a>,
@@ -88,7 +101,7 @@ pub fn run<'a: 'p, 'p>(
 {
     every_run(plan);
     let mut scheduler = Scheduler::new(alloc, plan, policy)?;
-    take_all(&mut scheduler, events)?;
+    scheduler.take_all(events)?;
     Ok(scheduler)
 }
 

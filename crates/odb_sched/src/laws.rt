@@ -8,6 +8,7 @@ ghost use Rattle.std.specs.Prelude.{◌≡◌, ℕ, ◌<◌, ◌≤◌, ◌↔�
 ghost use Rattle.odb_doc.specs.declared.recorded.outcome.Outcome.{Outcome};
 ghost use Rattle.odb_check.specs.Plans.{plan_records};
 ghost use Rattle.odb_sched.specs.declared.policy.Mode.TheVariants.{Continue};
+ghost use Rattle.odb_sched.specs.declared.policy.Mode.{Mode};
 ghost use Rattle.odb_sched.specs.declared.policy.Policy.{Policy};
 ghost use Rattle.odb_sched.specs.declared.event.Event.{Event};
 ghost use Rattle.odb_sched.specs.declared.refusal.StartRefusal.{StartRefusal};
@@ -23,6 +24,7 @@ ghost use Rattle.odb_sched.specs.run.Failing.{Fails, fails};
 ghost use Rattle.odb_sched.specs.run.Steps.{may_start, may_report, is_finished, BarsStart, IsStartCause, BarsReport, IsReportCause};
 ghost use Rattle.odb_sched.specs.run.Runs.{IsRun, state_after, phase_of, Refuses};
 ghost use Rattle.odb_sched.specs.run.Laws.{HaveSucceeded, StartsAfterDependencies, IsNeverStuck, HasFewEvents, HasOneResult, HasResultByStatuses, AgreesWithTable, IsAllOrNone, RestsOnSuccesses, SucceedsByMembers};
+ghost use Rattle.odb_sched.specs.run.Possible.{IsPossible, HasRun};
 ghost use Rattle.odb_sched.specs.run.Units.{FirstNeedsNothing, HasNextUnit, UnitsGoOn};
 ghost use Rattle.odb_doc.specs.batch.Records.{Record};
 ghost use Rattle.odb_sched.specs.run.Answers.{HasStatuses};
@@ -129,6 +131,14 @@ pub fn every_result(plan: &Plan<'_>)
     ensures statuses { (policy : Policy) (events : List Event)
         → IsRun plan.now policy events
         → HasStatuses (state_after plan.now policy events) }
+{
+    every_plan(plan);
+}
+
+/// Statuses are possible if and only if they are those of the answers of some finished run, in either mode.
+pub fn every_possible(plan: &Plan<'_>)
+    ensures { (mode : Mode) (statuses : ℕ → ℕ)
+        → IsPossible (plan_graph plan.now) statuses ↔ HasRun plan.now mode statuses }
 {
     every_plan(plan);
 }

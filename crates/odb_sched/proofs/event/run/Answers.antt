@@ -1,5 +1,5 @@
 -- What the events make of the first state holds of the first state of the plan.
-use Rattle.std.proofs.Common.{◌∙◌, ap, subst, rules}
+use Rattle.std.proofs.Common.{◌≡◌, ◌∙◌, Err, ap, subst, rules}
 use Rattle.odb_sched.specs.run.State.{initial}
 use Rattle.odb_sched.specs.run.Runs.{after_all, IsRunFrom, Refuses}
 use Rattle.odb_sched.proofs.TakenLemmas.{sized}
@@ -12,7 +12,8 @@ pub returns-in_err-take_all-clause-refused : goal.returns-in_err-take_all-clause
 returns-in_err-take_all-clause-refused c =
     let refused : Refuses (initial c.args.plan.now c.args.policy) c.args.events.items c.in_err-take_all.field-0.0 =
     subst (λ first. Refuses first c.args.events.items c.in_err-take_all.field-0.0) c.in_ok-scheduler.ensures.state c.in_err-take_all.ensures.refused in
-    search (rules, refused)
+    let same : c.from_residual-in_err-take_all.result ≡ Err c.in_err-take_all.field-0.0 = search rules in
+    rw same refused
 
 pub returns-clause-run : goal.returns-clause-run
 returns-clause-run c = subst (λ first. IsRunFrom first c.args.events.items) c.in_ok-scheduler.ensures.state c.in_ok-take_all.ensures.run

@@ -1,0 +1,57 @@
+-- Statuses that no finished run answers, rule by rule (OData JSON Format 4.01, sections 19.1, 19.4 and 19.5; OData Protocol
+-- 4.01, section 11.7), and what is printed of them.
+use Rattle.std.specs.Prelude.{◌≡◌, ◌≢◌, ◌<◌, ℕ, Bool, false, List, length, slice_index_or, Option, Some, None, IsTrue, codes}
+use Rattle.odb_doc.specs.LeastRules.{IsFirst}
+use Rattle.odb_doc.specs.Refusals.{Printed, fault_at}
+use Rattle.odb_doc.specs.Statuses.{is_success, is_status}
+use Rattle.odb_doc.specs.declared.fault.Place.TheVariants as places
+use Rattle.odb_check.specs.PlanGraph.{PlanGraph, unit_of}
+use Rattle.odb_sched.specs.run.Possible.{CanHaveStarted}
+use Rattle.odb_reply.specs.declared.status_fault.StatusRule.{StatusRule}
+use Rattle.odb_reply.specs.declared.status_fault.StatusRule.TheVariants.{NotFinal, PartialGroup, NotStarted}
+use Rattle.odb_reply.specs.declared.status_fault.StatusFault.{StatusFault}
+use Rattle.odb_reply.specs.declared.status_fault.StatusFault.TheVariants as faults
+
+-- the status at each position
+abbrev pub status_at : List ℕ → ℕ → ℕ
+status_at statuses i = slice_index_or statuses i 0
+
+-- a success, though a member of the same unit has none
+pub record IsPartial (plan : PlanGraph) (statuses : ℕ → ℕ) (i : ℕ) : Type 0 where
+  pub success : IsTrue (is_success (statuses i))
+  pub member : ℕ
+  pub within : member < length plan.units
+  pub same : unit_of plan member ≡ unit_of plan i
+  pub fails : ¬ IsTrue (is_success (statuses member))
+
+-- not 424, though the request is in no set of requests that can have started
+abbrev pub IsOfUnstarted : PlanGraph → (ℕ → ℕ) → ℕ → Type 0
+IsOfUnstarted plan statuses i = (statuses i ≢ 424) × ((started : ℕ → Bool) → CanHaveStarted plan statuses started → started i ≡ false)
+
+-- the status of the request at a position breaks the rule
+abbrev pub BreaksStatus : PlanGraph → (ℕ → ℕ) → StatusRule → ℕ → Type 0
+BreaksStatus plan statuses NotFinal i = (i < length plan.units) × ¬ IsTrue (is_status (statuses i))
+BreaksStatus plan statuses PartialGroup i = (i < length plan.units) × IsPartial plan statuses i
+BreaksStatus plan statuses NotStarted i = (i < length plan.units) × IsOfUnstarted plan statuses i
+
+-- the number in the code, and the name
+abbrev pub status_label : StatusRule → ℕ × List ℕ
+status_label NotFinal = (76, codes "NotFinal")
+status_label PartialGroup = (77, codes "PartialGroup")
+status_label NotStarted = (78, codes "NotStarted")
+
+abbrev pub status_number : StatusRule → ℕ
+status_number rule = (status_label rule).0
+
+-- what is printed of the rule, broken at this position
+abbrev pub status_rule_row : StatusRule → ℕ → Printed
+status_rule_row rule at = fault_at (status_label rule).0 (status_label rule).1 (places.Request at)
+
+abbrev pub status_row : StatusFault → Option Printed
+status_row (faults.Impossible at rule) = Some (status_rule_row rule at)
+status_row faults.OutOfMemory = None
+
+-- the fault is the least by position and number. Out of memory says nothing.
+abbrev pub RefusesStatuses : StatusFault → PlanGraph → (ℕ → ℕ) → Type 0
+RefusesStatuses (faults.Impossible at rule) plan statuses = IsFirst status_number (BreaksStatus plan statuses) at rule
+RefusesStatuses faults.OutOfMemory plan statuses = Unit {0}
