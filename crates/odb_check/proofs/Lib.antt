@@ -10,6 +10,7 @@ pub mod NeedLemmas
 pub mod NameLemmas
 pub mod ReferenceLemmas
 pub mod WalkLemmas
+pub mod PhaseLemmas
 pub mod LevelLemmas
 pub mod PlanLemmas
 pub mod PartLemmas

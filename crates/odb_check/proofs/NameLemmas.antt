@@ -54,21 +54,41 @@ answered_yes rs i k P within answers =
     let name : ElementMeaning (need_of rs) (names_at rs i) need = element_meaning (need_of rs) (names_at rs i) need (Contains-get_or (named_at rs i) k (One 0) within) in
     record { name = name.element; listed = name.inside; holds = (answers (One 0) name.element name.means).0 refl }
 
-answered_no : (rs : List Record) (i : ℕ) (P : List ℕ → Type 0) → ¬ IsBrokenAt UnknownName rs i → ((k : ℕ) (d : Need) → 0 ≤ k → k < length (named_at rs i) → IsAnswer rs (get_or (named_at rs i) k d) false P)
+-- each name with the property is an identifier or a group
+abbrev pub AreKnown : List Record → (List ℕ → Type 0) → Type 0
+AreKnown rs P = (name : List ℕ) → P name → IsId rs name ⊎ IsGroup rs name
+
+pub later_known : (rs : List Record) (i : ℕ) → AreKnown rs (λ name. IsIdFrom rs name i ⊎ IsGroupAfter rs name i)
+later_known rs i name h = elim h [ inl from ↦ inl (from.0, from.2) | inr after ↦ inr after.0 ]
+
+pub own_known : (rs : List Record) (i : ℕ) → AreKnown rs (λ name. group_at rs i ≡ Some name)
+own_known rs i name h = inr (i, h)
+
+pub alone_known : (rs : List Record) (i : ℕ) → AreKnown rs (IsMemberAlone rs i)
+alone_known rs i name h = inl (h.0, h.2)
+
+pub breaks_known : (rs : List Record) (i : ℕ) → AreKnown rs (BreaksByName rs i)
+breaks_known rs i name (inl later) = later_known rs i name later
+breaks_known rs i name (inr (inl own)) = own_known rs i name own
+breaks_known rs i name (inr (inr alone)) = alone_known rs i name alone
+
+answered_no : (rs : List Record) (i : ℕ) (P : List ℕ → Type 0) → AreKnown rs P → ((k : ℕ) (d : Need) → 0 ≤ k → k < length (named_at rs i) → IsAnswer rs (get_or (named_at rs i) k d) false P)
     → (some : SomeName rs i P) → (found : Option Need) → need_of rs some.name ≡ found → ⊥
-answered_no rs i P known answers some None e = known (unknown rs i some.name some.listed e)
+answered_no rs i P known answers some None e =
+    let nothing : ((j : ℕ) → ¬ (id_at rs j ≡ Some some.name)) × ((j : ℕ) → ¬ (group_at rs j ≡ Some some.name)) = means_nothing rs some.name e in
+    elim (known some.name some.holds) [ inl is ↦ nothing.0 is.0 is.1 | inr is ↦ nothing.1 is.0 is.1 ]
 answered_no rs i P known answers some (Some need) e =
     let inside : Contains (named_at rs i) need = Contains-meaning (need_of rs) (names_at rs i) some.name need some.listed e in
     let answer : IsAnswer rs need false P = subst (λ x. IsAnswer rs x false P) inside.2 (answers inside.0 need (omega arith) inside.1) in
     false≢true ((answer some.name e).1 some.holds)
 
-any_case : (rs : List Record) (i : ℕ) (P : List ℕ → Type 0) → ¬ IsBrokenAt UnknownName rs i → (answer : Bool) → IsAnyAnswer (λ need b. IsAnswer rs need b P) (named_at rs i) answer → Decides answer (SomeName rs i P)
+any_case : (rs : List Record) (i : ℕ) (P : List ℕ → Type 0) → AreKnown rs P → (answer : Bool) → IsAnyAnswer (λ need b. IsAnswer rs need b P) (named_at rs i) answer → Decides answer (SomeName rs i P)
 any_case rs i P known true h = ((λ e. answered_yes rs i h.0 P h.1 h.2), λ some. refl)
 any_case rs i P known false h = Decides-none (λ some. answered_no rs i P known h some (need_of rs some.name) refl)
 
--- what is answered of the needs holds of the names, if the names are known
-pub any_Decides : (j : Resolved) (P : List ℕ → Type 0) (answer : Bool) → IsAnyAnswer (λ need b. IsAnswer (batch_of j) need b P) j.named.now answer → Decides answer (SomeName (batch_of j) j.i P)
-any_Decides j P answer h = any_case (batch_of j) j.i P j.known answer (subst (λ xs. IsAnyAnswer (λ need b. IsAnswer (batch_of j) need b P) xs answer) j.names h)
+-- what is answered of the needs holds of the names, if those with the property are known
+pub any_Decides : (j : Resolved) (P : List ℕ → Type 0) → AreKnown (batch_of j) P → (answer : Bool) → IsAnyAnswer (λ need b. IsAnswer (batch_of j) need b P) j.named.now answer → Decides answer (SomeName (batch_of j) j.i P)
+any_Decides j P known answer h = any_case (batch_of j) j.i P known answer (subst (λ xs. IsAnyAnswer (λ need b. IsAnswer (batch_of j) need b P) xs answer) j.names h)
 
 -- ---- names that appear later
 
@@ -172,6 +192,6 @@ plain_group j u name is less (inr (inl own)) = omega (arith, eqb-true u (unit_at
 plain_group j u name is less (inr (inr alone)) = is.no_id alone.0 alone.2
 
 -- no name breaks a rule if none of the needs may
-pub none_breaks : (j : Resolved) (P : List ℕ → Type 0) (X : Type 0) (r : Bool) → MatchBool r X (IsAnyAnswer (λ need b. IsAnswer (batch_of j) need b P) j.named.now false) → r ≡ false → ¬ SomeName (batch_of j) j.i P
-none_breaks j P X true cases e some = false≢true (sym e)
-none_breaks j P X false cases e some = false≢true ((any_Decides j P false cases).1 some)
+pub none_breaks : (j : Resolved) (P : List ℕ → Type 0) → AreKnown (batch_of j) P → (X : Type 0) (r : Bool) → MatchBool r X (IsAnyAnswer (λ need b. IsAnswer (batch_of j) need b P) j.named.now false) → r ≡ false → ¬ SomeName (batch_of j) j.i P
+none_breaks j P known X true cases e some = false≢true (sym e)
+none_breaks j P known X false cases e some = false≢true ((any_Decides j P known false cases).1 some)

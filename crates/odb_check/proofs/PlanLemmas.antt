@@ -1,7 +1,7 @@
 -- The laws of the plan of a batch whose names fit together.
 use Rattle.std.proofs.Common.{◌≡◌, ◌≢◌, ◌≤◌, ◌<◌, ◌⊎◌, ◌+◌, ℕ, zero, suc, Bool, true, false, cond, List, [], ◌∷◌, ◌++◌, Option, Some, None, refl, sym, ap, ◌∙◌, subst, inl, inr, arith, length, get_or, append-nil}
 use Rattle.std.specs.Prelude.{◌↔◌, All, Contains, IsSomeAnd, AllPairs, bytes_eq}
-use Rattle.std.specs.List.{list_any, filter_map, cons_option, IsDistinct}
+use Rattle.std.specs.List.{AllZip, list_any, filter_map, cons_option, IsDistinct}
 use Rattle.std.proofs.lemmas.Map.Made.{AllPairs-from_IsDistinct}
 use Rattle.std.proofs.lemmas.Bool.{cases_Bool, cases_lt, cases_eq, cases_order, both_ways}
 use Rattle.std.proofs.lemmas.Option.{same_Some, slice_get_cases}
@@ -9,7 +9,12 @@ use Rattle.std.proofs.lemmas.List.Kept.{AllPairs-cons}
 use Rattle.std.proofs.lemmas.List.Quantifiers.{all_pairs_push}
 use Rattle.std.proofs.lemmas.List.Elements.{Contains-get_or, Contains-append_left, Contains-append_right, Contains-append_cases}
 use Rattle.std.proofs.lemmas.Slice.Eq.{bytes_eq-Decides}
-use Rattle.odb_doc.specs.batch.Records.{Record}
+use Rattle.std.proofs.lemmas.Slice.Zip.{AllZip-long}
+use Rattle.serde_json.specs.Data.{Data}
+use Rattle.odb_doc.specs.batch.LeastFault.{IsWellShaped}
+use Rattle.odb_doc.specs.batch.Records.{Record, ReadsAs, IsBatchOf}
+use Rattle.odb_doc.specs.batch.Shapes.{elements, listed_names}
+use Rattle.odb_doc.specs.declared.fault.DocumentRule.TheVariants.{TooMany}
 use Rattle.odb_check.specs.declared.fault.NameRule.TheVariants.{IdTwice, IdIsGroup, GroupSplit, ForwardName, OwnGroup, GroupNotListed, UnknownReference, ForwardReference, ReferenceNotListed}
 use Rattle.odb_check.specs.declared.need.Need.{Need}
 use Rattle.odb_check.specs.declared.need.Need.TheVariants.{One, Group}
@@ -33,6 +38,7 @@ use Rattle.odb_check.proofs.NameLemmas.{later_unit}
 use Rattle.odb_check.proofs.NeedLemmas.{IsMeant, is_meant, need_within, position_is, id_need, group_need}
 use Rattle.odb_check.proofs.PositionLemmas.{group_within, reference_within, position_first}
 use Rattle.odb_check.proofs.UnitLemmas.{IsUnitOf, unit_before, same_group, one_unit, has_units, in_group, in_unit, in_order, unit_at_begin, unit_at_start}
+use Rattle.odb_doc.proofs.DistinctLemmas.{IsDistinct-listed}
 use Rattle.odb_doc.proofs.ElementLemmas.{Contains-head, Contains-cases}
 
 pub good_ids : (rs : List Record) → HasGoodNames rs → HasValidIds rs
@@ -268,15 +274,29 @@ further_there names id false e = Contains-append_right names (id ∷ []) id (Con
 reference_needed : (rs : List Record) (i : ℕ) (id : List ℕ) → reference_at rs i ≡ Some id → Contains (needed_names rs i) id
 reference_needed rs i id here = subst (λ o. Contains (names_at rs i ++ further_names (names_at rs i) o) id) (sym here) (further_there (names_at rs i) id (list_any (bytes_eq id) (names_at rs i)) refl)
 
-pub names_as_needs : (plan : Plan) → HasNamesAsNeeds (plan_records plan) (plan_graph plan)
-unfolding batch_plan_graph
-names_as_needs plan = let rs = plan_records plan in record {
-  names_id = λ i name r listed here. subst (λ xs. Contains xs (One r)) (sym (needs_there rs i (name_inside rs i name listed))) (listed_need rs i name (One r) listed (id_need rs (plan.good IdTwice) name r here));
+pub names_as_needs : (rs : List Record) → HasGoodNames rs → HasNamesAsNeeds rs (plan_graph_of rs)
+names_as_needs rs good = record {
+  names_id = λ i name r listed here. subst (λ xs. Contains xs (One r)) (sym (needs_there rs i (name_inside rs i name listed))) (listed_need rs i name (One r) listed (id_need rs (good IdTwice) name r here));
   names_group = λ i name j listed here.
       subst (λ u. Contains (needs_of (plan_graph_of rs) i) (Group u)) (sym (unit_there rs j (group_within rs j name here)))
-      (subst (λ xs. Contains xs (Group (unit_at rs j))) (sym (needs_there rs i (name_inside rs i name listed))) (listed_need rs i name (Group (unit_at rs j)) listed (group_need rs (plan.good IdIsGroup) name j here)));
+      (subst (λ xs. Contains xs (Group (unit_at rs j))) (sym (needs_there rs i (name_inside rs i name listed))) (listed_need rs i name (Group (unit_at rs j)) listed (group_need rs (good IdIsGroup) name j here)));
   refers = λ i id r refers here. subst (λ xs. Contains xs (One r)) (sym (needs_there rs i (reference_within rs i id refers)))
-      (Contains-meaning (need_of rs) (needed_names rs i) id (One r) (reference_needed rs i id refers) (id_need rs (plan.good IdTwice) id r here));
+      (Contains-meaning (need_of rs) (needed_names rs i) id (One r) (reference_needed rs i id refers) (id_need rs (good IdTwice) id r here));
 }
 
-pub ruleset plan_laws = (has_units, has_positions, needs_groups, has_levels, needs_before, shaped, names_as_needs)
+-- ---- the requests of a document without a fault of shape
+
+few_requests : (d : Data) (rs : List Record) → IsWellShaped d → IsBatchOf d rs → length rs ≤ 10000
+few_requests d rs shaped is = omega (arith, shaped.0 TooMany, AllZip-long ReadsAs (elements d) rs is)
+
+names_apart : (ds : List Data) (rs : List Record) → AllZip ReadsAs ds rs → (k : ℕ) → k < length rs → IsDistinct bytes_eq (names_at rs k)
+names_apart [] [] read k inside = absurd (omega (arith, inside))
+names_apart [] (r ∷ rs) read k inside = absurd read
+names_apart (d ∷ ds) [] read k inside = absurd (omega (arith, inside))
+names_apart (d ∷ ds) (r ∷ rs) read zero inside = IsDistinct-listed r.names (listed_names d) (sym read.0.names)
+names_apart (d ∷ ds) (r ∷ rs) read (suc k) inside = names_apart ds rs read.1 k (omega (arith, inside))
+
+pub is_plan_of : (d : Data) (rs : List Record) → IsWellShaped d → IsBatchOf d rs → HasGoodNames rs → IsPlan (plan_graph_of rs)
+is_plan_of d rs shaped is good = is_plan rs good (few_requests d rs shaped is) (names_apart (elements d) rs is)
+
+pub ruleset plan_laws = (has_units, has_positions, needs_groups, has_levels, needs_before, shaped)

@@ -1,9 +1,10 @@
 -- The walk over the requests: the names of each, and its least fault.
-use Rattle.std.proofs.Common.{◌≡◌, ◌<◌, ◌+◌, ◌⊎◌, ℕ, List, [], ◌∷◌, ◌++◌, Option, Some, None, refl, sym, ap, ◌∙◌, subst, inl, inr, arith, length, take, get_or, rules}
+use Rattle.std.proofs.Common.{◌≡◌, ◌<◌, ◌+◌, ◌⊎◌, ℕ, Bool, true, false, append-nil, List, [], ◌∷◌, ◌++◌, Option, Some, None, refl, sym, ap, ◌∙◌, subst, inl, inr, arith, length, take, get_or, rules}
 use Rattle.std.specs.Borrow.{Bor}
 use Rattle.std.specs.Prelude.{Contains, Result, Ok, Err, IfErr, IsErrAnd}
 use Rattle.std.specs.List.{filter_map, cons_option}
 use Rattle.std.proofs.lemmas.List.{get_or-map, length-map, map-append, take_more}
+use Rattle.std.proofs.lemmas.Bool.{false≢true}
 use Rattle.std.proofs.lemmas.Option.{slice_get_cases}
 use Rattle.std.proofs.lemmas.List.Elements.{filter_map-append, Contains-push_cases, Contains-get_or}
 use Rattle.odb_doc.specs.LeastRules.{IsFirst}
@@ -32,32 +33,45 @@ pub same_error : {T : Type 0} (r : Result T CheckFault) (P : CheckFault → Type
 same_error (Ok v) P fault is holds = absurd is
 same_error (Err e) P fault is holds = subst P (sym is) holds
 
--- some names are known, the list is what they resolve to, and this has the stamp
-pub record AreResolved (rs : List Record) (names : List (List ℕ)) (stamp : ℕ) (list : List Need) (ones groups : List ℕ) : Type 0 where
-  pub known : (name : List ℕ) → Contains names name → ¬ (need_of rs name ≡ None)
+-- whether one of some names is unknown; the list is what they resolve to, and this has the stamp
+pub record AreResolved (rs : List Record) (names : List (List ℕ)) (has_unknown : Bool) (stamp : ℕ) (list : List Need) (ones groups : List ℕ) : Type 0 where
+  pub known : has_unknown ≡ false → (name : List ℕ) → Contains names name → ¬ (need_of rs name ≡ None)
   pub list_is : list ≡ filter_map (need_of rs) names
   pub marked : AreMarksOf rs (filter_map (need_of rs) names) stamp ones groups
 
 -- one more name, from what each call ensures
-pub names_more : (rs : List Record) (names : List (Bor (List ℕ))) (k : ℕ) (d : Bor (List ℕ)) (need : Need) (stamp : ℕ) {list list' : List Need} {ones ones' groups groups' : List ℕ}
+pub names_more : (rs : List Record) (names : List (Bor (List ℕ))) (k : ℕ) (d : Bor (List ℕ)) (need : Need) {has_unknown : Bool} (stamp : ℕ) {list list' : List Need} {ones ones' groups groups' : List ℕ}
     → k < length names → Some need ≡ need_of rs (get_or names k d).now
-    → AreResolved rs (texts_in (take k names)) stamp list ones groups
+    → AreResolved rs (texts_in (take k names)) has_unknown stamp list ones groups
     → list' ≡ list ++ need ∷ [] → ones' ≡ ones_with need stamp ones → groups' ≡ groups_with need stamp groups
-    → AreResolved rs (texts_in (take (k + 1) names)) stamp list' ones' groups'
-names_more rs names k d need stamp {list} {list'} {ones} {ones'} {groups} {groups'} inside means are list_is ones_are groups_are =
+    → AreResolved rs (texts_in (take (k + 1) names)) has_unknown stamp list' ones' groups'
+names_more rs names k d need {has_unknown} stamp {list} {list'} {ones} {ones'} {groups} {groups'} inside means are list_is ones_are groups_are =
     let texts = texts_in (take k names) in
     let name = (get_or names k d).now in
     let named = filter_map (need_of rs) texts in
     let next : texts_in (take (k + 1) names) ≡ texts ++ name ∷ [] = ap texts_in (take_more names k d inside) ∙ map-append (λ (x : Bor (List ℕ)). x.now) (take k names) (get_or names k d ∷ []) in
     let more : filter_map (need_of rs) (texts ++ name ∷ []) ≡ named ++ need ∷ [] = filter_map-append (need_of rs) texts (name ∷ []) ∙ ap (λ o. named ++ cons_option o []) (sym means) in
     rw next (record {
-      known = λ other h. elim (Contains-push_cases texts name other h) [
-        | inl earlier ↦ are.known other earlier
+      known = λ all other h. elim (Contains-push_cases texts name other h) [
+        | inl earlier ↦ are.known all other earlier
         | inr same ↦ λ e. let nothing : Some need ≡ None = means ∙ ap (need_of rs) same ∙ e in cc
       ];
       list_is = list_is ∙ ap (λ xs. xs ++ need ∷ []) are.list_is ∙ sym more;
       marked = rw (more, ones_are, groups_are) (marks_more rs named need stamp ones groups (need_within rs name need (sym means)) are.marked);
     })
+
+-- one more name, which resolves to nothing
+pub names_past : (rs : List Record) (names : List (Bor (List ℕ))) (k : ℕ) (d : Bor (List ℕ)) {has_unknown : Bool} (stamp : ℕ) {list : List Need} {ones groups : List ℕ}
+    → k < length names → None ≡ need_of rs (get_or names k d).now
+    → AreResolved rs (texts_in (take k names)) has_unknown stamp list ones groups
+    → AreResolved rs (texts_in (take (k + 1) names)) true stamp list ones groups
+names_past rs names k d {has_unknown} stamp {list} {ones} {groups} inside nothing are =
+    let texts = texts_in (take k names) in
+    let name = (get_or names k d).now in
+    let next : texts_in (take (k + 1) names) ≡ texts ++ name ∷ [] = ap texts_in (take_more names k d inside) ∙ map-append (λ (x : Bor (List ℕ)). x.now) (take k names) (get_or names k d ∷ []) in
+    let same : filter_map (need_of rs) (texts ++ name ∷ []) ≡ filter_map (need_of rs) texts =
+    filter_map-append (need_of rs) texts (name ∷ []) ∙ ap (λ o. filter_map (need_of rs) texts ++ cons_option o []) (sym nothing) ∙ append-nil (filter_map (need_of rs) texts) in
+    rw next (record { known = λ all. absurd (false≢true (sym all)); list_is = are.list_is ∙ sym same; marked = rw same are.marked })
 
 -- a name that resolves to nothing is unknown
 pub name_unknown : (rs : List Record) (i : ℕ) (names : List (Bor (List ℕ))) (k : ℕ) (d : Bor (List ℕ)) → texts_in names ≡ names_at rs i → k < length names → None ≡ need_of rs (get_or names k d).now → IsBrokenAt UnknownName rs i
@@ -81,10 +95,10 @@ needs_are rs i named further first second =
 
 -- ---- the first fault is the least
 
-two_phases : (rule : NameRule) → (phase rule ≡ 3) ⊎ (phase rule ≡ 4)
+pub two_phases : (rule : NameRule) → (phase rule ≡ 3) ⊎ (phase rule ≡ 4)
 two_phases rule = search rules
 
-broken_inside : (rs : List Record) (rule : NameRule) (i : ℕ) → IsBrokenAt rule rs i → i < length rs
+pub broken_inside : (rs : List Record) (rule : NameRule) (i : ℕ) → IsBrokenAt rule rs i → i < length rs
 broken_inside rs rule i h = grind (arith, slice_get_cases rs i, Contains-none)
 
 -- F40 is the first rule on names

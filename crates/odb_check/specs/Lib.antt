@@ -3,6 +3,7 @@ pub mod FaultTable
 pub mod Positions
 pub mod NameFaults
 pub mod LeastNameFault
+pub mod AllNameFaults
 pub mod Firsts
 pub mod Units
 pub mod Needs
@@ -19,4 +20,5 @@ pub mod Tables
 pub mod Parts
 pub mod Resolved
 pub mod Walks
+pub mod PhaseFaults
 pub mod Marks

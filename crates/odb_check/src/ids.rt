@@ -5,7 +5,7 @@ ghost use Rattle.odb_check.specs.FaultTable.{check_row};
 ghost use Rattle.odb_check.specs.LeastNameFault.{RefusesNames};
 ghost use Rattle.odb_check.specs.NameFaults.{IsBrokenAt};
 ghost use Rattle.odb_check.specs.Requests.{requests};
-ghost use Rattle.odb_check.specs.Walks.{BreaksFirst, BreaksNone, HasValidIds};
+ghost use Rattle.odb_check.specs.Walks.{BreaksFirst, BreaksIn, BreaksNone, HasValidIds};
 ghost use Rattle.odb_check.specs.declared.fault.NameRule.TheVariants as rules;
 
 use crate::fault::{CheckFault, NameRule};
@@ -57,6 +57,19 @@ fn broken_id(tables: &Tables<'_>, i: u32) -> Option<NameRule>
         return Some(NameRule::GroupSplit);
     }
     None
+}
+
+/// Whether the request breaks the rule on identifiers and groups.
+pub(crate) fn breaks(tables: &Tables<'_>, i: u32, rule: NameRule) -> bool
+    requires { i < length (requests tables.now) }
+    ensures { IsTrue result ↔ BreaksIn 3 (requests tables.now) rule i }
+{
+    match rule {
+        NameRule::IdTwice => repeats_id(tables, i),
+        NameRule::IdIsGroup => has_id_of_group(tables, i),
+        NameRule::GroupSplit => splits_group(tables, i),
+        _ => false,
+    }
 }
 
 /// Looks for the first request whose identifier or group breaks a rule.

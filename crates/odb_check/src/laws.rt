@@ -6,13 +6,15 @@
 //! run a plan.
 
 ghost use Rattle.std.specs.Prelude.{◌≡◌, List, IsSome};
-ghost use Rattle.odb_doc.specs.batch.Records.{Record};
+ghost use Rattle.serde_json.specs.Data.{Data};
+ghost use Rattle.odb_doc.specs.batch.LeastFault.{IsWellShaped};
+ghost use Rattle.odb_doc.specs.batch.Records.{IsBatchOf, Record};
 ghost use Rattle.odb_check.specs.declared.fault.CheckFault.{CheckFault};
 ghost use Rattle.odb_check.specs.FaultTable.{check_row};
 ghost use Rattle.odb_check.specs.Laws.{HasPositions, HasUnits, NeedsGroups};
 ghost use Rattle.odb_check.specs.LeastNameFault.{HasGoodNames, RefusesNames};
 ghost use Rattle.odb_check.specs.Levels.{HasLevels};
-ghost use Rattle.odb_check.specs.Plans.{plan_records, plan_graph};
+ghost use Rattle.odb_check.specs.Plans.{batch_plan_graph, plan_records, plan_graph};
 ghost use Rattle.odb_check.specs.PlanGraph.{HasNamesAsNeeds, IsPlan, IsPlanGraphOf};
 
 use crate::plan::Plan;
@@ -47,3 +49,17 @@ pub fn every_plan(plan: &Plan<'_>)
 {
     let _count = plan.len();
 }
+
+/// What holds of the units and the dependencies of the requests of every batch that the check accepts, for callers that
+/// have no plan in hand (OData JSON Format 4.01, sections 19.1 and 19.2).
+///
+/// `value` is a document without a fault of shape, of which these are the requests. [`every_plan`] says more of a plan.
+pub fn every_batch()
+    ensures positions { (requests : List Record) → HasGoodNames requests → HasPositions requests }
+    ensures plan_graph { (requests : List Record)
+        → IsPlanGraphOf requests (batch_plan_graph requests) }
+    ensures order { (value : Data) (requests : List Record) → IsWellShaped value
+        → IsBatchOf value requests → HasGoodNames requests → IsPlan (batch_plan_graph requests) }
+    ensures names { (requests : List Record) → HasGoodNames requests
+        → HasNamesAsNeeds requests (batch_plan_graph requests) }
+{}

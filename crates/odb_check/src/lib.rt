@@ -3,9 +3,11 @@
 //! The requests of a batch name each other by identifiers and atomicity groups (OData JSON Format
 //! 4.01, sections 19.1 and 19.2). [`check_with`] and [`check`] report the least fault of these names,
 //! or return the [`Plan`]: which requests form a unit, and what each request needs before it may
-//! start. A gateway that reads documents of strangers calls [`check_with`] with [`Seed::random`].
+//! start. [`name_faults`] returns all faults of these names. A gateway that reads documents of strangers
+//! calls [`check_with`] with [`Seed::random`].
 #![tactic(auto)]
 
+mod all_faults;
 mod fault;
 mod ids;
 pub mod laws;
@@ -22,6 +24,7 @@ mod text;
 mod verdict;
 mod walk;
 
+pub use all_faults::name_faults;
 pub use fault::{CheckFault, NameRule};
 pub use need::Need;
 pub use needs::Needs;

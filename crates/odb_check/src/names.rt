@@ -6,7 +6,7 @@ ghost use Rattle.odb_check.specs.Marks.{AreMarksOf};
 ghost use Rattle.odb_check.specs.NameFaults.{IsBrokenAt, IsMemberAlone, SomeName};
 ghost use Rattle.odb_check.specs.Positions.{id_at, group_at, names_at, IsIdFrom, IsGroupAfter, IsInGroupOf, NamesGroupOf};
 ghost use Rattle.odb_check.specs.Requests.{requests};
-ghost use Rattle.odb_check.specs.Walks.{BreaksFirst, BreaksNone, HasValidIds, named_at, further_needs};
+ghost use Rattle.odb_check.specs.Walks.{BreaksFirst, BreaksIn, BreaksNone, HasValidIds, named_at, further_needs};
 ghost use Rattle.odb_check.specs.declared.fault.NameRule.TheVariants as rules;
 
 use crate::fault::NameRule;
@@ -14,18 +14,17 @@ use crate::marks::Marks;
 use crate::need::Need;
 use crate::tables::Tables;
 
-/// A request of a batch whose identifiers and groups break no rule, once each of its names is known.
+/// A request of a batch whose identifiers and groups break no rule, once its names are looked up.
 #[derive(Clone, Copy)]
 pub(crate) struct Resolved<'w, 'b> {
     pub(crate) tables: &'w Tables<'b>,
     pub(crate) i: u32,
-    /// What its names resolve to.
+    /// What those of its names resolve to that are known.
     pub(crate) named: &'w [Need],
     /// The marks, among which that has the stamp `i + 1`.
     pub(crate) marks: &'w Marks,
     ghost within: { i < length (requests tables.now) },
     ghost valid_ids: { HasValidIds (requests tables.now) },
-    ghost known: { ¬ IsBrokenAt rules.UnknownName (requests tables.now) i },
     ghost names: { named.now ≡ named_at (requests tables.now) i },
     ghost marked: { AreMarksOf (requests tables.now) (named_at (requests tables.now) i) (i + 1)
         marks.now.ones.items marks.now.groups.items } by { Prim.hlevel props },
@@ -189,6 +188,7 @@ impl Resolved<'_, '_> {
     /// The first rule on names that the request breaks. Most requests are passed after one look at each
     /// name.
     fn broken_by_name(&self) -> Option<NameRule>
+        requires { ¬ IsBrokenAt rules.UnknownName (batch_of self.now) self.now.i }
         ensures some { IfSome result (BreaksFirst 4 (batch_of self.now) self.now.i) }
         ensures later { result ≡ None → ¬ IsBrokenAt rules.ForwardName (batch_of self.now) self.now.i }
         ensures own { result ≡ None → ¬ IsBrokenAt rules.OwnGroup (batch_of self.now) self.now.i }
@@ -211,6 +211,7 @@ impl Resolved<'_, '_> {
 
     /// The first rule on names and references that the request breaks.
     pub(crate) fn broken_rule(&self) -> Option<NameRule>
+        requires { ¬ IsBrokenAt rules.UnknownName (batch_of self.now) self.now.i }
         ensures some { IfSome result (BreaksFirst 4 (batch_of self.now) self.now.i) }
         ensures none { result ≡ None → BreaksNone 4 (batch_of self.now) self.now.i }
     {
@@ -227,6 +228,23 @@ impl Resolved<'_, '_> {
             return Some(NameRule::ReferenceNotListed);
         }
         None
+    }
+
+    /// Whether the request breaks the rule, of which F40 is broken if one of its names is unknown.
+    pub(crate) fn breaks(&self, has_unknown: bool, rule: NameRule) -> bool
+        requires { IsTrue has_unknown ↔ IsBrokenAt rules.UnknownName (batch_of self.now) self.now.i }
+        ensures { IsTrue result ↔ BreaksIn 4 (batch_of self.now) rule self.now.i }
+    {
+        match rule {
+            NameRule::IdTwice | NameRule::IdIsGroup | NameRule::GroupSplit => false,
+            NameRule::UnknownName => has_unknown,
+            NameRule::ForwardName => self.names_later(),
+            NameRule::OwnGroup => self.names_own_group(),
+            NameRule::GroupNotListed => self.names_member_alone(),
+            NameRule::UnknownReference => self.has_unknown_reference(),
+            NameRule::ForwardReference => self.has_forward_reference(),
+            NameRule::ReferenceNotListed => self.lacks_reference(),
+        }
     }
 
     /// The request that the URL refers to, unless `dependsOn` lists it.

@@ -1,6 +1,6 @@
 //! The walk over all requests that looks up what each names, and stops at the first fault.
 
-ghost use Rattle.std.specs.Prelude.{◌≡◌, ◌<◌, ◌+◌, length, OnOk, IfOk, IfErr};
+ghost use Rattle.std.specs.Prelude.{◌≡◌, ◌↔◌, ◌<◌, ◌+◌, length, IsTrue, OnOk, IfOk, IfErr};
 ghost use Rattle.odb_doc.specs.Names.{texts_in};
 ghost use Rattle.odb_check.specs.LeastNameFault.{HasGoodNames, RefusesNames};
 ghost use Rattle.odb_check.specs.Marks.{AreMarksOf, AreUpTo};
@@ -17,37 +17,37 @@ use crate::names::Resolved;
 use crate::need::Need;
 use crate::needs::Needs;
 use crate::tables::Tables;
-use std::alloc::Global;
+use std::alloc::{AllocError, Global};
 
-/// F40: makes `row` what the names of the request at `i` resolve to, and marks it, unless one resolves to
-/// nothing.
+/// Makes `row` what the names of the request at `i` resolve to, marks it, and returns whether one of
+/// them resolves to nothing (F40).
 ///
 /// Clients often list the requests just before, or some in a row, so each name is guessed: the first as
 /// that of a request just before, and each further one as the id after the one before it.
-fn resolve_names(
+pub(crate) fn resolve_names(
     tables: &Tables<'_>,
     i: u32,
     names: &[&str],
     row: &mut Vec<Need>,
     marks: &mut Marks,
-) -> Result<(), CheckFault>
+) -> Result<bool, AllocError>
     requires position { i < length (requests tables.now) }
     requires valid_ids { HasValidIds (requests tables.now) }
     requires names { texts_in names.now ≡ names_at (requests tables.now) i }
     requires marks { AreUpTo (requests tables.now) i marks.old.ones.items marks.old.groups.items }
-    ensures known { OnOk result (¬ IsBrokenAt rules.UnknownName (requests tables.now) i) }
+    ensures unknown { IfOk result (λ has_unknown. IsTrue has_unknown
+        ↔ IsBrokenAt rules.UnknownName (requests tables.now) i) }
     ensures row { OnOk result (row.new.items ≡ named_at (requests tables.now) i) }
     ensures marked { OnOk result (AreMarksOf (requests tables.now) (named_at (requests tables.now) i)
         (i + 1) marks.new.ones.items marks.new.groups.items) }
-    ensures least { IfErr result (FailsAt 4 (requests tables.now) i) }
 {
     row.clear();
     let mut guess = (i as usize).saturating_sub(names.len()) as u32;
+    let mut has_unknown = false;
     for name in names {
         let Some(need) = tables.need_near(guess, name) else {
-            let at = i as usize;
-            let rule = NameRule::UnknownName;
-            return Err(CheckFault::Request { at, rule });
+            has_unknown = true;
+            continue;
         };
         marks.mark(need, i + 1);
         row.push(need)?;
@@ -55,7 +55,7 @@ fn resolve_names(
             guess = position.saturating_add(1);
         }
     }
-    Ok(())
+    Ok(has_unknown)
 }
 
 /// Makes `row` the needs of the request at `i`, or reports the first rule on names and references that
@@ -76,7 +76,11 @@ fn resolve_needs(
         marks.new.groups.items) }
     ensures least { IfErr result (FailsAt 4 (requests tables.now) i) }
 {
-    resolve_names(tables, i, tables.names(i), row, marks)?;
+    if resolve_names(tables, i, tables.names(i), row, marks)? {
+        let at = i as usize;
+        let rule = NameRule::UnknownName;
+        return Err(CheckFault::Request { at, rule });
+    }
     let resolved = Resolved {
         tables,
         i,

@@ -9,8 +9,8 @@ use Rattle.odb_names.specs.Methods.{method_name}
 use Rattle.odb_names.specs.declared.method.Method.{Method}
 use Rattle.odb_names.specs.declared.method.Method.TheVariants.{Delete, Get, Patch, Post, Put}
 use Rattle.odb_doc.specs.canonical.Canonical.{with_some, names_value, headers_value, request_value, canonical_text}
-use Rattle.odb_doc.specs.canonical.CanonicalParts.{end_part, requests_left}
-use Rattle.odb_doc.specs.Texts.{member_part}
+use Rattle.odb_doc.specs.canonical.CanonicalParts.{requests_left}
+use Rattle.odb_doc.specs.Texts.{member_part, request_end}
 use Rattle.odb_doc.specs.batch.Records.{Record}
 use Rattle.odb_doc.proofs.ElementLemmas.{drop_at}
 
@@ -42,7 +42,7 @@ members_text_of (Some group) (Some body) (Some names) None id method url = simp 
 members_text_of (Some group) (Some body) (Some names) (Some headers) id method url = simp append_assoc
 
 last_members : (id : List ℕ) (method : Method) (url : List ℕ)
-    → codes "\"id\":" ++ (compact_text (string id) ++ (codes ",\"method\":" ++ (compact_text (string (method_name method)) ++ (codes ",\"url\":" ++ (compact_text (string url) ++ codes "}"))))) ≡ end_part id method url
+    → codes "\"id\":" ++ (compact_text (string id) ++ (codes ",\"method\":" ++ (compact_text (string (method_name method)) ++ (codes ",\"url\":" ++ (compact_text (string url) ++ codes "}"))))) ≡ request_end id method url
 unfolding serde_json_on_literals
 last_members id Delete url = simp append_assoc
 last_members id Get url = simp append_assoc
@@ -52,7 +52,7 @@ last_members id Put url = simp append_assoc
 
 -- the text of a request is that of its parts
 pub request-parts : (r : Record) → compact_text (request_value r)
-    ≡ codes "{" ++ (member_part (codes "\"atomicityGroup\":") (option_map string r.group) ++ (member_part (codes "\"body\":") r.body ++ (member_part (codes "\"dependsOn\":") (names_value r.names) ++ (member_part (codes "\"headers\":") (headers_value r.headers) ++ end_part r.id r.method r.url))))
+    ≡ codes "{" ++ (member_part (codes "\"atomicityGroup\":") (option_map string r.group) ++ (member_part (codes "\"body\":") r.body ++ (member_part (codes "\"dependsOn\":") (names_value r.names) ++ (member_part (codes "\"headers\":") (headers_value r.headers) ++ request_end r.id r.method r.url))))
 request-parts r =
     members_text_of (option_map string r.group) r.body (names_value r.names) (headers_value r.headers) (string r.id) (string (method_name r.method)) (string r.url)
     ∙ rw (last_members r.id r.method r.url) refl
@@ -76,5 +76,5 @@ requests_left-more rs i r is =
 
 -- the same in parts
 pub requests_left-parts : (rs : List Record) (i : ℕ) (r : Record) → slice_get rs i ≡ Some r → requests_left rs i
-    ≡ (comma_if (nat_lt 0 i) ++ (codes "{" ++ (member_part (codes "\"atomicityGroup\":") (option_map string r.group) ++ (member_part (codes "\"body\":") r.body ++ (member_part (codes "\"dependsOn\":") (names_value r.names) ++ (member_part (codes "\"headers\":") (headers_value r.headers) ++ end_part r.id r.method r.url)))))) ++ requests_left rs (i + 1)
+    ≡ (comma_if (nat_lt 0 i) ++ (codes "{" ++ (member_part (codes "\"atomicityGroup\":") (option_map string r.group) ++ (member_part (codes "\"body\":") r.body ++ (member_part (codes "\"dependsOn\":") (names_value r.names) ++ (member_part (codes "\"headers\":") (headers_value r.headers) ++ request_end r.id r.method r.url)))))) ++ requests_left rs (i + 1)
 requests_left-parts rs i r is = requests_left-more rs i r is ∙ ap (λ text. (comma_if (nat_lt 0 i) ++ text) ++ requests_left rs (i + 1)) (request-parts r)

@@ -35,7 +35,7 @@ names-shallow : (names : List (List ℕ)) → items_depth (items_of (map string 
 names-shallow [] = omega arith
 names-shallow (name ∷ names) = omega (arith, names-shallow names)
 
-safe-names : (n : ℕ) (names : List (List ℕ)) → 1 ≤ n → IfSome (names_value names) (IsSafe n)
+pub safe-names : (n : ℕ) (names : List (List ℕ)) → 1 ≤ n → IfSome (names_value names) (IsSafe n)
 safe-names n [] some = tt
 safe-names n (name ∷ names) some = record {
   held = names-held (name ∷ names);

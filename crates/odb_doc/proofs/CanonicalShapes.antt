@@ -1,6 +1,7 @@
 -- The canonical value of a batch has no fault of shape, and is that batch.
-use Rattle.std.proofs.Common.{◌≡◌, ◌∙◌, ℕ, zero, suc, false, List, [], ◌∷◌, length, map, Option, None, Some, option_map, option_and_then, codes, get_or, refl, ap, sym, subst, arith}
-use Rattle.std.specs.Prelude.{IsSome, IsNone, IsSomeAnd}
+use Rattle.std.proofs.Common.{◌≡◌, ◌∙◌, ◌≤◌, ℕ, zero, suc, false, List, [], ◌∷◌, length, map, Option, None, Some, option_map, option_and_then, slice_get, codes, get_or, inl, inr, refl, ap, sym, subst, arith}
+use Rattle.std.specs.Prelude.{IfSome, IsSome, IsNone, IsSomeAnd}
+use Rattle.std.proofs.lemmas.Bool.{cases_lt}
 use Rattle.std.specs.Char.{to_ascii_lowercase}
 use Rattle.std.specs.List.{All, AllZip, list_any}
 use Rattle.std.specs.List.Sorted.{IsPermutation}
@@ -16,6 +17,7 @@ use Rattle.serde_json.specs.Find.{get, as_str}
 use Rattle.serde_json.specs.View.{items_of}
 use Rattle.odb_names.specs.Methods.{method_name, takes_body}
 use Rattle.odb_names.specs.Fronts.{HasFront, bad}
+use Rattle.odb_names.specs.Identifiers.{IsRequestId}
 use Rattle.odb_names.specs.Segments.{IsNestedBatch}
 use Rattle.odb_names.specs.declared.method.Method.{Method}
 use Rattle.odb_names.specs.declared.method.Method.TheVariants.{Delete, Get, Patch, Post, Put}
@@ -25,13 +27,14 @@ use Rattle.odb_doc.specs.declared.fault.RequestRule.TheVariants as rules
 use Rattle.odb_doc.specs.batch.Bodies.{content_type}
 use Rattle.odb_doc.specs.batch.MediaTypes.{AllowsBody}
 use Rattle.odb_doc.specs.canonical.Canonical.{names_value, header_members, headers_value, with_some, request_value, canonical_value}
-use Rattle.odb_doc.specs.Headers.{Header, folded, text_members, listed_in, HasHeaders}
+use Rattle.odb_doc.specs.Headers.{Header, IsInOrder, folded, text_members, listed_in, HasHeaders}
 use Rattle.odb_doc.specs.batch.LeastFault.{IsBatchObject, IsWellShaped, BreaksRequestAt}
 use Rattle.odb_doc.specs.BrokenRules.{IsRequestObject}
 use Rattle.odb_doc.specs.LeastRules.{NoneBroken}
 use Rattle.odb_doc.specs.Members.{given, names_in, is_unknown, request_names}
 use Rattle.odb_doc.specs.Names.{distinct}
-use Rattle.odb_doc.specs.batch.Records.{Record, ReadsAs, IsBatchOf}
+use Rattle.odb_doc.specs.batch.Records.{Record, ReadsAs, IsBatchOf, IsWellFormedRecord}
+use Rattle.odb_doc.specs.batch.References.{RefersTo}
 use Rattle.odb_doc.specs.batch.Shapes.{HasGroup, elements, listed_names, texts_of, texts_or_none}
 use Rattle.odb_doc.proofs.BatchLemmas.{AreOneReading, one_method}
 use Rattle.odb_doc.proofs.DistinctLemmas.{IsDistinct-listed}
@@ -85,9 +88,9 @@ own-name Patch = refl
 own-name Post = refl
 own-name Put = refl
 
-own-group : (d e : Data) (group : Option (List ℕ)) → get (codes "atomicityGroup") d ≡ option_map string group → HasGroup e group → HasGroup d group
-own-group d e None at has = ap given at
-own-group d e (Some name) at has = (ap (option_and_then as_str) at, has.1)
+own-group : (d : Data) (group : Option (List ℕ)) → get (codes "atomicityGroup") d ≡ option_map string group → IfSome group IsRequestId → HasGroup d group
+own-group d None at form = ap given at
+own-group d (Some name) at form = (ap (option_and_then as_str) at, form)
 
 texts_of-strings : (names : List (List ℕ)) → texts_of (items_of (map string names)) ≡ Some names
 texts_of-strings [] = refl
@@ -140,98 +143,164 @@ own-listed r = ap texts_or_none (own-members r).at_names ∙ own-names r.names
 own-text_members : (r : Record) → listed_in (get (codes "headers") (request_value r)) ≡ Some r.headers
 own-text_members r = ap listed_in (own-members r).at_headers ∙ own-headers r.headers
 
-own-holds : (e : Data) (r : Record) → ReadsAs e r → HasHeaders (request_value r) r.headers
-own-holds e r says = record {
+-- ---- requests that elements read as, without the elements
+
+-- what holds of a request that was read
+pub record IsRead (r : Record) : Type 0 where
+  pub form : IsWellFormedRecord r
+  pub reference : RefersTo r.url r.reference
+  pub lower : map folded r.headers ≡ r.headers
+  pub ordered : IsInOrder r.headers
+  pub body : given r.body ≡ r.body
+
+group-form : (e : Data) (group : Option (List ℕ)) → HasGroup e group → IfSome group IsRequestId
+group-form e None has = tt
+group-form e (Some name) has = has.1
+
+read-record : (e : Data) (r : Record) → ReadsAs e r → IsRead r
+read-record e r says = record {
+  form = record { id = says.id.form; group = group-form e r.group says.group; names = IsDistinct-listed r.names (listed_names e) (sym says.names) };
+  reference = says.reference;
+  lower = folded-headers e r.headers says.headers;
+  ordered = says.headers.ordered;
+  body = ap given (sym says.body) ∙ given-twice (get (codes "body") e) ∙ says.body;
+}
+
+own-holds : (r : Record) → IsRead r → HasHeaders (request_value r) r.headers
+own-holds r is = record {
   listed = r.headers;
   are = own-text_members r;
-  same = subst (λ (headers : List Header). IsPermutation headers r.headers) (sym (folded-headers e r.headers says.headers)) (IsPermutation-refl r.headers);
-  ordered = says.headers.ordered;
+  same = subst (λ (headers : List Header). IsPermutation headers r.headers) (sym is.lower) (IsPermutation-refl r.headers);
+  ordered = is.ordered;
 }
 
 -- a request's value reads as the request
-pub value-says : (e : Data) (r : Record) → ReadsAs e r → ReadsAs (request_value r) r
-value-says e r says =
+value-says : (r : Record) → IsRead r → ReadsAs (request_value r) r
+value-says r is =
     let own = own-members r in
-    let apart = IsDistinct-listed r.names (listed_names e) (sym says.names) in
     record {
-      id = record { text = ap (option_and_then as_str) own.at_id; form = says.id.form };
+      id = record { text = ap (option_and_then as_str) own.at_id; form = is.form.id };
       method = record { name = method_name r.method; text = ap (option_and_then as_str) own.at_method; names = own-name r.method };
       url = ap (option_and_then as_str) own.at_url;
-      group = own-group (request_value r) e r.group own.at_group says.group;
-      names = ap (option_map distinct) (own-listed r) ∙ ap Some (distinct_same r.names apart);
-      reference = says.reference;
-      headers = own-holds e r says;
-      body = ap given own.at_body ∙ ap given (sym says.body) ∙ given-twice (get (codes "body") e) ∙ says.body;
+      group = own-group (request_value r) r.group own.at_group is.form.group;
+      names = ap (option_map distinct) (own-listed r) ∙ ap Some (distinct_same r.names is.form.names);
+      reference = is.reference;
+      headers = own-holds r is;
+      body = ap given own.at_body ∙ is.body;
     }
 
 -- ---- it has no fault
 
--- a request's value breaks no rule, as the element that reads as the request
-pub value-object : AreOneReading → (e : Data) (r : Record) → IsRequestObject e → ReadsAs e r → IsRequestObject (request_value r)
-value-object texts e r sound says rules.NotRequestObject = λ broken. cc (broken)
-value-object texts e r sound says rules.IfMember = λ broken. cc (subst IsSome (own-members r).at_if broken)
-value-object texts e r sound says rules.UnknownRequestMember = λ broken. cc (broken, (own-members r).known)
-value-object texts e r sound says rules.BadId = λ broken. broken.1 r.id (value-says e r says).id
-value-object texts e r sound says rules.BadMethod = λ broken. broken.1 r.method (value-says e r says).method
-value-object texts e r sound says rules.BadUrl = λ broken. cc (subst IsNone (value-says e r says).url broken.1)
-value-object texts e r sound says rules.BadGroup = λ broken. broken.1 r.group (value-says e r says).group
-value-object texts e r sound says rules.BadDependsOn = λ broken. cc (subst IsNone (own-listed r) broken.1)
-value-object texts e r sound says rules.BadHeaders = λ broken. cc (subst IsNone (own-holds e r says).are broken.1)
-value-object texts e r sound says rules.HeaderTwice = λ broken. broken (HoldsHeaders-apart (get (codes "headers") (request_value r)) r.headers (own-holds e r says))
-value-object texts e r sound says rules.BodyNotAllowed = λ broken.
-    let own = value-says e r says in
+-- what holds of a request that was read from an element without a fault
+pub record IsSound (r : Record) : Type 0 where
+  pub read : IsRead r
+  pub takes : takes_body r.method ≡ false → ¬ IsSome r.body
+  pub media : (body : Data) → r.body ≡ Some body → ¬ ¬ AllowsBody (content_type r.headers) body
+  pub single : ¬ IsNestedBatch r.url
+  pub front : ¬ HasFront r.url bad
+
+sound-record : (e : Data) (r : Record) → IsRequestObject e → ReadsAs e r → IsSound r
+sound-record e r sound says = record {
+  read = read-record e r says;
+  takes = λ none some. sound rules.BodyNotAllowed (record { method = r.method; has = says.method; none = none; body = subst IsSome (sym says.body) some });
+  media = λ body is refused. sound rules.BadBody (record { headers = r.headers; has = says.headers; body = body; given = says.body ∙ is; bad = refused });
+  single = λ nested. sound rules.NestedBatch (subst (λ (o : Option (List ℕ)). IsSomeAnd o IsNestedBatch) (sym says.url) nested);
+  front = λ refused. sound rules.BadReference (subst (λ (o : Option (List ℕ)). IsSomeAnd o (λ url. HasFront url bad)) (sym says.url) refused);
+}
+
+-- a request's value breaks no rule
+value-object : AreOneReading → (r : Record) → IsSound r → IsRequestObject (request_value r)
+value-object texts r sound rules.NotRequestObject = λ broken. cc (broken)
+value-object texts r sound rules.IfMember = λ broken. cc (subst IsSome (own-members r).at_if broken)
+value-object texts r sound rules.UnknownRequestMember = λ broken. cc (broken, (own-members r).known)
+value-object texts r sound rules.BadId = λ broken. broken.1 r.id (value-says r sound.read).id
+value-object texts r sound rules.BadMethod = λ broken. broken.1 r.method (value-says r sound.read).method
+value-object texts r sound rules.BadUrl = λ broken. cc (subst IsNone (value-says r sound.read).url broken.1)
+value-object texts r sound rules.BadGroup = λ broken. broken.1 r.group (value-says r sound.read).group
+value-object texts r sound rules.BadDependsOn = λ broken. cc (subst IsNone (own-listed r) broken.1)
+value-object texts r sound rules.BadHeaders = λ broken. cc (subst IsNone (own-holds r sound.read).are broken.1)
+value-object texts r sound rules.HeaderTwice = λ broken. broken (HoldsHeaders-apart (get (codes "headers") (request_value r)) r.headers (own-holds r sound.read))
+value-object texts r sound rules.BodyNotAllowed = λ broken.
+    let own = value-says r sound.read in
     let method = one_method texts (request_value r) broken.method r.method broken.has own.method in
-    sound rules.BodyNotAllowed (record {
-      method = r.method;
-      has = says.method;
-      none = subst (λ (m : Method). takes_body m ≡ false) method broken.none;
-      body = subst IsSome (own.body ∙ sym says.body) broken.body;
-    })
-value-object texts e r sound says rules.BadBody = λ broken.
-    let own = value-says e r says in
+    sound.takes (subst (λ (m : Method). takes_body m ≡ false) method broken.none) (subst IsSome own.body broken.body)
+value-object texts r sound rules.BadBody = λ broken.
+    let own = value-says r sound.read in
     let headers = one_headers (request_value r) r.headers broken.headers own.headers broken.has in
-    sound rules.BadBody (record {
-      headers = r.headers;
-      has = says.headers;
-      body = broken.body;
-      given = says.body ∙ sym own.body ∙ broken.given;
-      bad = subst (λ (hs : List Header). ¬ AllowsBody (content_type hs) broken.body) headers broken.bad;
-    })
-value-object texts e r sound says rules.NestedBatch = λ broken. sound rules.NestedBatch (subst (λ (o : Option (List ℕ)). IsSomeAnd o IsNestedBatch) ((value-says e r says).url ∙ sym says.url) broken)
-value-object texts e r sound says rules.BadReference = λ broken. sound rules.BadReference (subst (λ (o : Option (List ℕ)). IsSomeAnd o (λ url. HasFront url bad)) ((value-says e r says).url ∙ sym says.url) broken)
+    sound.media broken.body (sym own.body ∙ broken.given) (subst (λ (hs : List Header). ¬ AllowsBody (content_type hs) broken.body) headers broken.bad)
+value-object texts r sound rules.NestedBatch = λ broken. sound.single (subst (λ (o : Option (List ℕ)). IsSomeAnd o IsNestedBatch) (value-says r sound.read).url broken)
+value-object texts r sound rules.BadReference = λ broken. sound.front (subst (λ (o : Option (List ℕ)). IsSomeAnd o (λ url. HasFront url bad)) (value-says r sound.read).url broken)
 
 -- ---- the whole
 
-all-says : (ds : List Data) (rs : List Record) → AllZip ReadsAs ds rs → AllZip ReadsAs (map request_value rs) rs
-all-says [] [] says = tt
-all-says [] (r ∷ rs) says = absurd says
-all-says (d ∷ ds) [] says = absurd says
-all-says (d ∷ ds) (r ∷ rs) says = (value-says d r says.0, all-says ds rs says.1)
+-- each request has the property
+abbrev pub Each : (Record → Type 0) → List Record → Type 0
+Each P rs = (i : ℕ) (r : Record) → slice_get rs i ≡ Some r → P r
 
-sound-at : AreOneReading → (ds : List Data) (rs : List Record) → AllZip ReadsAs ds rs → NoneBroken (BreaksRequestAt ds) → (rule : RequestRule) (i : ℕ) → ¬ BreaksRequestAt (map request_value rs) rule i
-sound-at texts [] [] says sound rule i = λ broken. broken
-sound-at texts [] (r ∷ rs) says sound rule i = absurd says
-sound-at texts (d ∷ ds) [] says sound rule i = absurd says
-sound-at texts (d ∷ ds) (r ∷ rs) says sound rule zero = value-object texts d r (λ other broken. sound other 0 broken) says.0 rule
-sound-at texts (d ∷ ds) (r ∷ rs) says sound rule (suc i) = sound-at texts ds rs says.1 (λ other j broken. sound other (suc j) broken) rule i
+all-read : (ds : List Data) (rs : List Record) → AllZip ReadsAs ds rs → Each IsRead rs
+all-read ds [] says i r is = absurd (cc (is))
+all-read [] (q ∷ rs) says i r is = absurd says
+all-read (d ∷ ds) (q ∷ rs) says zero r is = subst IsRead (cc (is)) (read-record d q says.0)
+all-read (d ∷ ds) (q ∷ rs) says (suc i) r is = all-read ds rs says.1 i r is
+
+all-sound : (ds : List Data) (rs : List Record) → AllZip ReadsAs ds rs → NoneBroken (BreaksRequestAt ds) → Each IsSound rs
+all-sound ds [] says sound i r is = absurd (cc (is))
+all-sound [] (q ∷ rs) says sound i r is = absurd says
+all-sound (d ∷ ds) (q ∷ rs) says sound zero r is = subst IsSound (cc (is)) (sound-record d q (λ rule broken. sound rule 0 broken) says.0)
+all-sound (d ∷ ds) (q ∷ rs) says sound (suc i) r is = all-sound ds rs says.1 (λ rule j broken. sound rule (suc j) broken) i r is
+
+all-says : (rs : List Record) → Each IsRead rs → AllZip ReadsAs (map request_value rs) rs
+all-says [] read = tt
+all-says (r ∷ rs) read = (value-says r (read 0 r refl), all-says rs (λ i q is. read (suc i) q is))
+
+sound-at : AreOneReading → (rs : List Record) → Each IsSound rs → (rule : RequestRule) (i : ℕ) → ¬ BreaksRequestAt (map request_value rs) rule i
+sound-at texts [] sound rule i = λ broken. broken
+sound-at texts (r ∷ rs) sound rule zero = value-object texts r (sound 0 r refl) rule
+sound-at texts (r ∷ rs) sound rule (suc i) = sound-at texts rs (λ j q is. sound (suc j) q is) rule i
 
 -- the elements of the canonical value
 own-elements : (rs : List Record) → elements (canonical_value rs) ≡ map request_value rs
 own-elements rs = list_of-items_of (map request_value rs)
 
-own-document : (value : Data) (rs : List Record) → IsBatchObject value → IsBatchOf value rs → IsBatchObject (canonical_value rs)
+own-document : (rs : List Record) → length rs ≤ 10000 → IsBatchObject (canonical_value rs)
 unfolding is_unknown
-own-document value rs whole says document.TooLong = λ broken. broken
-own-document value rs whole says document.NotJson = λ broken. broken
-own-document value rs whole says document.NotObject = λ broken. cc (broken)
-own-document value rs whole says document.NoRequests = λ broken. cc (broken.1)
-own-document value rs whole says document.UnknownMember = λ broken. cc (broken)
-own-document value rs whole says document.TooMany = λ broken.
-    let count : length (elements (canonical_value rs)) ≡ length (elements value) = ap length (own-elements rs) ∙ length-map rs request_value ∙ AllZip-long ReadsAs (elements value) rs says in
-    whole document.TooMany (omega (arith, broken, count))
+own-document rs few document.TooLong = λ broken. broken
+own-document rs few document.NotJson = λ broken. broken
+own-document rs few document.NotObject = λ broken. cc (broken)
+own-document rs few document.NoRequests = λ broken. cc (broken.1)
+own-document rs few document.UnknownMember = λ broken. cc (broken)
+own-document rs few document.TooMany = λ broken.
+    let count : length (elements (canonical_value rs)) ≡ length rs = ap length (own-elements rs) ∙ length-map rs request_value in
+    omega (arith, broken, count, few)
+
+own-batch : (rs : List Record) → Each IsRead rs → IsBatchOf (canonical_value rs) rs
+own-batch rs read = subst (λ (ds : List Data). AllZip ReadsAs ds rs) (sym (own-elements rs)) (all-says rs read)
+
+-- what holds of the requests of a batch that has no fault of shape
+pub record AreSound (rs : List Record) : Type 0 where
+  pub few : length rs ≤ 10000
+  pub each : Each IsSound rs
+
+pub sound-batch : (value : Data) (rs : List Record) → IsWellShaped value → IsBatchOf value rs → AreSound rs
+sound-batch value rs shaped says =
+    let count : length (elements value) ≡ length rs = sym (AllZip-long ReadsAs (elements value) rs says) in
+    record {
+      few = elim (cases_lt 10000 (length rs)) [
+        | inl more ↦ absurd (shaped.0 document.TooMany (omega (arith, more, count)))
+        | inr few ↦ few
+      ];
+      each = all-sound (elements value) rs says shaped.1;
+    }
+
+-- the canonical value of such requests has no fault of shape, and is their batch
+pub canonical-sound : AreOneReading → (rs : List Record) → AreSound rs → IsWellShaped (canonical_value rs) × IsBatchOf (canonical_value rs) rs
+canonical-sound texts rs are = (
+  (own-document rs are.few, subst (λ (ds : List Data). NoneBroken (BreaksRequestAt ds)) (sym (own-elements rs)) (sound-at texts rs are.each)),
+  own-batch rs (λ i r is. (are.each i r is).read),
+)
 
 pub canonical-batch : (value : Data) (rs : List Record) → IsBatchOf value rs → IsBatchOf (canonical_value rs) rs
-canonical-batch value rs says = subst (λ (ds : List Data). AllZip ReadsAs ds rs) (sym (own-elements rs)) (all-says (elements value) rs says)
+canonical-batch value rs says = own-batch rs (all-read (elements value) rs says)
 
 pub canonical-shaped : AreOneReading → (value : Data) (rs : List Record) → IsWellShaped value → IsBatchOf value rs → IsWellShaped (canonical_value rs)
-canonical-shaped texts value rs shaped says = (own-document value rs shaped.0 says, subst (λ (ds : List Data). NoneBroken (BreaksRequestAt ds)) (sym (own-elements rs)) (sound-at texts (elements value) rs says shaped.1))
+canonical-shaped texts value rs shaped says = (canonical-sound texts rs (sound-batch value rs shaped says)).0

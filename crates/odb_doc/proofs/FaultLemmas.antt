@@ -13,10 +13,10 @@ use Rattle.odb_doc.specs.batch.Shapes.{BreaksDocument, elements}
 
 -- ---- rules with one number are equal
 
-same_document_rule : (rule other : DocumentRule) → document_number rule ≡ document_number other → rule ≡ other
+pub same_document_rule : (rule other : DocumentRule) → document_number rule ≡ document_number other → rule ≡ other
 same_document_rule rule other same = search rules
 
-same_request_rule : (rule other : RequestRule) → request_number rule ≡ request_number other → rule ≡ other
+pub same_request_rule : (rule other : RequestRule) → request_number rule ≡ request_number other → rule ≡ other
 same_request_rule rule other same = search rules
 
 -- ---- the least fault is one

@@ -1,5 +1,5 @@
 -- Headers lent from an object, once they are in order of their names.
-use Rattle.std.proofs.Common.{◌≡◌, ◌∙◌, ◌+◌, ◌<◌, ◌≤◌, ℕ, Bool, true, false, cond, None, Some, Option, List, [], ◌∷◌, length, drop, get_or, map, bytes_eq, codes, refl, ap, sym, subst, arith, IsPermutation}
+use Rattle.std.proofs.Common.{◌≡◌, ◌∙◌, ◌+◌, ◌<◌, ◌≤◌, ℕ, Bool, true, false, cond, None, Some, IsSome, Option, List, [], ◌∷◌, ◌++◌, string_bytes, length, drop, get_or, map, bytes_eq, codes, refl, ap, sym, subst, arith, IsPermutation}
 use Rattle.std.specs.declared.cmp.Ordering.{Ordering}
 use Rattle.std.specs.declared.cmp.Ordering.TheVariants.{Less, Equal, Greater}
 use Rattle.std.specs.Char.{to_ascii_lowercase}
@@ -12,22 +12,23 @@ use Rattle.std.specs.Ordering.{is_eq, is_lt, nat_cmp, ordering_reverse, ordering
 use Rattle.std.specs.Str.{str_to_ascii_lowercase}
 use Rattle.std.proofs.Math.ListN.{drop_of_length-le}
 use Rattle.std.proofs.lemmas.Cmp.{nat_list_cmp_total, nat_list_eq_equiv}
-use Rattle.std.proofs.lemmas.List.{at_drop_more, get_or-map, length-map}
-use Rattle.std.proofs.lemmas.List.Sorted.{IsPermutation-map, IsPermutation-refl}
+use Rattle.std.proofs.lemmas.List.{at_drop_more, get_or-map, length-map, map-append}
+use Rattle.std.proofs.lemmas.List.Sorted.{IsPermutation-map, IsPermutation-refl, IsPermutation-sym}
 use Rattle.std.proofs.lemmas.Map.Keys.{IsDistinct-IsPermutation, apart_from_distinct, sorted_from_all_adjacent}
 use Rattle.std.proofs.lemmas.Map.Text.{is_eq-slice_cmp}
 use Rattle.serde_json.specs.Data.{Data}
 use Rattle.serde_json.specs.Find.{get}
+use Rattle.serde_json.specs.View.{members_view}
 use Rattle.odb_doc.specs.declared.broken.Broken.{Broken}
 use Rattle.odb_doc.specs.declared.broken.Broken.TheVariants as reasons
 use Rattle.odb_doc.specs.declared.fault.RequestRule.{RequestRule}
 use Rattle.odb_doc.specs.declared.fault.RequestRule.TheVariants as rules
-use Rattle.odb_doc.specs.BrokenRules.{BreaksNoneBefore, IsLeastRequestRule, OnRule, OnlyIf}
-use Rattle.odb_doc.specs.HeaderMaps.{Lent, HasUnordered, by_name, written}
+use Rattle.odb_doc.specs.BrokenRules.{BreaksNoneBefore, IsHeadersRule, IsLeastRequestRule, OnRule, OnlyIf}
+use Rattle.odb_doc.specs.HeaderMaps.{Entry, Lent, HasUnordered, by_name, written}
 use Rattle.odb_doc.specs.Headers.{Header, HoldsHeaders, IsInOrder, folded, header_names, lent_header, listed_headers, listed_in, text_members_in}
-use Rattle.odb_doc.specs.Members.{given}
-use Rattle.odb_doc.proofs.FoldedNames.{names_in-text_members_in}
-use Rattle.odb_doc.proofs.RuleLemmas.{before_twice, listed_not_bad}
+use Rattle.odb_doc.specs.Members.{given, names_of}
+use Rattle.odb_doc.proofs.FoldedNames.{names_in-text_members_in, names_of-more}
+use Rattle.odb_doc.proofs.RuleLemmas.{before_twice, distinct-sorted, listed_not_bad}
 use Rattle.odb_doc.proofs.RepeatLemmas.{less_from}
 
 -- ---- names in order
@@ -120,6 +121,15 @@ twice_least d hs (reasons.Rule rule) are below twice =
     subst (IsLeastRequestRule d) (sym twice.0) least
 twice_least d hs reasons.OutOfMemory are below twice = tt
 
+-- the rule that two headers of one name break
+pub twice_rule : (d : Data) (hs : List Lent) (broken : Broken RequestRule) → listed_headers d ≡ Some (map written hs)
+    → OnlyIf rules.HeaderTwice (¬ IsDistinct bytes_eq (keys_of (map lent_header hs))) broken → OnRule (IsHeadersRule d) broken
+twice_rule d hs (reasons.Rule rule) are twice =
+    let names : header_names d ≡ keys_of (map lent_header hs) = names_in-text_members_in (get (codes "headers") d) (map written hs) are ∙ ap keys_of (folded-written hs) in
+    let why : IsHeadersRule d rules.HeaderTwice = (subst IsSome (sym are) refl, λ apart. twice.1 (subst (IsDistinct bytes_eq) names apart)) in
+    subst (IsHeadersRule d) (sym twice.0) why
+twice_rule d hs reasons.OutOfMemory are twice = tt
+
 -- ---- texts compared byte by byte
 
 abbrev pub cmp_from : List ℕ → List ℕ → ℕ → Ordering
@@ -158,3 +168,22 @@ then_rest o rest is = rw is refl
 pub find_more : (test : List ℕ → Bool) (hs : List Lent) (k : ℕ) (d : Lent) → k < length hs
     → lookup test (map lent_header (drop k hs)) ≡ cond (test (str_to_ascii_lowercase (get_or hs k d).0.now)) (Some (get_or hs k d).1.now) (lookup test (map lent_header (drop (k + 1) hs)))
 find_more test hs k d within = at_drop_more (λ (gs : List Lent). lookup test (map lent_header gs)) hs k d within
+
+-- ---- the names of an object
+
+pub names-more : (done : List Entry) (e : Entry) (hs more : List Lent) (h : Lent) → more ≡ hs ++ h ∷ [] → h.0.now ≡ string_bytes e.0
+    → keys_of (map lent_header hs) ≡ map str_to_ascii_lowercase (names_of (members_view done))
+    → keys_of (map lent_header more) ≡ map str_to_ascii_lowercase (names_of (members_view (done ++ e ∷ [])))
+names-more done e hs more h is name are =
+    let last : keys_of (map lent_header (hs ++ h ∷ [])) ≡ keys_of (map lent_header hs) ++ str_to_ascii_lowercase h.0.now ∷ [] =
+    ap keys_of (map-append lent_header hs (h ∷ [])) ∙ map-append (λ (g : Header). g.0) (map lent_header hs) (lent_header h ∷ []) in
+    let names : map str_to_ascii_lowercase (names_of (members_view (done ++ e ∷ []))) ≡ map str_to_ascii_lowercase (names_of (members_view done)) ++ str_to_ascii_lowercase (string_bytes e.0) ∷ [] =
+    ap (map str_to_ascii_lowercase) (names_of-more done e) ∙ map-append str_to_ascii_lowercase (names_of (members_view done)) (string_bytes e.0 ∷ []) in
+    ap (λ (gs : List Lent). keys_of (map lent_header gs)) is ∙ last ∙ ap (λ names. names ++ str_to_ascii_lowercase h.0.now ∷ []) are
+    ∙ ap (λ name. map str_to_ascii_lowercase (names_of (members_view done)) ++ str_to_ascii_lowercase name ∷ []) name ∙ sym names
+
+-- a list in which no name stands twice, and one in which two do
+pub apart-from_order : (hs sorted : List Lent) → IsPermutation hs sorted → IsInOrder (map lent_header sorted) → IsDistinct bytes_eq (keys_of (map lent_header hs))
+apart-from_order hs sorted same ordered =
+    let names = IsPermutation-map (λ (h : Header). h.0) (map lent_header sorted) (map lent_header hs) (IsPermutation-map lent_header sorted hs (IsPermutation-sym hs sorted same)) in
+    IsDistinct-IsPermutation bytes_eq nat_list_eq_equiv.symm (keys_of (map lent_header sorted)) (keys_of (map lent_header hs)) names (distinct-sorted (keys_of (map lent_header sorted)) ordered)

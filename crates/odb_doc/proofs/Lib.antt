@@ -2,15 +2,16 @@ pub mod DistinctLemmas
 pub mod ElementLemmas
 mod LengthLemmas
 mod MemberLemmas
+pub mod ListedLemmas
 pub mod NameLemmas
 pub mod PartLemmas
 pub mod RepeatLemmas
 pub mod SetLemmas
 mod ArrayLemmas
-mod BatchLemmas
+pub mod BatchLemmas
 mod CanonicalLemmas
-mod CanonicalReads
-mod CanonicalShapes
+pub mod CanonicalReads
+pub mod CanonicalShapes
 mod FaultLemmas
 mod FoundLemmas
 mod FoundParts
@@ -30,6 +31,7 @@ pub mod ReadBackLemmas
 pub mod SafeLemmas
 mod RequestLemmas
 mod RuleLemmas
+mod ShapeFaultLemmas
 mod TextLemmas
 mod TypeLemmas
 mod WatchLemmas

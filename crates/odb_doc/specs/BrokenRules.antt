@@ -1,12 +1,14 @@
 -- Why something could not be read from an element, and of requests, which rules have been tested: for private clauses, nothing to believe.
-use Rattle.std.specs.Prelude.{◌≡◌, ◌<◌, ℕ}
+use Rattle.std.specs.Prelude.{◌≡◌, ◌<◌, ℕ, IsNone, IsSome}
 use Rattle.serde_json.specs.Data.{Data}
 use Rattle.odb_doc.specs.declared.broken.Broken.{Broken}
 use Rattle.odb_doc.specs.declared.broken.Broken.TheVariants.{Rule, OutOfMemory}
 use Rattle.odb_doc.specs.declared.fault.RequestRule.{RequestRule}
+use Rattle.odb_doc.specs.declared.fault.RequestRule.TheVariants as rules
 use Rattle.odb_doc.specs.declared.fault.DocFault.{DocFault}
 use Rattle.odb_doc.specs.declared.fault.DocFault.TheVariants as faults
 use Rattle.odb_doc.specs.Faults.{request_number}
+use Rattle.odb_doc.specs.Headers.{listed_headers}
 use Rattle.odb_doc.specs.LeastRules.{IsLeast}
 use Rattle.odb_doc.specs.batch.Shapes.{BreaksRequest}
 
@@ -40,6 +42,12 @@ IsRequestObject d = (rule : RequestRule) → ¬ BreaksRequest rule d
 -- the rule is broken by the request, and none with a smaller number is
 abbrev pub IsLeastRequestRule : Data → RequestRule → Type 0
 IsLeastRequestRule d rule = IsLeast request_number (λ other. BreaksRequest other d) rule
+
+-- The rule is why the headers cannot be read. What is no object of strings is so by F18 alone, whatever its names are.
+abbrev pub IsHeadersRule : Data → RequestRule → Type 0
+IsHeadersRule d rules.BadHeaders = IsNone (listed_headers d)
+IsHeadersRule d rules.HeaderTwice = IsSome (listed_headers d) × BreaksRequest rules.HeaderTwice d
+IsHeadersRule d _ = ⊥
 
 -- the fault of a request
 abbrev pub request_fault : Broken (ℕ × RequestRule) → DocFault

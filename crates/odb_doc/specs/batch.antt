@@ -5,6 +5,7 @@ pub mod LeastFault
 pub mod MediaTypes
 pub mod Records
 pub mod References
+pub mod ShapeFaults
 pub mod Shapes
 -- What invariants, private clauses and proofs cite: nothing to believe.
 pub mod BodyKinds

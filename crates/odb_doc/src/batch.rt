@@ -13,6 +13,8 @@ ghost use Rattle.odb_doc.specs.Members as spec;
 ghost use Rattle.odb_doc.specs.batch.Shapes.{elements};
 ghost use Rattle.odb_doc.specs.batch.Records.{ReadsAs, IsWellFormedRecord, IsBatchOf, record_of};
 
+pub(crate) mod all_faults;
+mod asked;
 mod body;
 mod depends_on;
 pub(crate) mod headers;

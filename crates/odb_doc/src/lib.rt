@@ -2,7 +2,8 @@
 //!
 //! A batch comes as a JSON document (OData JSON Format 4.01, section 19.1). [`parse`] makes a value
 //! of its bytes, and [`Batch::read`] makes the batch of that value, or returns the least fault of its
-//! shape. The crates above decide whether the names in the requests fit together.
+//! shape; [`shape_faults`] returns all of them. The crates above decide whether the names in the
+//! requests fit together.
 //! [`Batch::canonical`] returns the one text of all documents that make the same batch.
 //! [`Outcomes::read`] makes recorded outcomes of the value of a document of their own, and
 //! [`Outcomes::split`] returns what remains of it too; an [`Outcome`] is what a service answered.
@@ -28,6 +29,7 @@ pub mod text;
 mod whole;
 
 pub use batch::Batch;
+pub use batch::all_faults::shape_faults;
 pub use batch::request::Request;
 pub use document::{MAX_DOCUMENT_BYTES, parse};
 pub use fault::{DocFault, DocumentRule, Place, RequestRule, TextFault};

@@ -7,13 +7,15 @@ ghost use Rattle.std.specs.List.{AllPass};
 ghost use Rattle.serde_json.specs.Data.{string};
 ghost use Rattle.serde_json.specs.View.{view};
 ghost use Rattle.serde_json.specs.Written.{compact_text, comma_if};
-ghost use Rattle.odb_doc.specs.canonical.Canonical.{headers_value};
-ghost use Rattle.odb_doc.specs.canonical.CanonicalParts.{headers_left};
+ghost use Rattle.odb_doc.specs.canonical.Canonical.{headers_value, names_value};
+ghost use Rattle.odb_doc.specs.canonical.CanonicalParts.{headers_left, names_left};
 ghost use Rattle.odb_doc.specs.Headers.{headers_in};
 ghost use Rattle.odb_doc.specs.canonical.Quoting.{is_plain};
-ghost use Rattle.odb_doc.specs.Texts.{member_part};
+ghost use Rattle.odb_doc.specs.Names.{texts_in};
+ghost use Rattle.odb_doc.specs.Texts.{member_part, request_end};
 ghost use Rattle.odb_doc.specs.WholeNumbers.{IsWhole};
 
+use odb_names::Method;
 use serde_json::Value;
 use std::alloc::{AllocError, Global};
 use std::collections::BTreeMap;
@@ -134,6 +136,30 @@ pub fn push_body(alloc: Global, text: &mut String, body: Option<&Value>) -> Resu
     }
 }
 
+/// Appends the texts as the elements of an array, the end of the array, and a comma.
+fn push_elements(alloc: Global, text: &mut String, elements: &[&str]) -> Result<(), AllocError>
+    ensures { OnOk result (string_bytes text.new ≡ string_bytes text.old
+        ++ (names_left false (texts_in elements.now) ++ codes ",")) }
+{
+    for k in 0..elements.len() {
+        push_if(text, k > 0, ",")?;
+        push_quoted(alloc, text, elements[k])?;
+    }
+    text.push_str("],")
+}
+
+/// Appends the member `dependsOn`, if there are names.
+pub fn push_names(alloc: Global, text: &mut String, names: &[&str]) -> Result<(), AllocError>
+    ensures { OnOk result (string_bytes text.new ≡ string_bytes text.old
+        ++ member_part (codes "\"dependsOn\":") (names_value (texts_in names.now))) }
+{
+    if names.is_empty() {
+        return Ok(());
+    }
+    text.push_str("\"dependsOn\":[")?;
+    push_elements(alloc, text, names)
+}
+
 /// Appends a header, with a comma first unless it is the first header.
 pub(crate) fn push_header(
     alloc: Global,
@@ -184,4 +210,24 @@ pub fn push_headers(
     text.push_str("\"headers\":{")?;
     push_members(alloc, text, headers)?;
     text.push_str(",")
+}
+
+/// Appends the members `id`, `method` and `url` of a request, and the end of its object.
+pub fn push_request_end(
+    alloc: Global,
+    text: &mut String,
+    id: &str,
+    method: Method,
+    url: &str,
+) -> Result<(), AllocError>
+    ensures { OnOk result (string_bytes text.new ≡ string_bytes text.old
+        ++ request_end id.now method url.now) }
+{
+    text.push_str("\"id\":")?;
+    push_quoted(alloc, text, id)?;
+    text.push_str(",\"method\":\"")?;
+    text.push_str(method.name())?;
+    text.push_str("\",\"url\":")?;
+    push_quoted(alloc, text, url)?;
+    text.push_str("}")
 }

@@ -31,3 +31,11 @@ takes_body Get = false
 takes_body Patch = true
 takes_body Post = true
 takes_body Put = true
+
+-- to perform a request with the method twice has the effect of performing it once (RFC 9110, section 9.2.2)
+abbrev pub is_idempotent : Method → Bool
+is_idempotent Delete = true
+is_idempotent Get = true
+is_idempotent Patch = false
+is_idempotent Post = false
+is_idempotent Put = true

@@ -2,7 +2,7 @@
 
 ghost use Rattle.std.specs.Prelude.{◌≡◌, ℕ, MatchOption, IfSome};
 ghost use Rattle.odb_names.specs.declared.method.Method.{Method};
-ghost use Rattle.odb_names.specs.Methods.{Names, http_name, method_name, takes_body};
+ghost use Rattle.odb_names.specs.Methods.{Names, http_name, is_idempotent, method_name, takes_body};
 
 /// What a request asks for (OData JSON Format 4.01, section 19.1).
 #[derive(Clone, Copy, Debug, PartialEq, Eq, Hash)]
@@ -69,6 +69,17 @@ impl Method {
         match self {
             Method::Delete | Method::Get => false,
             Method::Patch | Method::Post | Method::Put => true,
+        }
+    }
+
+    /// Returns whether to perform a request with this method twice has the effect of performing it once: all but
+    /// `patch` and `post` (RFC 9110, section 9.2.2).
+    pub fn is_idempotent(self) -> bool
+        ensures { result ≡ is_idempotent self }
+    {
+        match self {
+            Method::Delete | Method::Get | Method::Put => true,
+            Method::Patch | Method::Post => false,
         }
     }
 }

@@ -17,7 +17,7 @@ use Rattle.odb_spans.specs.Spans.{HasBodyAt}
 use Rattle.odb_spans.specs.Parts.{HasBodyText, HaveBodiesIn, HaveBodyTexts, IsTextOf, IsValueSpan, given_json, list_of}
 use Rattle.odb_spans.specs.declared.span.Span.{Span}
 use Rattle.odb_spans.proofs.LookupLemmas.{Corresponds, get-read}
-use Rattle.odb_spans.proofs.ReadLemmas.{read-tokens}
+use Rattle.odb_spans.proofs.ReadLemmas.{nests-tokens, read-tokens}
 
 -- ---- what was read
 
@@ -55,9 +55,9 @@ member-within name (json.member k j ms) =
 
 -- ---- the body of one request
 
-given-body : (text : List ℕ) (j : json.Json) (d : Data) (span : Span) (o : Option Data) → depth j ≤ max_depth → of_json j ≡ Some d → o ≡ Some d → given (Some d) ≡ Some d → IsTextOf text span j → (request : Data) → body_of request ≡ given o → HasBodyAt text request (Some span)
+given-body : (text : List ℕ) (j : json.Json) (d : Data) (span : Span) (o : Option Data) → depth j ≤ 124 → of_json j ≡ Some d → o ≡ Some d → given (Some d) ≡ Some d → IsTextOf text span j → (request : Data) → body_of request ≡ given o → HasBodyAt text request (Some span)
 given-body text j d span o shallow reads is kept part request body =
-    (d, body ∙ ap given is ∙ kept, record { order = part.order; within = part.within; reads = (part.utf8, read-tokens _ j part.spelled shallow ∙ reads) })
+    (d, body ∙ ap given is ∙ kept, record { order = part.order; within = part.within; reads = (part.utf8, read-tokens _ j part.spelled (omega (arith, shallow)) ∙ reads); nests = nests-tokens _ j part.spelled 124 shallow })
 
 -- what was read of a value other than null is not null
 kept : (j i : json.Json) (d : Data) → given_json (Some j) ≡ Some i → of_json j ≡ Some d → (given (Some d) ≡ Some d) × (j ≡ i)
@@ -77,7 +77,7 @@ absent (json.string s) d e reads = absurd (cc (e))
 absent (json.array js) d e reads = absurd (cc (e))
 absent (json.object ms) d e reads = absurd (cc (e))
 
-body-found : (text : List ℕ) (o : Option json.Json) (p : Option Data) (span : Option Span) (request : Data) → body_of request ≡ given p → Corresponds o p None → Within max_depth o → IsValueSpan text span (given_json o) → HasBodyAt text request span
+body-found : (text : List ℕ) (o : Option json.Json) (p : Option Data) (span : Option Span) (request : Data) → body_of request ≡ given p → Corresponds o p None → Within 124 o → IsValueSpan text span (given_json o) → HasBodyAt text request span
 body-found text None p None request body same shallow is = body ∙ ap given same
 body-found text None p (Some s) request body same shallow is = absurd (cc (is.1))
 body-found text (Some j) p None request body same shallow is = body ∙ ap given same.is ∙ absent j same.value is same.read
@@ -89,7 +89,7 @@ no-body : (text : List ℕ) (span : Option Span) (request : Data) → body_of re
 no-body text None request body is = body
 no-body text (Some s) request body is = absurd (cc (is.1))
 
-body-data : (text : List ℕ) (j : json.Json) (d : Data) (span : Option Span) → depth j ≤ max_depth → of_json j ≡ Some d → HasBodyText text j span → HasBodyAt text d span
+body-data : (text : List ℕ) (j : json.Json) (d : Data) (span : Option Span) → depth j ≤ 125 → of_json j ≡ Some d → HasBodyText text j span → HasBodyAt text d span
 body-data text json.null d span shallow reads is = let same : null ≡ d = cc (reads) in no-body text span d (ap body_of (sym same)) is
 body-data text (json.boolean b) d span shallow reads is = let same : boolean b ≡ d = cc (reads) in no-body text span d (ap body_of (sym same)) is
 body-data text (json.number s) d span shallow reads is = let h = maps-to number (number_of s) d reads in no-body text span d (ap body_of h.is) is
@@ -98,7 +98,7 @@ body-data text (json.array js) d span shallow reads is = let h = maps-to array (
 body-data text (json.object ms) d span shallow reads is =
     let h = maps-to object (of_members ms no_members) d reads in
     let found = get-read (codes "body") ms h.value h.some in
-    body-found text (tree.get_member (codes "body") ms) (get_member (codes "body") h.value) span d (ap body_of h.is) found (less (members_depth ms) max_depth (tree.get_member (codes "body") ms) (omega (arith, shallow)) (member-within (codes "body") ms)) is
+    body-found text (tree.get_member (codes "body") ms) (get_member (codes "body") h.value) span d (ap body_of h.is) found (less (members_depth ms) 124 (tree.get_member (codes "body") ms) (omega (arith, shallow)) (member-within (codes "body") ms)) is
 
 -- ---- the bodies of all requests
 
@@ -121,7 +121,7 @@ none-zip : {A B : Type 0} (R : A → Option Span → Type 0) (S : B → Option S
 none-zip R S [] h = tt
 none-zip R S (s ∷ spans) h = absurd h
 
-items-data : (text : List ℕ) (js : json.Items) (ds : Items) (spans : List (Option Span)) → items_depth js ≤ max_depth → of_items js ≡ Some ds → HaveBodyTexts text (list_of js) spans → AllZip (HasBodyAt text) (doc.list_of ds) spans
+items-data : (text : List ℕ) (js : json.Items) (ds : Items) (spans : List (Option Span)) → items_depth js ≤ 125 → of_items js ≡ Some ds → HaveBodyTexts text (list_of js) spans → AllZip (HasBodyAt text) (doc.list_of ds) spans
 items-data text json.no_items ds spans shallow e have =
     let same : no_items ≡ ds = cc (e) in
     subst (λ x. AllZip (HasBodyAt text) (doc.list_of x) spans) same (none-zip (HasBodyText text) (HasBodyAt text) spans have)
@@ -137,7 +137,7 @@ listed o = unwrap_or (option_map doc.list_of (option_and_then as_array o)) []
 none-listed : (text : List ℕ) (o : Option Data) (spans : List (Option Span)) → listed o ≡ [] → HaveBodyTexts text [] spans → AllZip (HasBodyAt text) (listed o) spans
 none-listed text o spans none have = subst (λ l. AllZip (HasBodyAt text) l spans) (sym none) (none-zip (HasBodyText text) (HasBodyAt text) spans have)
 
-value-data : (text : List ℕ) (j : json.Json) (d : Data) (spans : List (Option Span)) → depth j ≤ max_depth → of_json j ≡ Some d → HaveBodiesIn text spans (Some j) → AllZip (HasBodyAt text) (listed (Some d)) spans
+value-data : (text : List ℕ) (j : json.Json) (d : Data) (spans : List (Option Span)) → depth j ≤ 126 → of_json j ≡ Some d → HaveBodiesIn text spans (Some j) → AllZip (HasBodyAt text) (listed (Some d)) spans
 value-data text json.null d spans shallow reads have = let same : null ≡ d = cc (reads) in none-listed text (Some d) spans (ap (λ x. listed (Some x)) (sym same)) have
 value-data text (json.boolean b) d spans shallow reads have = let same : boolean b ≡ d = cc (reads) in none-listed text (Some d) spans (ap (λ x. listed (Some x)) (sym same)) have
 value-data text (json.number s) d spans shallow reads have = let h = maps-to number (number_of s) d reads in none-listed text (Some d) spans (ap (λ x. listed (Some x)) h.is) have
@@ -147,7 +147,7 @@ value-data text (json.array js) d spans shallow reads have =
     let h = maps-to array (of_items js) d reads in
     subst (λ x. AllZip (HasBodyAt text) (listed (Some x)) spans) (sym h.is) (items-data text js h.value spans (omega (arith, shallow)) h.some have)
 
-found-data : (text : List ℕ) (o : Option json.Json) (p : Option Data) (spans : List (Option Span)) → Within max_depth o → Corresponds o p None → HaveBodiesIn text spans o → AllZip (HasBodyAt text) (listed p) spans
+found-data : (text : List ℕ) (o : Option json.Json) (p : Option Data) (spans : List (Option Span)) → Within 126 o → Corresponds o p None → HaveBodiesIn text spans o → AllZip (HasBodyAt text) (listed p) spans
 found-data text None p spans shallow same have = none-listed text p spans (ap listed same) have
 found-data text (Some j) p spans shallow same have = subst (λ x. AllZip (HasBodyAt text) (listed x) spans) (sym same.is) (value-data text j same.value spans shallow same.read have)
 
@@ -160,5 +160,5 @@ bodies-data text (json.array js) d spans shallow reads have = let h = maps-to ar
 bodies-data text (json.object ms) d spans shallow reads have =
     let h = maps-to object (of_members ms no_members) d reads in
     let found = get-read (codes "requests") ms h.value h.some in
-    let within = less (members_depth ms) max_depth (tree.get_member (codes "requests") ms) (omega (arith, shallow)) (member-within (codes "requests") ms) in
+    let within = less (members_depth ms) 126 (tree.get_member (codes "requests") ms) (omega (arith, shallow)) (member-within (codes "requests") ms) in
     subst (λ x. AllZip (HasBodyAt text) (elements x) spans) (sym h.is) (found-data text (tree.get_member (codes "requests") ms) (get_member (codes "requests") h.value) spans within found have)

@@ -3,6 +3,7 @@ use Rattle.std.specs.Prelude.{◌≡◌, ◌≤◌, ◌-◌, ℕ, suc, List, [],
 use Rattle.json.specs.Word.{is_space}
 use Rattle.serde_json.specs.Data.{Data}
 use Rattle.odb_doc.specs.Documents.{IsJson}
+use Rattle.odb_doc.specs.Nesting.{NestsWithin}
 use Rattle.odb_doc.specs.batch.Bodies.{body_of}
 use Rattle.odb_doc.specs.batch.Shapes.{elements}
 use Rattle.odb_spans.specs.declared.span.Span.{Span}
@@ -16,11 +17,12 @@ abbrev pub IsWithin : ℕ → Option Span → Type 0
 IsWithin len None = ⊤
 IsWithin len (Some span) = (span.start ≤ span.end) × (span.end ≤ len)
 
--- the bytes of the span are the JSON text of this value
+-- the bytes of the span are the JSON text of this value, and nest at most 124 deep
 pub record IsSpanOf (document : List ℕ) (span : Span) (d : Data) : Type 0 where
   pub order : span.start ≤ span.end
   pub within : span.end ≤ length document
   pub reads : IsJson (bytes_of document span) d
+  pub nests : NestsWithin 124 (bytes_of document span)
 
 -- the span is that of the body of the request, or there is neither
 abbrev pub HasBodyAt : List ℕ → Data → Option Span → Type 0

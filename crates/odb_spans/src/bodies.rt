@@ -88,9 +88,9 @@ fn bodies_within(
 /// one (OData JSON Format 4.01, section 19.1, `body`).
 ///
 /// For a document that [`odb_doc::parse`] and [`odb_doc::Batch::read`] accept, the bodies are those of
-/// the requests of the batch, in order: [`odb_doc::parse`] reads the bytes of a span as the body, and
-/// with `null` in their place that request has no body, while the others have theirs. A span has no
-/// blank at either end. A body that is `null` is treated as absent. If a name repeats in an object, its
+/// the requests of the batch, in order: [`odb_doc::parse`] reads the bytes of a span as the body, which
+/// nests at most 124 deep, and with `null` in their place that request has no body, while the others have
+/// theirs. A span has no blank at either end. A body that is `null` is treated as absent. If a name repeats in an object, its
 /// last member counts. Of any other bytes, too, each span lies within the document.
 ///
 /// Costs O(n) for a document of n bytes.

@@ -2,17 +2,10 @@
 use Rattle.std.specs.Prelude.{ℕ, List, ◌++◌, map, nat_lt, drop, codes, Bool}
 use Rattle.serde_json.specs.Data.{string}
 use Rattle.serde_json.specs.View.{items_of}
-use Rattle.serde_json.specs.Written.{compact_text, items_text, members_text}
-use Rattle.odb_names.specs.Methods.{method_name}
-use Rattle.odb_names.specs.declared.method.Method.{Method}
+use Rattle.serde_json.specs.Written.{items_text, members_text}
 use Rattle.odb_doc.specs.canonical.Canonical.{request_value, header_members}
 use Rattle.odb_doc.specs.Headers.{Header}
 use Rattle.odb_doc.specs.batch.Records.{Record}
-
--- the last three members, and the end of the object
-abbrev pub end_part : List ℕ → Method → List ℕ → List ℕ
-end_part id method url =
-    codes "\"id\":" ++ (compact_text (string id) ++ (codes ",\"method\":\"" ++ (method_name method ++ (codes "\",\"url\":" ++ (compact_text (string url) ++ codes "}")))))
 
 -- the text of the names from one of them on, and the end of their array
 abbrev pub names_left : Bool → List (List ℕ) → List ℕ

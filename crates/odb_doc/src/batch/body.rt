@@ -33,7 +33,11 @@ fn is_of_kind(kind: BodyKind, body: &Value) -> bool
 }
 
 /// Returns whether the media type in the headers allows the body.
-fn is_allowed(alloc: Global, headers: &[Header<'_>], body: &Value) -> Result<bool, AllocError>
+pub(crate) fn is_allowed(
+    alloc: Global,
+    headers: &[Header<'_>],
+    body: &Value,
+) -> Result<bool, AllocError>
     ensures { IfOk result (λ fit. IsTrue fit ↔ AllowsBody (content_type (map lent_header headers.now))
         (view body.now)) }
 {

@@ -35,7 +35,7 @@ fn all_texts<'a>(alloc: Global, elements: &'a [Value]) -> Result<Names<'a>, Brok
 }
 
 /// Returns the strings in `dependsOn`, or F17 if it is not an array of strings.
-fn listed_names<'a>(
+pub(crate) fn listed_names<'a>(
     alloc: Global,
     member: Option<&'a Value>,
 ) -> Result<Names<'a>, Broken<RequestRule>>

@@ -1,6 +1,6 @@
 //! The headers of a request, lent from its document, in byte order of their names in lower case.
 
-ghost use Rattle.std.specs.Prelude.{◌≡◌, ◌++◌, ◌∷◌, [], true, false, None, Some, map, option_map, IfOk, IfErr, OnOk, bytes_eq, codes, string_bytes};
+ghost use Rattle.std.specs.Prelude.{◌≡◌, ◌↔◌, ◌++◌, ◌∷◌, [], true, false, IsTrue, None, Some, map, option_map, IfOk, IfErr, OnOk, bytes_eq, codes, string_bytes};
 ghost use Rattle.std.specs.Cmp.Lexicographic.{slice_cmp};
 ghost use Rattle.std.specs.List.{IsDistinct};
 ghost use Rattle.std.specs.List.Sorted.{IsPermutation, IsSorted};
@@ -11,10 +11,11 @@ ghost use Rattle.serde_json.specs.Data.{Data};
 ghost use Rattle.serde_json.specs.Find.{as_str};
 ghost use Rattle.serde_json.specs.View.{view, members_view};
 ghost use Rattle.odb_doc.specs.declared.fault.RequestRule.TheVariants as rules;
-ghost use Rattle.odb_doc.specs.BrokenRules.{OnRule, OnlyIf, BreaksNoneBefore, IsLeastRequestRule};
+ghost use Rattle.odb_doc.specs.BrokenRules.{OnRule, OnlyIf, BreaksNoneBefore, IsHeadersRule, IsLeastRequestRule};
 ghost use Rattle.odb_doc.specs.batch.Bodies.{content_type};
 ghost use Rattle.odb_doc.specs.batch.MembersFound.{AreMembersOf};
 ghost use Rattle.odb_doc.specs.HeaderMaps.{HasUnordered, by_name, written};
+ghost use Rattle.odb_doc.specs.Members as spec;
 ghost use Rattle.odb_doc.specs.Headers.{HasHeaders, IsInOrder, lent_header, text_members};
 
 use crate::batch::members::Members;
@@ -22,7 +23,7 @@ use crate::broken::Broken;
 use crate::fault::RequestRule;
 use crate::member::given;
 use serde_json::{Map, Value};
-use std::alloc::Global;
+use std::alloc::{AllocError, Global};
 use std::cmp::Ordering;
 
 /// A name as the document has it, and its value.
@@ -135,6 +136,8 @@ pub(crate) fn headers_of<'a>(
         → HasHeaders d (map lent_header headers.items)) }
     ensures first { IfErr result (λ broken. (d : Data) → AreMembersOf d members.now
         → BreaksNoneBefore rules.BadHeaders d → OnRule (IsLeastRequestRule d) broken) }
+    ensures none { IfErr result (λ broken. (d : Data) → AreMembersOf d members.now
+        → OnRule (IsHeadersRule d) broken) }
 {
     let Some(value) = given(members.headers) else {
         return Ok(Vec::new(alloc));
@@ -144,6 +147,36 @@ pub(crate) fn headers_of<'a>(
     };
     let texts = texts_of(alloc, object)?;
     in_order(texts)
+}
+
+/// Returns the names of the members of an object, each as a header without a value.
+fn names_of<'a>(
+    alloc: Global,
+    members: &'a Map<String, Value>,
+) -> Result<Vec<Header<'a>>, AllocError>
+    ensures { IfOk result (λ found. keys_of (map lent_header found.items)
+        ≡ map str_to_ascii_lowercase (spec.names_of (members_view members.now.entries))) }
+{
+    let mut found = Vec::with_capacity(alloc, members.len())?;
+    for (name, _) in members.iter() {
+        found.push((name.as_str(), ""))?;
+    }
+    Ok(found)
+}
+
+/// Returns whether two names of an object differ in ASCII case alone.
+pub(crate) fn has_name_twice(
+    alloc: Global,
+    members: &Map<String, Value>,
+) -> Result<bool, AllocError>
+    ensures { IfOk result (λ twice. IsTrue twice ↔ ¬ IsDistinct bytes_eq
+        (map str_to_ascii_lowercase (spec.names_of (members_view members.now.entries)))) }
+{
+    match in_order(names_of(alloc, members)?) {
+        Ok(_) => Ok(false),
+        Err(Broken::Rule(_)) => Ok(true),
+        Err(Broken::OutOfMemory) => Err(AllocError),
+    }
 }
 
 /// Returns whether the name of a header is `content-type`, in any case of its letters.

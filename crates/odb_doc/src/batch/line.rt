@@ -25,7 +25,7 @@ pub(crate) struct RequestLine<'a> {
 }
 
 /// Returns the identifier at `id`.
-fn id_of<'a>(members: &Members<'a>) -> Option<&'a str>
+pub(crate) fn id_of<'a>(members: &Members<'a>) -> Option<&'a str>
     ensures { (d : Data) → AreMembersOf d members.now → MatchOption result
         ((id : List ℕ) → ¬ HasId d id) (λ id. HasId d id.now) }
 {
@@ -34,7 +34,7 @@ fn id_of<'a>(members: &Members<'a>) -> Option<&'a str>
 }
 
 /// Returns the method that `method` names.
-fn method_of(members: &Members<'_>) -> Option<Method>
+pub(crate) fn method_of(members: &Members<'_>) -> Option<Method>
     ensures { (d : Data) → AreMembersOf d members.now → MatchOption result
         ((method : Method) → ¬ HasMethod d method) (HasMethod d) }
 {
@@ -42,7 +42,7 @@ fn method_of(members: &Members<'_>) -> Option<Method>
 }
 
 /// Returns the group at `atomicityGroup`, if any, or F16.
-fn group_of<'a>(members: &Members<'a>) -> Result<Option<&'a str>, RequestRule>
+pub(crate) fn group_of<'a>(members: &Members<'a>) -> Result<Option<&'a str>, RequestRule>
     ensures has { IfOk result (λ group. (d : Data) → AreMembersOf d members.now
         → HasGroup d (option_map (λ text. text.now) group)) }
     ensures rule { IfErr result (λ rule. rule ≡ rules.BadGroup) }

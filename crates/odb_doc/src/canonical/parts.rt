@@ -4,44 +4,18 @@ ghost use Rattle.std.specs.Prelude.{◌≡◌, ◌<◌, ◌+◌, ◌++◌, ◌�
 ghost use Rattle.serde_json.specs.Data.{object, string};
 ghost use Rattle.serde_json.specs.Written.{comma_if, compact_text};
 ghost use Rattle.odb_doc.specs.batch.Batches.{records};
-ghost use Rattle.odb_doc.specs.canonical.Canonical.{HasWholeBodies, header_members, headers_value, names_value};
+ghost use Rattle.odb_doc.specs.canonical.Canonical.{HasWholeBodies, header_members, headers_value};
 ghost use Rattle.odb_doc.specs.batch.Records.{record_of};
 ghost use Rattle.odb_doc.specs.Headers.{lent_header};
 ghost use Rattle.odb_doc.specs.canonical.CanonicalParts as canonical_parts;
 ghost use Rattle.odb_doc.specs.Texts.{member_part};
-ghost use Rattle.odb_doc.specs.Names.{texts_in};
 
 use crate::batch::Batch;
 use crate::batch::headers::Header;
 use crate::batch::media_type::has_uppercase;
 use crate::batch::request::Request;
-use crate::text::{push_body, push_group, push_header, push_if, push_open, push_quoted};
-use odb_names::Method;
+use crate::text::{push_body, push_group, push_header, push_names, push_open, push_request_end};
 use std::alloc::{AllocError, Global};
-
-/// Appends the texts as the elements of an array, the end of the array, and a comma.
-fn push_elements(alloc: Global, text: &mut String, elements: &[&str]) -> Result<(), AllocError>
-    ensures { OnOk result (string_bytes text.new ≡ string_bytes text.old
-        ++ (canonical_parts.names_left false (texts_in elements.now) ++ codes ",")) }
-{
-    for k in 0..elements.len() {
-        push_if(text, k > 0, ",")?;
-        push_quoted(alloc, text, elements[k])?;
-    }
-    text.push_str("],")
-}
-
-/// Appends the member `dependsOn`, if there are names.
-fn push_names(alloc: Global, text: &mut String, names: &[&str]) -> Result<(), AllocError>
-    ensures { OnOk result (string_bytes text.new ≡ string_bytes text.old
-        ++ member_part (codes "\"dependsOn\":") (names_value (texts_in names.now))) }
-{
-    if names.is_empty() {
-        return Ok(());
-    }
-    text.push_str("\"dependsOn\":[")?;
-    push_elements(alloc, text, names)
-}
 
 /// Appends a header with its name in lower case, with a comma first unless it is the first header.
 fn push_lent(
@@ -103,26 +77,6 @@ fn push_headers(alloc: Global, text: &mut String, headers: &[Header<'_>]) -> Res
     text.push_str(",")
 }
 
-/// Appends the members `id`, `method` and `url`, and the end of the request.
-fn push_end(
-    alloc: Global,
-    text: &mut String,
-    id: &str,
-    method: Method,
-    url: &str,
-) -> Result<(), AllocError>
-    ensures { OnOk result (string_bytes text.new ≡ string_bytes text.old
-        ++ canonical_parts.end_part id.now method url.now) }
-{
-    text.push_str("\"id\":")?;
-    push_quoted(alloc, text, id)?;
-    text.push_str(",\"method\":\"")?;
-    text.push_str(method.name())?;
-    text.push_str("\",\"url\":")?;
-    push_quoted(alloc, text, url)?;
-    text.push_str("}")
-}
-
 /// Appends request `i`, with a comma first unless it is the first request.
 pub(crate) fn push_request(
     alloc: Global,
@@ -141,5 +95,5 @@ pub(crate) fn push_request(
     push_body(alloc, text, request.body)?;
     push_names(alloc, text, request.names.as_slice())?;
     push_headers(alloc, text, request.headers.as_slice())?;
-    push_end(alloc, text, request.id, request.method, request.url)
+    push_request_end(alloc, text, request.id, request.method, request.url)
 }

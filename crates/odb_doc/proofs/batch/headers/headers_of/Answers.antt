@@ -3,7 +3,7 @@ use Rattle.std.proofs.lemmas.Result.{IfErr-weaker, IfOk-weaker}
 use Rattle.serde_json.specs.Find.{get}
 use Rattle.odb_doc.specs.Headers.{lent_header, text_members, text_members_in}
 use Rattle.odb_doc.specs.Members.{given}
-use Rattle.odb_doc.proofs.LentLemmas.{HoldsHeaders-lent, HoldsHeaders-none, twice_least}
+use Rattle.odb_doc.proofs.LentLemmas.{HoldsHeaders-lent, HoldsHeaders-none, twice_least, twice_rule}
 use Rattle.odb_doc.proofs.RuleLemmas.{headers_sound}
 use Rattle.odb_doc.proofs.batch.headers.headers_of.Goals as goal
 
@@ -32,3 +32,9 @@ returns-clause-first c =
     IfErr-weaker c.in_order.result _ _ (λ broken is. λ d are below.
     let listed = ap text_members_in (sym (c.in-Some.ensures ∙ ap given are.headers)) ∙ ap (option_and_then text_members) (sym c.in-Some-as_object.ensures) ∙ c.in_ok-texts.ensures.texts in
     twice_least d c.in_ok-texts.texts.items broken listed below is) c.in_order.ensures.twice
+
+pub returns-clause-none : goal.returns-clause-none
+returns-clause-none c =
+    IfErr-weaker c.in_order.result _ _ (λ broken is. λ d are.
+    let listed = ap text_members_in (sym (c.in-Some.ensures ∙ ap given are.headers)) ∙ ap (option_and_then text_members) (sym c.in-Some-as_object.ensures) ∙ c.in_ok-texts.ensures.texts in
+    twice_rule d c.in_ok-texts.texts.items broken listed is) c.in_order.ensures.twice

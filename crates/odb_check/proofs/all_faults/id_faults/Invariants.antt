@@ -1,0 +1,7 @@
+use Rattle.odb_check.specs.PhaseFaults.{ListsPhase}
+use Rattle.odb_check.specs.Requests.{requests}
+use Rattle.odb_check.proofs.all_faults.id_faults.Given as goal
+
+-- the faults of the requests so far
+abbrev pub invariant-loop-i : goal.invariant-loop-i
+invariant-loop-i l = ListsPhase 3 (requests l.tables) (l.i, 0) l.faults.items
