@@ -7,3 +7,5 @@ pub mod LawLemmas
 pub mod DependsLemmas
 pub mod TextLemmas
 pub mod PlanLemmas
+pub mod ReadLemmas
+pub mod SoundLemmas

@@ -10,18 +10,18 @@ use Rattle.odb_doc.proofs.ElementLemmas.{drop_at}
 use Rattle.odb_doc.specs.batch.Records.{Record, ReadsAs}
 use Rattle.odb_doc.specs.batch.Shapes.{elements}
 use Rattle.odb_doc.specs.canonical.Canonical.{headers_value, names_value}
-use Rattle.odb_doc.specs.Texts.{member_part}
+use Rattle.odb_doc.specs.Texts.{member_part, request_end}
 use Rattle.odb_reply.specs.BodyTexts.{text_at}
 use Rattle.odb_rest.specs.declared.rest.Rest.{Rest}
 use Rattle.odb_rest.specs.Marks.{AreTexts, IsTextIn, texts_left, url_in}
 use Rattle.odb_rest.specs.Rests.{is_kept, is_kept_name, kept, rest_record, select, urls}
-use Rattle.odb_rest.specs.Texts.{bodies_in, body_part, end_part, joined, request_text, text_of, text_of_request}
+use Rattle.odb_rest.specs.Texts.{bodies_in, body_part, joined, request_text, text_of, text_of_request}
 use Rattle.odb_spans.specs.Spans.{HasBodyAt, bytes_of}
 use Rattle.odb_spans.specs.declared.span.Span.{Span}
 
 -- the text of a request of the rest by its parts
 pub request_parts : (rs : List Record) (units : List Bool) (url : Option (List ℕ)) (r : Record) (body : Option (List ℕ)) → request_text (rest_record rs units url r) body
-    ≡ codes "{" ++ (member_part (codes "\"atomicityGroup\":") (option_map string r.group) ++ (body_part body ++ (member_part (codes "\"dependsOn\":") (names_value (filter (is_kept_name rs units) r.names)) ++ (member_part (codes "\"headers\":") (headers_value r.headers) ++ end_part r.id r.method (url_in url r)))))
+    ≡ codes "{" ++ (member_part (codes "\"atomicityGroup\":") (option_map string r.group) ++ (body_part body ++ (member_part (codes "\"dependsOn\":") (names_value (filter (is_kept_name rs units) r.names)) ++ (member_part (codes "\"headers\":") (headers_value r.headers) ++ request_end r.id r.method (url_in url r)))))
 request_parts rs units None r body = refl
 request_parts rs units (Some url) r body = refl
 

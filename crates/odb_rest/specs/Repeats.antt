@@ -1,8 +1,8 @@
 -- Which requests of a batch may be sent again, by the statuses of their responses (RFC 9110, sections 9.2.2 and 15.6; RFC
 -- 6585, section 4; OData JSON Format 4.01, section 19.4).
-use Rattle.std.specs.Prelude.{ℕ, ◌==◌, ◌||◌, ◌&&◌, Bool, true, false, List, Option, Some, None, slice_get, slice_index}
+use Rattle.std.specs.Prelude.{ℕ, ◌==◌, ◌||◌, ◌&&◌, Bool, false, List, Option, Some, None, slice_get, slice_index}
 use Rattle.odb_names.specs.declared.method.Method.{Method}
-use Rattle.odb_names.specs.declared.method.Method.TheVariants.{Delete, Get, Patch, Post, Put}
+use Rattle.odb_names.specs.Methods.{is_idempotent}
 use Rattle.odb_doc.specs.Statuses.{is_success}
 use Rattle.odb_doc.specs.batch.Records.{Record}
 
@@ -13,14 +13,6 @@ is_unperformed status = (status == 424) || (status == 429) || (status == 503)
 -- nobody knows whether it was performed: 408 Request Timeout, 502 Bad Gateway, 504 Gateway Timeout
 abbrev pub is_uncertain : ℕ → Bool
 is_uncertain status = (status == 408) || (status == 502) || (status == 504)
-
--- to perform it twice has the effect of performing it once
-abbrev pub is_idempotent : Method → Bool
-is_idempotent Delete = true
-is_idempotent Get = true
-is_idempotent Patch = false
-is_idempotent Post = false
-is_idempotent Put = true
 
 -- A request with this method that was answered with this status may be sent again. A success counts as undone, since the
 -- rest has it only in a group that has not succeeded.

@@ -3,13 +3,11 @@
 use Rattle.std.specs.Prelude.{◌≡◌, ◌++◌, ℕ, Bool, true, false, List, [], ◌∷◌, map, Option, Some, None, option_map, codes}
 use Rattle.std.specs.List.{AllZip}
 use Rattle.serde_json.specs.Data.{Data, string}
-use Rattle.serde_json.specs.Written.{compact_text, comma_if}
-use Rattle.odb_names.specs.Methods.{method_name}
-use Rattle.odb_names.specs.declared.method.Method.{Method}
+use Rattle.serde_json.specs.Written.{comma_if}
 use Rattle.odb_doc.specs.batch.Records.{Record}
 use Rattle.odb_doc.specs.batch.Shapes.{elements}
 use Rattle.odb_doc.specs.canonical.Canonical.{headers_value, names_value}
-use Rattle.odb_doc.specs.Texts.{member_part}
+use Rattle.odb_doc.specs.Texts.{member_part, request_end}
 use Rattle.odb_reply.specs.BodyTexts.{text_at}
 use Rattle.odb_rest.specs.declared.rest.Rest.{Rest}
 use Rattle.odb_rest.specs.Rests.{is_kept, kept, rest_record, select, url_at, urls}
@@ -21,15 +19,10 @@ abbrev pub body_part : Option (List ℕ) → List ℕ
 body_part None = []
 body_part (Some bytes) = codes "\"body\":" ++ (bytes ++ codes ",")
 
--- the last three members, and the end of the object
-abbrev pub end_part : List ℕ → Method → List ℕ → List ℕ
-end_part id method url =
-    codes "\"id\":" ++ (compact_text (string id) ++ (codes ",\"method\":\"" ++ (method_name method ++ (codes "\",\"url\":" ++ (compact_text (string url) ++ codes "}")))))
-
 -- a request with a body as it was written
 abbrev pub request_text : Record → Option (List ℕ) → List ℕ
 request_text r body =
-    codes "{" ++ (member_part (codes "\"atomicityGroup\":") (option_map string r.group) ++ (body_part body ++ (member_part (codes "\"dependsOn\":") (names_value r.names) ++ (member_part (codes "\"headers\":") (headers_value r.headers) ++ end_part r.id r.method r.url))))
+    codes "{" ++ (member_part (codes "\"atomicityGroup\":") (option_map string r.group) ++ (body_part body ++ (member_part (codes "\"dependsOn\":") (names_value r.names) ++ (member_part (codes "\"headers\":") (headers_value r.headers) ++ request_end r.id r.method r.url))))
 
 -- the request at a position as the rest has it
 abbrev pub text_of_request : List Record → List Bool → List (Option (List ℕ)) → List (Option (List ℕ)) → ℕ → Record → List ℕ

@@ -1,17 +1,24 @@
 //! What is true of the rest of every batch (OData JSON Format 4.01, sections 19.1 and 19.4).
 //!
 //! The laws are clauses of functions that change nothing. They speak of the words that the clauses of
-//! [`crate::rest_of`] and of [`odb_reply::match_responses`] use.
+//! [`crate::rest_of`], of [`crate::rest_text`] and of [`odb_reply::match_responses`] use.
 
-ghost use Rattle.std.specs.Prelude.{◌≡◌, ◌↔◌, [], ℕ, List, Option};
+ghost use Rattle.std.specs.Prelude.{◌≡◌, ◌↔◌, ◌++◌, [], ℕ, List, Option, Some, codes};
+ghost use Rattle.serde_json.specs.Data.{Data};
+ghost use Rattle.serde_json.specs.Read.{read};
 ghost use Rattle.odb_check.specs.LeastNameFault.{HasGoodNames};
+ghost use Rattle.odb_doc.specs.batch.LeastFault.{IsWellShaped};
 ghost use Rattle.odb_doc.specs.batch.Records.{Record};
+ghost use Rattle.odb_doc.specs.canonical.Canonical.{canonical_value};
+ghost use Rattle.odb_doc.specs.canonical.CanonicalLaws.{IsDocumentOf};
 ghost use Rattle.odb_reply.specs.Fits.{Fits, IsTableOf};
 ghost use Rattle.odb_reply.specs.ResponseDocuments.{Entry};
 ghost use Rattle.odb_rest.specs.declared.rest.Rest.{Rest};
 ghost use Rattle.odb_rest.specs.Laws.{HasSucceeded, IsPartOfPlan, MayBeSent};
 ghost use Rattle.odb_rest.specs.Rests.{IsRestOf, kept, records_in};
+ghost use Rattle.odb_rest.specs.Texts.{IsTextOf};
 ghost use Rattle.odb_rest.specs.Units.{IsDone, IsInRest, IsLeftOut};
+ghost use Rattle.odb_send.specs.Parts.{IsBatchIn};
 
 /// The names of a rest fit together, so that [`odb_check::check`] returns a plan of it. That plan is the plan of the
 /// batch over the requests in the rest: they have their order, their units, and those of their dependencies that are
@@ -43,3 +50,24 @@ pub fn every_unit()
         → HasGoodNames batch → Fits batch responses → IsTableOf batch responses places statuses
         → (u : ℕ) → MayBeSent batch statuses u → IsInRest batch statuses u }
 {}
+
+/// What the text of a rest is read as, whatever numbers its bodies hold (OData JSON Format 4.01, section 19.1).
+///
+/// What `serde_json` reads from the text, also with a newline at its end, is the canonical value of the requests of
+/// the rest. So each body is the value that the document of the batch has for it. If that document has no fault of
+/// shape, the text has none, and it is the batch of these requests. [`every_rest`] says of their names that they fit
+/// together, so that [`odb_check::check`] returns a plan of what is read.
+pub fn every_text()
+    ensures value { (document : List ℕ) (d : Data) (batch : List Record) (rest : Rest) (text : List ℕ)
+        → IsBatchIn document d batch → IsTextOf document d batch rest text
+        → read text ≡ Some (canonical_value (records_in batch rest)) }
+    ensures line { (document : List ℕ) (d : Data) (batch : List Record) (rest : Rest) (text : List ℕ)
+        → IsBatchIn document d batch → IsTextOf document d batch rest text
+        → read (text ++ codes "\n") ≡ Some (canonical_value (records_in batch rest)) }
+    ensures document { (document : List ℕ) (d : Data) (batch : List Record) (statuses : List ℕ)
+        (locations : ℕ → Option (List ℕ)) (rest : Rest) (text : List ℕ)
+        → IsBatchIn document d batch → IsWellShaped d → IsRestOf batch statuses locations rest
+        → IsTextOf document d batch rest text → IsDocumentOf text (records_in batch rest) }
+{
+    odb_names::laws::one_reading();
+}

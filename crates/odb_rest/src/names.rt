@@ -1,19 +1,18 @@
 //! The names in `dependsOn` that are in the rest.
 
-ghost use Rattle.std.specs.Prelude.{◌≡◌, ◌<◌, ◌++◌, false, codes, length, string_bytes, IfOk, OnOk};
+ghost use Rattle.std.specs.Prelude.{◌≡◌, ◌<◌, ◌++◌, codes, length, string_bytes, IfOk, OnOk};
 ghost use Rattle.std.specs.List.{filter};
 ghost use Rattle.odb_check.specs.Plans.{plan_records};
 ghost use Rattle.odb_check.specs.Positions.{names_at};
 ghost use Rattle.odb_check.specs.Units as all;
 ghost use Rattle.odb_doc.specs.canonical.Canonical.{names_value};
-ghost use Rattle.odb_doc.specs.canonical.CanonicalParts.{names_left};
 ghost use Rattle.odb_doc.specs.Names.{texts_in};
 ghost use Rattle.odb_doc.specs.Texts.{member_part};
 ghost use Rattle.odb_rest.specs.Rests.{is_kept_name};
 
 use crate::units::is_marked;
 use odb_check::Plan;
-use odb_doc::text::{push_if, push_quoted};
+use odb_doc::text::push_names;
 use std::alloc::{AllocError, Global};
 
 /// Returns the names in `dependsOn` of request `i` that are in the rest.
@@ -38,30 +37,6 @@ fn kept_names<'b>(
         }
     }
     Ok(found)
-}
-
-/// Appends the texts as the elements of an array, the end of the array, and a comma.
-fn push_elements(alloc: Global, text: &mut String, elements: &[&str]) -> Result<(), AllocError>
-    ensures { OnOk result (string_bytes text.new ≡ string_bytes text.old
-        ++ (names_left false (texts_in elements.now) ++ codes ",")) }
-{
-    for k in 0..elements.len() {
-        push_if(text, k > 0, ",")?;
-        push_quoted(alloc, text, elements[k])?;
-    }
-    text.push_str("],")
-}
-
-/// Appends the member `dependsOn`, if there are names.
-fn push_names(alloc: Global, text: &mut String, names: &[&str]) -> Result<(), AllocError>
-    ensures { OnOk result (string_bytes text.new ≡ string_bytes text.old
-        ++ member_part (codes "\"dependsOn\":") (names_value (texts_in names.now))) }
-{
-    if names.is_empty() {
-        return Ok(());
-    }
-    text.push_str("\"dependsOn\":[")?;
-    push_elements(alloc, text, names)
 }
 
 /// Appends the member `dependsOn` of request `i` as the rest has it.

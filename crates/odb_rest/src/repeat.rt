@@ -20,19 +20,9 @@ fn is_uncertain(status: u16) -> bool
     status == 408 || status == 502 || status == 504
 }
 
-/// Returns whether to perform a request with the method twice has the effect of performing it once.
-fn is_idempotent(method: Method) -> bool
-    ensures { result ≡ repeats.is_idempotent method }
-{
-    match method {
-        Method::Delete | Method::Get | Method::Put => true,
-        Method::Patch | Method::Post => false,
-    }
-}
-
 /// Returns whether a request with the method that was answered with the status may be sent again.
 pub(crate) fn may_repeat(method: Method, status: u16) -> bool
     ensures { result ≡ repeats.may_repeat method status }
 {
-    is_success(status) || is_unperformed(status) || (is_uncertain(status) && is_idempotent(method))
+    is_success(status) || is_unperformed(status) || (is_uncertain(status) && method.is_idempotent())
 }

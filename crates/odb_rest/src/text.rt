@@ -20,8 +20,7 @@ use crate::rest::Rest;
 use crate::urls::is_kept;
 use odb_check::Plan;
 use odb_doc::Request;
-use odb_doc::text::{push_group, push_open, push_quoted};
-use odb_names::Method;
+use odb_doc::text::{push_group, push_open, push_request_end};
 use odb_spans::{Span, bodies_in};
 use std::alloc::{AllocError, Global};
 
@@ -53,26 +52,6 @@ fn push_headers(alloc: Global, text: &mut String, request: &Request<'_>) -> Resu
     text.push_str("\"headers\":")?;
     request.push_headers(alloc, text)?;
     text.push_str(",")
-}
-
-/// Appends the members `id`, `method` and `url`, and the end of the request.
-fn push_end(
-    alloc: Global,
-    text: &mut String,
-    id: &str,
-    method: Method,
-    url: &str,
-) -> Result<(), AllocError>
-    ensures { OnOk result (string_bytes text.new ≡ string_bytes text.old
-        ++ texts.end_part id.now method url.now) }
-{
-    text.push_str("\"id\":")?;
-    push_quoted(alloc, text, id)?;
-    text.push_str(",\"method\":\"")?;
-    text.push_str(method.name())?;
-    text.push_str("\",\"url\":")?;
-    push_quoted(alloc, text, url)?;
-    text.push_str("}")
 }
 
 /// Returns the URL of request `i` in the rest.
@@ -112,7 +91,7 @@ fn push_request(
     push_body(text, document, body)?;
     push_kept_names(alloc, text, plan, &rest.kept, i)?;
     push_headers(alloc, text, request)?;
-    push_end(
+    push_request_end(
         alloc,
         text,
         request.id,
@@ -159,6 +138,9 @@ fn push_requests(
 
 /// Returns the text of the rest of a batch (OData JSON Format 4.01, section 19.1): its canonical text, in which
 /// each body is the bytes that the document has. So a number such as `9.990` stays as it was written.
+///
+/// What `serde_json` reads from the text is the rest as a batch, and unless the text is too long for a document the
+/// check accepts it ([`crate::laws::every_text`]).
 ///
 /// `document` is the document of the batch, `plan` its plan and `rest` its rest. Takes O(n) for documents of n
 /// bytes and a text of n bytes. Allocates the text, where the bodies lie, and one list of names or one string with

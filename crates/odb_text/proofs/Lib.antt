@@ -3,3 +3,9 @@ mod RowLemmas
 mod ShownLemmas
 mod ResultLemmas
 mod FullPlanLemmas
+mod FaultLemmas
+mod JsonLemmas
+mod SamePlanLemmas
+mod PlanTextLemmas
+mod QuotedLemmas
+mod ArrowLemmas

@@ -30,11 +30,11 @@ counts-parts requests groups = simp append_assoc
 -- ---- arrays, element by element
 
 -- the elements without the bracket that closes them
-abbrev opened : Bool → List Data → List ℕ
+abbrev pub opened : Bool → List Data → List ℕ
 opened later [] = []
 opened later (d ∷ ds) = comma_if later ++ (compact_text d ++ opened true ds)
 
-closed : (later : Bool) (ds : List Data) → items_text later (items_of ds) ≡ opened later ds ++ codes "]"
+pub closed : (later : Bool) (ds : List Data) → items_text later (items_of ds) ≡ opened later ds ++ codes "]"
 closed later [] = refl
 closed later (d ∷ ds) = rw (closed true ds) (simp append_assoc)
 
@@ -42,7 +42,7 @@ one_more : (ds : List Data) (d : Data) → opened true (ds ++ d ∷ []) ≡ open
 one_more [] d = simp append-nil
 one_more (x ∷ ds) d = rw (one_more ds d) (simp append_assoc)
 
-last_one : (ds : List Data) (d : Data) → opened false (ds ++ d ∷ []) ≡ opened false ds ++ (comma_if (nat_lt 0 (length ds)) ++ compact_text d)
+pub last_one : (ds : List Data) (d : Data) → opened false (ds ++ d ∷ []) ≡ opened false ds ++ (comma_if (nat_lt 0 (length ds)) ++ compact_text d)
 last_one [] d = simp append-nil
 last_one (x ∷ ds) d =
     let later : nat_lt 0 (suc (length ds)) ≡ true = lt-ltb 0 (suc (length ds)) (omega arith) in

@@ -6,5 +6,6 @@ pub mod Shown
 pub mod Results
 pub mod FullPlans
 pub mod Traces
+pub mod SamePlans
 -- What serves invariants and private clauses alone: the results as JSON by their parts.
 pub mod ResultParts

@@ -6,6 +6,7 @@ use Rattle.odb_check.specs.Positions.{id_at}
 use Rattle.odb_check.specs.Texts.{newline}
 use Rattle.odb_sched.specs.run.State.{State}
 use Rattle.odb_reply.specs.Responses.{response_text}
+use Rattle.odb_doc.specs.Refusals.{Printed}
 use Rattle.odb_doc.specs.batch.Records.{Record}
 use Rattle.odb_doc.specs.declared.fault.Place.{Place}
 use Rattle.odb_doc.specs.declared.fault.Place.TheVariants.{Batch, Request, Outcomes, Outcome, Responses, Response, Events, Event}
@@ -23,6 +24,11 @@ place_text (Event at) = codes "/events/" ++ decimal at
 -- `fault CODE NAME PLACE`
 abbrev pub fault_line : List ℕ → List ℕ → Place → List ℕ
 fault_line code name place = codes "fault " ++ code ++ codes " " ++ name ++ codes " " ++ place_text place ++ newline ∷ []
+
+-- a line for each fault
+abbrev pub fault_lines : List Printed → List ℕ
+fault_lines [] = []
+fault_lines (refusal ∷ refusals) = fault_line refusal.code refusal.name refusal.place ++ fault_lines refusals
 
 -- `ok N requests M groups`
 abbrev pub accepted_line : ℕ → ℕ → List ℕ

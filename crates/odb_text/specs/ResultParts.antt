@@ -1,13 +1,15 @@
 -- For invariants and private clauses: the results as JSON by their parts.
-use Rattle.std.specs.Prelude.{ℕ, ◌-◌, List, [], ◌++◌, Option, Some, None, nat_lt, decimal, codes}
+use Rattle.std.specs.Prelude.{ℕ, Bool, ◌-◌, List, [], ◌++◌, Option, Some, None, nat_lt, decimal, codes}
 use Rattle.serde_json.specs.Data.{Data, object, string}
 use Rattle.serde_json.specs.Written.{compact_text, comma_if}
 use Rattle.odb_names.specs.Methods.{http_name}
 use Rattle.odb_doc.specs.Headers.{Header}
+use Rattle.odb_doc.specs.Refusals.{Printed}
 use Rattle.odb_doc.specs.batch.Records.{Record}
 use Rattle.odb_doc.specs.canonical.Canonical.{header_members}
 use Rattle.odb_spans.specs.declared.span.Span.{Span}
 use Rattle.odb_send.specs.Parts.{url_rest}
+use Rattle.odb_text.specs.Lines.{place_text}
 
 -- a piece, and then the text of a string
 abbrev pub string_part : List ℕ → List ℕ → List ℕ
@@ -43,6 +45,11 @@ reference_part (Some id) = string_part (codes ",\"reference\":") id
 -- the members `reference`, `rest` and `url`, each with a comma first, and the end of the request
 abbrev pub url_part : Record → List ℕ
 url_part r = reference_part r.reference ++ (string_part (codes ",\"rest\":") (url_rest r) ++ (string_part (codes ",\"url\":") r.url ++ codes "}"))
+
+-- a fault of a list, with a comma first if one comes before it
+abbrev pub listed_part : Bool → Printed → List ℕ
+listed_part later refusal =
+    comma_if later ++ (string_part (codes "{\"code\":") refusal.code ++ (string_part (codes ",\"name\":") refusal.name ++ (string_part (codes ",\"place\":") (place_text refusal.place) ++ codes "}")))
 
 -- the element of an array at a position, with a comma first unless it is the first one
 unfoldable pub element : (ℕ → Data) → ℕ → List ℕ

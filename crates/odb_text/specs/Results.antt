@@ -26,6 +26,18 @@ fault_value refusal =
     put (codes "name") (string refusal.name) (
     put (codes "place") (string (place_text refusal.place)) no_members)))) no_members)
 
+-- `{"code":CODE,"name":NAME,"place":PLACE}`
+unfoldable pub listed_fault : Printed → Data
+listed_fault refusal =
+    object (
+    put (codes "code") (string refusal.code) (
+    put (codes "name") (string refusal.name) (
+    put (codes "place") (string (place_text refusal.place)) no_members)))
+
+-- `{"faults":[..]}`, in this order
+abbrev pub faults_value : List Printed → Data
+faults_value refusals = object (put (codes "faults") (array (items_of (map listed_fault refusals))) no_members)
+
 -- `{"groups":M,"requests":N}`
 abbrev pub counts_value : ℕ → ℕ → Data
 counts_value requests groups =

@@ -1,5 +1,5 @@
 -- Texts as they are shown in a drawing: at most 40 characters of each, as Graphviz shows them.
-use Rattle.std.specs.Prelude.{ℕ, List, ◌++◌, ◌==◌, if◌then◌else◌, nat_lt, chars, codes, encode_utf8, length, take}
+use Rattle.std.specs.Prelude.{◌≡◌, ℕ, Bool, true, false, List, [], ◌∷◌, ◌++◌, ◌==◌, if◌then◌else◌, nat_lt, chars, codes, encode_utf8, length, take}
 use Rattle.std.specs.List.{flat_map}
 use Rattle.serde_json.specs.Data.{string}
 use Rattle.serde_json.specs.Written.{compact_text}
@@ -18,6 +18,24 @@ unfoldable pub shown : List ℕ → List ℕ
 shown text = if nat_lt 40 (length (chars text)) then first_shown 38 text ++ codes ".." else first_shown 40 text
 
 -- A text in quotation marks, as JSON writes it. A quotation mark, a backslash and the end of a line have the same escapes in
--- DOT, and a shown text has no other character that JSON escapes. So DOT too takes it as one text, whatever is in it.
+-- DOT, and a shown text has no other character that JSON escapes. So DOT too takes it as one text, whatever is in it: that is
+-- `laws::every_label`.
 abbrev pub quoted : List ℕ → List ℕ
 quoted text = compact_text (string text)
+
+-- whether nothing is left
+abbrev pub is_nothing : List ℕ → Bool
+is_nothing [] = true
+is_nothing (byte ∷ bytes) = false
+
+-- whether the first quotation mark that no backslash escapes is the last byte; a backslash escapes the byte after it
+abbrev pub ends_last : Bool → List ℕ → Bool
+ends_last escaped [] = false
+ends_last true (byte ∷ bytes) = ends_last false bytes
+ends_last false (byte ∷ bytes) = if byte == 34 then is_nothing bytes else ends_last (byte == 92) bytes
+
+-- one string, as JSON and DOT read it: it begins with a quotation mark, and ends with the next one that is not escaped
+pub record IsOneString (text : List ℕ) : Type 0 where
+  pub rest : List ℕ
+  pub begins : text ≡ 34 ∷ rest
+  pub ends : ends_last false rest ≡ true

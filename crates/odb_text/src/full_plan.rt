@@ -7,8 +7,8 @@ ghost use Rattle.odb_text.specs.FullPlans.{full_plan_value, full_planned};
 ghost use Rattle.odb_text.specs.Results.{json_line};
 ghost use Rattle.odb_text.specs.ResultParts.{body_part, element, front_part, headers_part, reference_part, url_part};
 
-use crate::json::push_string;
 use crate::plan::{push_group, push_id, push_needs};
+use crate::results::push_string;
 use odb_check::Plan;
 use odb_doc::Request;
 use odb_doc::text::push_open;

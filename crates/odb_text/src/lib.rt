@@ -3,21 +3,25 @@
 //!
 //! A text is a function of what it shows, a plan, the statuses of a match, the steps of an execution or a
 //! fault, and every call returns it whole, or an `AllocError`. Nothing is read or written here: when which
-//! text is written, `odb_engine` decides.
+//! text is written, `odb_engine` decides. [`laws`] states what a text as JSON is read as, that the text of a plan
+//! determines the plan, and that a label of a drawing is one string.
 #![tactic(auto)]
 
 mod drawing;
+mod faults;
 mod full_plan;
-mod json;
+pub mod laws;
 mod lines;
 mod plan;
+mod results;
 mod rows;
 mod shown;
 mod trace;
 
 pub use drawing::drawing_text;
+pub use faults::{fault_lines, faults_json};
 pub use full_plan::full_plan_json;
-pub use json::{counts_json, fault_json, match_json};
 pub use lines::{accepted_line, fault_line, match_lines};
 pub use plan::plan_json;
+pub use results::{counts_json, fault_json, match_json};
 pub use trace::trace_part;

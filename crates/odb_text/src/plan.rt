@@ -9,7 +9,7 @@ ghost use Rattle.odb_check.specs.PlanGraph.{IsNeed};
 ghost use Rattle.odb_text.specs.Results.{json_line, need_values, plan_value, planned};
 ghost use Rattle.odb_text.specs.ResultParts.{element, group_part, id_part};
 
-use crate::json::push_string;
+use crate::results::push_string;
 use odb_check::{Need, Plan};
 use odb_doc::text::{push_if, push_open, push_quoted};
 use std::alloc::{AllocError, Global};

@@ -27,10 +27,10 @@ returns c =
     let body = option_map (bytes_of c.args.document.now) c.args.body in
     let url = url_at (urls c.args.rest.now) i in
     let names = rw (c.deref.ensures.value, names_of rs i own c.request-request.ensures.value) at c.in_ok-push_kept_names.ensures in
-    on_ok_weaker c.push_end.result
+    on_ok_weaker c.push_request_end.result
     (λ end r here.
     let one : own ≡ r = same_Some own r (sym c.request-request.ensures.value ∙ here) in
     let ended = rw c.url_in.ensures at end in
-    subst (λ (q : Record). string_bytes c.push_end.new.text ≡ before ++ (comma_if c.args.later ++ request_text (rest_record rs (kept c.args.rest.now) url q) body)) one
+    subst (λ (q : Record). string_bytes c.push_request_end.new.text ≡ before ++ (comma_if c.args.later ++ request_text (rest_record rs (kept c.args.rest.now) url q) body)) one
     (appended before _ _ _ _ _ _ (comma_if c.args.later) (codes "{") (member_part (codes "\"atomicityGroup\":") (option_map string own.group)) (body_part body) _ _ _ c.in_ok-push_open.ensures c.in_ok-push_group.ensures c.in_ok-push_body.ensures names c.in_ok-push_headers.ensures ended
-    ∙ ap (λ text. before ++ (comma_if c.args.later ++ text)) (sym (request_parts rs (kept c.args.rest.now) url own body)))) c.push_end.ensures
+    ∙ ap (λ text. before ++ (comma_if c.args.later ++ text)) (sym (request_parts rs (kept c.args.rest.now) url own body)))) c.push_request_end.ensures

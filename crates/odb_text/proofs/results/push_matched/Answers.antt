@@ -4,7 +4,7 @@ use Rattle.odb_doc.specs.batch.Records.{record_of}
 use Rattle.odb_check.specs.Plans.{plan_records}
 use Rattle.odb_reply.specs.Fits.{statuses}
 use Rattle.odb_text.proofs.ResultLemmas.{matched-parts}
-use Rattle.odb_text.proofs.json.push_matched.Goals as goal
+use Rattle.odb_text.proofs.results.push_matched.Goals as goal
 
 pub returns : goal.returns
 returns c =

@@ -5,7 +5,7 @@ use Rattle.odb_reply.specs.Fits.{statuses}
 use Rattle.odb_text.specs.Results.{matched}
 use Rattle.odb_text.specs.ResultParts.{element}
 use Rattle.odb_text.proofs.ResultLemmas.{array_line, responses-line}
-use Rattle.odb_text.proofs.json.match_json.Goals as goal
+use Rattle.odb_text.proofs.results.match_json.Goals as goal
 
 pub returns : goal.returns
 returns c =

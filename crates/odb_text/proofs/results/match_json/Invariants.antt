@@ -4,7 +4,7 @@ use Rattle.odb_check.specs.Plans.{plan_records}
 use Rattle.odb_reply.specs.Fits.{statuses}
 use Rattle.odb_text.specs.Results.{matched}
 use Rattle.odb_text.specs.ResultParts.{element}
-use Rattle.odb_text.proofs.json.match_json.Given as goal
+use Rattle.odb_text.proofs.results.match_json.Given as goal
 
 -- the elements so far
 abbrev pub invariant-loop-i : goal.invariant-loop-i

@@ -1,0 +1,117 @@
+-- The results as JSON are values that are written without loss: each number has 64 bits, and they nest at most 4 deep.
+use Rattle.std.proofs.Common.{◌≤◌, ◌<◌, ◌+◌, ◌^◌, ℕ, zero, suc, Bool, true, false, cond, List, [], ◌∷◌, ◌++◌, option_map, refl, arith, length, codes}
+use Rattle.std.specs.Prelude.{◌==◌, slice_index}
+use Rattle.std.proofs.lemmas.Bool.{or_from, or_parts}
+use Rattle.serde_json.specs.Data.{Data, unsigned, number, string, array, object, Items, Members, put, no_members}
+use Rattle.serde_json.specs.View.{items_of}
+use Rattle.serde_json.specs.Written.{has_float, items_have_float}
+use Rattle.odb_doc.specs.Refusals.{Printed}
+use Rattle.odb_doc.specs.batch.Records.{Record}
+use Rattle.odb_doc.proofs.SafeLemmas.{IsSafe, AreSafe, AreItemsSafe, safe-put, safe-string, safe-none, safe-with_some, safe-group}
+use Rattle.odb_check.specs.declared.need.Need.{Need}
+use Rattle.odb_check.specs.declared.need.Need.TheVariants.{One, Group}
+use Rattle.odb_check.specs.Firsts.{list_below}
+use Rattle.odb_check.specs.Levels.{greatest_of, greatest_below, unit_level, level_needed, next_level, levels_below, level_at}
+use Rattle.odb_check.specs.Needs.{needs_at}
+use Rattle.odb_check.specs.Positions.{group_at}
+use Rattle.odb_check.specs.Units.{unit_at}
+use Rattle.odb_text.specs.Lines.{id_text, place_text}
+use Rattle.odb_text.specs.Results.{counts_value, fault_value, match_value, matched, need_values, plan_value, planned}
+
+-- ---- levels are low
+
+greatest_of-low : {X : Type 0} (value : X → ℕ) (m : ℕ) (xs : List X) → ((x : X) → value x ≤ m) → greatest_of value xs ≤ m
+greatest_of-low value m [] low = omega arith
+greatest_of-low value m (x ∷ xs) low = omega (arith, low x, greatest_of-low value m xs low)
+
+greatest_below-low : (n : ℕ) (value : ℕ → ℕ) (m : ℕ) → ((j : ℕ) → value j ≤ m) → greatest_below n value ≤ m
+greatest_below-low zero value m low = omega arith
+greatest_below-low (suc n) value m low = omega (arith, low n, greatest_below-low n value m low)
+
+cond-low : (b : Bool) (a m : ℕ) → a ≤ m → cond b a 0 ≤ m
+cond-low true a m low = low
+cond-low false a m low = omega arith
+
+needed-low : (level group_level : ℕ → ℕ) (n : ℕ) → ((r : ℕ) → level r ≤ n) → ((u : ℕ) → group_level u ≤ n) → (need : Need) → level_needed level group_level need + 1 ≤ suc n
+needed-low level group_level n one group (One r) = omega (arith, one r)
+needed-low level group_level n one group (Group u) = omega (arith, group u)
+
+more-low : (levels : List ℕ) (level n k : ℕ) → level ≤ suc n → ((j : ℕ) → slice_index levels j ≤ n) → slice_index (levels ++ level ∷ []) k ≤ suc n
+more-low [] level n zero here low = here
+more-low [] level n (suc k) here low = omega arith
+more-low (x ∷ xs) level n zero here low = omega (arith, low 0)
+more-low (x ∷ xs) level n (suc k) here low = more-low xs level n k here (λ j. low (suc j))
+
+pub levels-low : (rs : List Record) (n k : ℕ) → slice_index (levels_below rs n) k ≤ n
+levels-low rs zero k = omega arith
+levels-low rs (suc n) k =
+    let levels = levels_below rs n in
+    let low = levels-low rs n in
+    let units = λ (u : ℕ). greatest_below-low n (λ j. cond (unit_at rs j == u) (slice_index levels j) 0) n (λ j. cond-low (unit_at rs j == u) (slice_index levels j) n (low j)) in
+    more-low levels (next_level (slice_index levels) (unit_level rs n levels) (needs_at rs n)) n k
+    (greatest_of-low _ (suc n) (needs_at rs n) (needed-low (slice_index levels) (unit_level rs n levels) n low units)) low
+
+-- ---- values
+
+safe-number : (n k : ℕ) → k < 2 ^ 64 → IsSafe n (number (unsigned k))
+safe-number n k small = record { held = small; whole = refl; shallow = omega arith }
+
+safe-object : (n : ℕ) (ms : Members) → AreSafe n ms → IsSafe (suc n) (object ms)
+safe-object n ms are = record { held = (are.ordered, are.held); whole = are.whole; shallow = omega (arith, are.shallow) }
+
+safe-array : (n : ℕ) (ds : Items) → AreItemsSafe n ds → IsSafe (suc n) (array ds)
+safe-array n ds are = record { held = are.held; whole = are.whole; shallow = omega (arith, are.shallow) }
+
+safe-append : (n : ℕ) (ds : List Data) (d : Data) → AreItemsSafe n (items_of ds) → IsSafe n d → AreItemsSafe n (items_of (ds ++ d ∷ []))
+safe-append n [] d rest new = record { held = (new.held, tt); whole = or_from (has_float d) false new.whole refl; shallow = omega (arith, new.shallow) }
+safe-append n (x ∷ ds) d rest new =
+    let parts = or_parts (has_float x) (items_have_float (items_of ds)) rest.whole in
+    let more = safe-append n ds d (record { held = rest.held.1; whole = parts.1; shallow = omega (arith, rest.shallow) }) new in
+    record { held = (rest.held.0, more.held); whole = or_from (has_float x) _ parts.0 more.whole; shallow = omega (arith, rest.shallow, more.shallow) }
+
+safe-below : (n count : ℕ) (value : ℕ → Data) → ((i : ℕ) → IsSafe n (value i)) → AreItemsSafe n (items_of (list_below count value))
+safe-below n zero value each = record { held = tt; whole = refl; shallow = omega arith }
+safe-below n (suc count) value each = safe-append n (list_below count value) (value count) (safe-below n count value each) (each count)
+
+-- an object with one member
+safe-only : (n : ℕ) (name : List ℕ) (d : Data) → IsSafe n d → IsSafe (suc n) (object (put name d no_members))
+safe-only n name d is = safe-object n _ (safe-put n name d no_members is (safe-none n))
+
+-- ---- results
+
+pub safe-fault : (refusal : Printed) → IsSafe 2 (fault_value refusal)
+safe-fault refusal = safe-only 1 (codes "fault") _ (safe-object 0 _ (
+    safe-put 0 (codes "code") (string refusal.code) _ (safe-string 0 refusal.code) (
+    safe-put 0 (codes "name") (string refusal.name) _ (safe-string 0 refusal.name) (
+    safe-put 0 (codes "place") (string (place_text refusal.place)) no_members (safe-string 0 (place_text refusal.place)) (safe-none 0)))))
+
+pub safe-counts : (requests groups : ℕ) → requests < 2 ^ 64 → groups < 2 ^ 64 → IsSafe 1 (counts_value requests groups)
+safe-counts requests groups few some = safe-object 0 _ (
+    safe-put 0 (codes "groups") (number (unsigned groups)) _ (safe-number 0 groups some) (
+    safe-put 0 (codes "requests") (number (unsigned requests)) no_members (safe-number 0 requests few) (safe-none 0)))
+
+safe-needs : (batch : List Record) (needs : List Need) → AreItemsSafe 0 (items_of (need_values batch needs))
+safe-needs batch [] = record { held = tt; whole = refl; shallow = omega arith }
+safe-needs batch (need ∷ needs) = let rest = safe-needs batch needs in record { held = (tt, rest.held); whole = rest.whole; shallow = omega (arith, rest.shallow) }
+
+safe-planned : (batch : List Record) → length batch < 2 ^ 64 → (i : ℕ) → IsSafe 2 (planned batch i)
+unfolding planned
+safe-planned batch few i =
+    let low : level_at batch i < 2 ^ 64 = omega (arith, levels-low batch (length batch) i, few) in
+    safe-object 1 _ (
+    safe-with_some 1 (codes "group") (option_map string (group_at batch i)) _ (safe-group 1 (group_at batch i)) (
+    safe-put 1 (codes "id") (string (id_text batch i)) _ (safe-string 1 (id_text batch i)) (
+    safe-put 1 (codes "level") (number (unsigned (level_at batch i))) _ (safe-number 1 (level_at batch i) low) (
+    safe-put 1 (codes "needs") (array (items_of (need_values batch (needs_at batch i)))) no_members (safe-array 0 _ (safe-needs batch (needs_at batch i))) (safe-none 1)))))
+
+pub safe-plan : (batch : List Record) → length batch < 2 ^ 64 → IsSafe 4 (plan_value batch)
+safe-plan batch few = safe-only 3 (codes "requests") _ (safe-array 2 _ (safe-below 2 (length batch) (planned batch) (safe-planned batch few)))
+
+safe-matched : (batch : List Record) (statuses : List ℕ) → ((i : ℕ) → slice_index statuses i < 2 ^ 64) → (i : ℕ) → IsSafe 1 (matched batch statuses i)
+unfolding matched
+safe-matched batch statuses small i = safe-object 0 _ (
+    safe-put 0 (codes "id") (string (id_text batch i)) _ (safe-string 0 (id_text batch i)) (
+    safe-put 0 (codes "status") (number (unsigned (slice_index statuses i))) no_members (safe-number 0 (slice_index statuses i) (small i)) (safe-none 0)))
+
+pub safe-match : (batch : List Record) (statuses : List ℕ) → ((i : ℕ) → slice_index statuses i < 2 ^ 64) → IsSafe 3 (match_value batch statuses)
+safe-match batch statuses small = safe-only 2 (codes "responses") _ (safe-array 1 _ (safe-below 1 (length batch) (matched batch statuses) (safe-matched batch statuses small)))

@@ -1,0 +1,64 @@
+//! What the results as JSON are read as, what two equal texts of plans have in common, and what is drawn.
+//!
+//! The laws are clauses of functions that change nothing. They speak of the words that the calls of this crate cite.
+
+ghost use Rattle.std.specs.Prelude.{◌≡◌, ◌<◌, ◌^◌, ℕ, Contains, List, Some, length, slice_index};
+ghost use Rattle.serde_json.specs.Read.{read};
+ghost use Rattle.odb_doc.specs.Refusals.{Printed};
+ghost use Rattle.serde_json.specs.Data.{Data};
+ghost use Rattle.odb_check.specs.declared.need.Need.TheVariants.{Group, One};
+ghost use Rattle.odb_check.specs.Needs.{needs_at};
+ghost use Rattle.odb_check.specs.Texts.{plan_text};
+ghost use Rattle.odb_check.specs.Units.{unit_at};
+ghost use Rattle.odb_doc.specs.batch.Records.{IsBatchOf, Record};
+ghost use Rattle.odb_text.specs.Drawings.{arrow_start};
+ghost use Rattle.odb_text.specs.Shown.{IsOneString, quoted};
+ghost use Rattle.odb_text.specs.SamePlans.{IsSamePlan};
+ghost use Rattle.odb_text.specs.Results.{counts_value, fault_value, json_line, match_value, plan_value};
+
+/// A result or a fault as JSON is one line that is read as the value it shows: an object with the members that
+/// docs/schemas/ lists.
+///
+/// `serde_json` reads the line, with its newline, as just this value. So does [`odb_doc::parse`], unless the line is
+/// longer than a document may be (F01). The numbers of a batch that was read are far below 2^64.
+pub fn every_result()
+    ensures fault { (refusal : Printed)
+        → read (json_line (fault_value refusal)) ≡ Some (fault_value refusal) }
+    ensures counts { (requests groups : ℕ) → requests < 2 ^ 64 → groups < 2 ^ 64
+        → read (json_line (counts_value requests groups)) ≡ Some (counts_value requests groups) }
+    ensures plan { (batch : List Record) → length batch < 2 ^ 64
+        → read (json_line (plan_value batch)) ≡ Some (plan_value batch) }
+    ensures statuses { (batch : List Record) (statuses : List ℕ)
+        → ((i : ℕ) → slice_index statuses i < 2 ^ 64)
+        → read (json_line (match_value batch statuses)) ≡ Some (match_value batch statuses) }
+{
+    odb_doc::laws::every_value();
+}
+
+/// Two plans with equal texts have the same requests: the same identifiers, groups and dependencies, in the same
+/// order.
+pub fn one_plan()
+    ensures json { (batch other : List Record) → length batch < 2 ^ 64 → length other < 2 ^ 64
+        → json_line (plan_value batch) ≡ json_line (plan_value other) → IsSamePlan batch other }
+    ensures lines { (value : Data) (batch : List Record) (different : Data) (other : List Record)
+        → IsBatchOf value batch → IsBatchOf different other → length batch < 2 ^ 64
+        → length other < 2 ^ 64 → plan_text batch ≡ plan_text other → IsSamePlan batch other }
+{
+    every_result();
+}
+
+/// An arrow of a drawing begins at a request of what is depended on: at the request itself, or at the first one of
+/// the group, from whose cluster it is drawn.
+pub fn every_arrow()
+    ensures one { (batch : List Record) (i r : ℕ) → Contains (needs_at batch i) (One r)
+        → (arrow_start batch (One r) ≡ r) × (r < length batch) }
+    ensures group { (batch : List Record) (i u : ℕ) → Contains (needs_at batch i) (Group u)
+        → (unit_at batch (arrow_start batch (Group u)) ≡ u)
+        × (arrow_start batch (Group u) < length batch) }
+{}
+
+/// A label of a drawing is one string, whatever the document has in it: it begins with a quotation mark and ends with the
+/// next one that no backslash escapes. So no text of a document ends its label early.
+pub fn every_label()
+    ensures { (text : List ℕ) → IsOneString (quoted text) }
+{}
