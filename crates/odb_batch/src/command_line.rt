@@ -21,15 +21,25 @@ pub enum Origin<'a> {
 pub enum Action {
     /// A work, which may also be done on each line of a log.
     Work(Work),
+    /// Check a batch and write all its faults, which may also be done on each line of a log.
+    CheckAll,
     /// Write the rest of a batch, by whether an error stops the service.
     Rest(Mode),
+}
+
+/// What is done on each line of a log.
+#[derive(Clone, Copy)]
+pub enum LineWork {
+    Work(Work),
+    /// Check it and write all its faults.
+    CheckAll,
 }
 
 /// How a log is answered.
 #[derive(Clone, Copy)]
 pub struct LogOptions {
     /// What is done on each line.
-    pub work: Work,
+    pub work: LineWork,
     /// Whether each answer is written at once.
     pub flush: bool,
     /// Whether each fault has the number of its line.
@@ -137,6 +147,7 @@ fn task_of(name: &str, args: &ArgMatches<'_>) -> Result<Option<Task>, BadArgumen
         names::CANON => Task::Canon,
         names::MATCH => Task::Match {
             mode: mode_of(args),
+            strict: args.get_flag(names::STRICT),
         },
         names::REPLAY => Task::Replay {
             policy: policy_of(args)?,
@@ -154,6 +165,7 @@ fn task_of(name: &str, args: &ArgMatches<'_>) -> Result<Option<Task>, BadArgumen
 /// Returns what the command of this name does, or `None` if it is not a command over documents.
 fn action_of(name: &str, args: &ArgMatches<'_>) -> Result<Option<Action>, BadArguments> {
     let action = match name {
+        names::CHECK if args.get_flag(names::ALL) => Action::CheckAll,
         names::PLAN if args.get_flag(names::FULL) => Action::Work(Work::FullPlan),
         names::REST => Action::Rest(mode_of(args)),
         _ => {
@@ -176,7 +188,7 @@ fn origin_of<'a>(args: &ArgMatches<'a>, id: &str) -> Origin<'a> {
 fn second_of<'a>(args: &ArgMatches<'a>, action: Action) -> Origin<'a> {
     let task = match action {
         Action::Rest(_) => return origin_of(args, names::RESPONSES),
-        Action::Work(Work::FullPlan) => return Origin::Nowhere,
+        Action::CheckAll | Action::Work(Work::FullPlan) => return Origin::Nowhere,
         Action::Work(Work::Task(task)) => task,
     };
     match task {
@@ -189,21 +201,26 @@ fn second_of<'a>(args: &ArgMatches<'a>, action: Action) -> Origin<'a> {
 
 /// Returns how a log is answered, if a command is asked for that. There is no log for a rest.
 fn log_of(args: &ArgMatches<'_>, action: Action) -> Option<LogOptions> {
-    match action {
-        Action::Work(work) if args.get_flag(names::LINES) => Some(LogOptions {
-            work,
-            flush: args.get_flag(names::FLUSH),
-            numbered: args.get_flag(names::NUMBER),
-        }),
-        _ => None,
-    }
+    let work = match action {
+        Action::Work(work) => LineWork::Work(work),
+        Action::CheckAll => LineWork::CheckAll,
+        Action::Rest(_) => return None,
+    };
+    args.get_flag(names::LINES).then_some(LogOptions {
+        work,
+        flush: args.get_flag(names::FLUSH),
+        numbered: args.get_flag(names::NUMBER),
+    })
 }
 
-/// Returns the form of an answer. A plan and a match of a line of a log are always JSON, and so is a full plan.
+/// Returns the form of an answer. A plan, a match and a list of faults of a line of a log are always JSON, and so is
+/// a full plan.
 fn form_of(args: &ArgMatches<'_>, action: Action) -> Form {
     let is_json = match action {
         Action::Work(Work::FullPlan) => true,
-        Action::Work(Work::Task(Task::Plan | Task::Match { .. })) => args.get_flag(names::LINES),
+        Action::CheckAll | Action::Work(Work::Task(Task::Plan | Task::Match { .. })) => {
+            args.get_flag(names::LINES)
+        }
         _ => false,
     };
     if is_json || args.get_flag(names::JSON) {

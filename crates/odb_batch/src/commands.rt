@@ -94,6 +94,12 @@ const FAULT: Argument = Argument {
     ..JSON
 };
 
+const ALL: Argument = Argument {
+    id: names::ALL,
+    kind: Kind::Flag,
+    help: "Print all faults of the first phase that has any",
+};
+
 const DOT: Argument = Argument {
     id: names::DOT,
     kind: Kind::FlagWithout(&[names::JSON, names::LINES]),
@@ -122,6 +128,12 @@ const STOP: Argument = Argument {
 const LEFT_OUT: Argument = Argument {
     help: "Read each request without a response as answered 424 if a response has a status from 400 to 599",
     ..STOP
+};
+
+const STRICT: Argument = Argument {
+    id: names::STRICT,
+    kind: Kind::Flag,
+    help: "Ask also that some finished run answers these statuses: F76 to F78",
 };
 
 const WIDTH: Argument = Argument {
@@ -190,7 +202,7 @@ const CHECK: Row = Row {
     notes: "Example: odb_batch check batch.json\n\n\
         Exit status: 0 for a batch that is accepted, 1 for one with a fault, 2 for wrong arguments, \
         3 if a file or the output fails, 4 if out of memory",
-    arguments: &[FILE, JSON, LINES, FLUSH, NUMBER, QUIET],
+    arguments: &[FILE, ALL, JSON, LINES, FLUSH, NUMBER, QUIET],
 };
 
 const PLAN: Row = Row {
@@ -235,7 +247,7 @@ const MATCH: Row = Row {
         Exit status: 0 for responses that fit, 1 for a fault of a document or responses that do not fit, \
         2 for wrong arguments, 3 if a file or the output fails, 4 if out of memory",
     arguments: &[
-        BATCH, RESPONSES, LEFT_OUT, JSON, PAIRS, FLUSH, NUMBER, QUIET,
+        BATCH, RESPONSES, LEFT_OUT, STRICT, JSON, PAIRS, FLUSH, NUMBER, QUIET,
     ],
 };
 

@@ -4,7 +4,9 @@ use crate::command_line::{Action, Job};
 use crate::devices::{open, writer_of};
 use crate::ending::{Status, finish};
 use odb_check::Seed;
-use odb_engine::{Disposal, Form, Setup, Work, answer_task, full_plan_batch, rest_batch};
+use odb_engine::{
+    Disposal, Form, Setup, Work, answer_task, check_all_batch, full_plan_batch, rest_batch,
+};
 use odb_io::{Input, Output};
 use std::rt::Runtime;
 
@@ -52,6 +54,7 @@ pub fn answer_documents<R: Runtime + AllocGlobal>(
         Action::Work(Work::Task(task)) => {
             answer_task(alloc, &mut first, &mut second, &mut output, task, setup)
         }
+        Action::CheckAll => check_all_batch(alloc, &mut first, &mut output, setup),
         Action::Work(Work::FullPlan) => full_plan_batch(alloc, &mut first, &mut output, setup),
         Action::Rest(mode) => {
             rest_batch(alloc, &mut first, &mut second, &mut output, mode, setup)

@@ -8,9 +8,7 @@ use crate::ending::{Status, finish, out_of_memory};
 use crate::engines::Environment;
 use crate::numbered::NumberedLines;
 use crate::progress::Watched;
-use odb_engine::{
-    Disposal, EachLine, Ended, EngineFault, Form, LineCommand, LineInput, Setup, answer_lines,
-};
+use odb_engine::{Disposal, Ended, EngineFault, Form, LineCommand, LineInput, Setup, answer_lines};
 use odb_io::Output;
 use std::alloc::Global;
 use std::io::{BufWriter, Read, Write};
@@ -21,14 +19,11 @@ const BUFFER_BYTES: usize = 65_536;
 
 /// Returns the command on each line of a log. It frees the memory of a line before the next one.
 fn command_of(environment: Environment, form: Form, options: LogOptions) -> NumberedLines {
-    let command = EachLine {
-        work: options.work,
-        setup: Setup {
-            disposal: Disposal::Drop,
-            ..environment.setup(form)
-        },
+    let setup = Setup {
+        disposal: Disposal::Drop,
+        ..environment.setup(form)
     };
-    NumberedLines::new(command, options.numbered)
+    NumberedLines::new(options.work, setup, options.numbered)
 }
 
 /// Answers each line of a reader, and flushes the output at the end.

@@ -38,6 +38,8 @@ pub const SHELL: &str = "SHELL";
 
 pub const COMMAND: &str = "COMMAND";
 
+pub const ALL: &str = "all";
+
 pub const JSON: &str = "json";
 
 pub const DOT: &str = "dot";
@@ -47,6 +49,8 @@ pub const FULL: &str = "full";
 pub const ORDER: &str = "order";
 
 pub const STOP: &str = "stop";
+
+pub const STRICT: &str = "strict";
 
 pub const WIDTH: &str = "width";
 

@@ -1,6 +1,9 @@
 //! The command on each line of a log, which can number the faults.
 
-use odb_engine::{EachLine, Ended, EngineFault, Form, LineCommand, answer_line};
+use crate::command_line::LineWork;
+use odb_engine::{
+    Answer, Ended, EngineFault, Form, LineCommand, Setup, answer_line, check_all_in_memory,
+};
 use odb_io::Output;
 use std::alloc::{AllocError, Global};
 use std::cell::Cell;
@@ -9,7 +12,8 @@ use std::io::Write;
 /// What is done on each line, which may print the number of the line with a fault.
 #[derive(Drop)]
 pub struct NumberedLines {
-    command: EachLine,
+    work: LineWork,
+    setup: Setup,
     /// Whether each fault has the number of its line.
     numbered: bool,
     /// How many lines were answered.
@@ -40,12 +44,27 @@ fn with_number(
 }
 
 impl NumberedLines {
+    ghost use Rattle.std.specs.Prelude.{IfOk};
+    ghost use Rattle.odb_batch.specs.LineWorks.{OfLineWork};
+
     /// Makes the command, before the first line.
-    pub fn new(command: EachLine, numbered: bool) -> Self {
+    pub fn new(work: LineWork, setup: Setup, numbered: bool) -> Self {
         NumberedLines {
-            command,
+            work,
+            setup,
             numbered,
             count: Cell::new(0),
+        }
+    }
+
+    /// Returns what is written of a line.
+    fn answer_of(&self, alloc: Global, line: &[u8]) -> Result<Answer, AllocError>
+        ensures { IfOk result (λ answer. OfLineWork self.now.work line.now self.now.setup.form answer.ended
+            answer.text.items) }
+    {
+        match self.work {
+            LineWork::Work(work) => answer_line(alloc, line, work, self.setup),
+            LineWork::CheckAll => check_all_in_memory(alloc, line, self.setup),
         }
     }
 
@@ -60,13 +79,11 @@ impl NumberedLines {
 impl LineCommand for NumberedLines {
     ghost use Rattle.std.specs.Prelude.{◌≡◌, ◌⊎◌, true};
     ghost use Rattle.odb_engine.specs.declared.ending.Ended.TheVariants.{Refused};
-    ghost use Rattle.odb_engine.specs.Forms.{InForm};
-    ghost use Rattle.odb_engine.specs.FullPlans.{OfWork};
+    ghost use Rattle.odb_batch.specs.LineWorks.{OfLineWork};
 
     // What is written of the line, unless a fault is to be numbered.
     ghost writes = { λ self line ended text. ((self.numbered ≡ true) × (ended ≡ Refused))
-        ⊎ InForm self.command.setup.form
-        (OfWork self.command.work self.command.setup.form line) ended text };
+        ⊎ OfLineWork self.work line self.setup.form ended text };
 
     fn answer<W: Write>(
         &self,
@@ -74,12 +91,11 @@ impl LineCommand for NumberedLines {
         line: &[u8],
         output: &mut Output<W>,
     ) -> Result<Ended, EngineFault> {
-        let EachLine { work, setup } = self.command;
         let number = self.next();
-        let answer = answer_line(alloc, line, work, setup)?;
+        let answer = self.answer_of(alloc, line)?;
         match answer.ended {
             Ended::Refused if self.numbered => {
-                let text = with_number(alloc, setup.form, number, &answer.text)?;
+                let text = with_number(alloc, self.setup.form, number, &answer.text)?;
                 output.put_all(&text)?;
                 Ok(Ended::Refused)
             }

@@ -2,8 +2,7 @@
 
 ghost use Rattle.std.specs.Prelude.{◌≡◌, ◌⊎◌, true};
 ghost use Rattle.odb_engine.specs.declared.ending.Ended.TheVariants.{Refused};
-ghost use Rattle.odb_engine.specs.Forms.{InForm};
-ghost use Rattle.odb_engine.specs.FullPlans.{OfWork};
+ghost use Rattle.odb_batch.specs.LineWorks.{OfLineWork};
 
 use crate::numbered::NumberedLines;
 use odb_engine::{Ended, EngineFault, LineCommand};
@@ -104,8 +103,7 @@ impl<'r, R: Runtime> Watched<'r, R> {
 
 impl<'r, R: Runtime> LineCommand for Watched<'r, R> {
     ghost writes = { λ self line ended text. ((self.command.numbered ≡ true) × (ended ≡ Refused))
-        ⊎ InForm self.command.command.setup.form
-        (OfWork self.command.command.work self.command.command.setup.form line) ended text };
+        ⊎ OfLineWork self.command.work line self.command.setup.form ended text };
 
     fn answer<W: Write>(
         &self,

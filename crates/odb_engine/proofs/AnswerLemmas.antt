@@ -6,13 +6,12 @@ use Rattle.odb_engine.specs.declared.answer.Answer.{Answer}
 use Rattle.odb_engine.specs.declared.ending.Ended.{Ended}
 use Rattle.odb_engine.specs.declared.ending.EngineFault.{EngineFault}
 use Rattle.odb_engine.specs.declared.form.Form.{Form}
-use Rattle.odb_engine.specs.Cascade.{Writes}
-use Rattle.odb_engine.specs.Forms.{InForm}
+use Rattle.odb_engine.specs.Cascade.{WritesIn}
 use Rattle.odb_engine.specs.Halts.{Found, text_found}
 use Rattle.odb_engine.proofs.EngineLemmas.{FoundText, answered}
 
 -- what is written of what was found may be written in the form
-pub answered-in : {E : Type 0} (form : Form) (P : Writes) (found : FoundText) (result : Result Answer E) → Found P found → IfOk result (λ answer. text_found form found answer.ended answer.text.items)
-    → IfOk result (λ answer. InForm form P answer.ended answer.text.items)
+pub answered-in : {E : Type 0} (form : Form) (P : WritesIn) (found : FoundText) (result : Result Answer E) → Found P form found → IfOk result (λ answer. text_found form found answer.ended answer.text.items)
+    → IfOk result (λ answer. P form answer.ended answer.text.items)
 answered-in form P found (Ok answer) so is = answered form P found so answer.ended answer.text.items is
 answered-in form P found (Err error) so is = tt

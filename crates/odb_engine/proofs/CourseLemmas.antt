@@ -16,7 +16,10 @@ use Rattle.odb_sched.specs.run.Choosing.{AllowsOrder}
 use Rattle.odb_exec.specs.Recordings.{Faults, HasOneCourse, HasOneFault, FaultsOrFinishes, recorded_for}
 use Rattle.odb_sched.specs.run.State.{State, first_state}
 use Rattle.odb_engine.specs.declared.ending.Ended.{Ended}
-use Rattle.odb_engine.specs.Cascade.{line_of, IsOne}
+use Rattle.odb_engine.specs.declared.form.Form.{Form}
+use Rattle.odb_engine.specs.Cascade.{IsOne}
+use Rattle.odb_engine.specs.Forms.{fault_text}
+use Rattle.odb_doc.specs.Refusals.{Printed}
 use Rattle.odb_engine.specs.Replays.{Replays, ReplaysBatch, ReplaysEntries, ReplaysValue, LacksOutcome, result_text}
 use Rattle.odb_engine.proofs.LawLemmas.{document_one}
 use Rattle.odb_engine.proofs.SecondLemmas.{IsOneKind, reading_one, some_document_one}
@@ -28,19 +31,18 @@ pub record HasOrder (order : Order) (recorded : List (Option Outcome)) (first : 
   pub apart : FaultsOrFinishes order recorded first
 
 module _ (order : Order) (policy : Policy) (traced : Bool) (batch : List Record) (entries : List Recorded) where
-  missing : (ended : Ended) (text : List ℕ) → (lacks : LacksOutcome (AllowsOrder order) policy batch entries ended text)
-      → Faults order (recorded_for batch entries) (first_state batch policy) (fault.NoOutcome lacks.at)
-  missing ended text lacks = (search rules, (lacks.due, lacks.none))
+  missing : (refusal : Printed) (lacks : LacksOutcome (AllowsOrder order) policy batch entries refusal) → Faults order (recorded_for batch entries) (first_state batch policy) (fault.NoOutcome lacks.at)
+  missing refusal lacks = (search rules, (lacks.due, lacks.none))
 
-  one_replay : HasOrder order (recorded_for batch entries) (first_state batch policy) → IsOne (ReplaysEntries (AllowsOrder order) policy traced batch entries)
-  one_replay law a b s t (inl x) (inl y) =
+  one_replay : HasOrder order (recorded_for batch entries) (first_state batch policy) → (form : Form) → IsOne (ReplaysEntries (AllowsOrder order) policy traced batch entries form)
+  one_replay law form a b s t (inl x) (inl y) =
       let (steps, last) = law.course x.steps y.steps x.last y.last x.course y.course in
       (x.ends ∙ sym y.ends, x.result ∙ ap (λ e. result_text traced e x.steps) last ∙ ap (λ e. result_text traced y.last e) steps ∙ sym y.result)
-  one_replay law a b s t (inl x) (inr y) = absurd (law.apart (fault.NoOutcome y.at) x.steps x.last (missing b t y) x.course)
-  one_replay law a b s t (inr x) (inl y) = absurd (law.apart (fault.NoOutcome x.at) y.steps y.last (missing a s x) y.course)
-  one_replay law a b s t (inr x) (inr y) =
-      let same = law.fault (fault.NoOutcome x.at) (fault.NoOutcome y.at) (missing a s x) (missing b t y) in
-      (x.ends ∙ sym y.ends, x.line ∙ ap line_of (same_Some _ _ (ap exec_row same)) ∙ sym y.line)
+  one_replay law form a b s t (inl x) (inr y) = absurd (law.apart (fault.NoOutcome y.is.at) x.steps x.last (missing y.refusal y.is) x.course)
+  one_replay law form a b s t (inr x) (inl y) = absurd (law.apart (fault.NoOutcome x.is.at) y.steps y.last (missing x.refusal x.is) y.course)
+  one_replay law form a b s t (inr x) (inr y) =
+      let same = law.fault (fault.NoOutcome x.is.at) (fault.NoOutcome y.is.at) (missing x.refusal x.is) (missing y.refusal y.is) in
+      (x.ends ∙ sym y.ends, x.prints ∙ ap (fault_text form) (x.is.is ∙ same_Some _ _ (ap exec_row same) ∙ sym y.is.is) ∙ sym y.prints)
 
 -- the laws of odb_doc on documents of outcomes
 abbrev pub AreOneRecord : Type 0
@@ -48,7 +50,7 @@ AreOneRecord = IsOneKind outcome_faults.outcome_row RefusesOutcomes IsOutcomesDo
 
 -- a batch and the value of a document of outcomes have one text
 pub replays_value_one : (order : Order) → ((recorded : List (Option Outcome)) (first : State) → HasOrder order recorded first) → AreOneRecord
-    → (policy : Policy) (traced : Bool) (batch : List Record) (value : Data) → IsOne (ReplaysValue (AllowsOrder order) policy traced batch value)
+    → (policy : Policy) (traced : Bool) (batch : List Record) (value : Data) (form : Form) → IsOne (ReplaysValue (AllowsOrder order) policy traced batch value form)
 replays_value_one order courses law policy traced batch =
     reading_one outcome_faults.outcome_row RefusesOutcomes IsOutcomesDocument AreOutcomesOf law (ReplaysEntries (AllowsOrder order) policy traced batch)
     (λ entries. one_replay order policy traced batch entries (courses (recorded_for batch entries) (first_state batch policy)))

@@ -21,11 +21,10 @@ use Rattle.odb_engine.specs.declared.halt.Halt.{Halt}
 use Rattle.odb_engine.specs.declared.halt.Halt.TheVariants as halts
 use Rattle.odb_engine.specs.Inputs.{most_read, GivesDocument, SomeDocument}
 use Rattle.odb_doc.specs.Refusals.{Printed}
-use Rattle.odb_engine.specs.Cascade.{Writes, Prints, line_of, Reports, RefusesBytes, AcceptsValue, AnswersValue, HasFault, IsLeastOfBatch, OfDocument}
+use Rattle.odb_engine.specs.Cascade.{Writes, WritesIn, Prints, Reports, RefusesBytes, AcceptsValue, AnswersValue, HasFault, IsLeastOfBatch, OfDocument}
 use Rattle.odb_engine.specs.Engines.{Ends, WritesPrefix}
 use Rattle.odb_engine.specs.declared.form.Form.{Form}
-use Rattle.odb_engine.specs.declared.form.Form.TheVariants.{Lines, Json}
-use Rattle.odb_engine.specs.Forms.{InForm, fault_text}
+use Rattle.odb_engine.specs.Forms.{fault_text}
 use Rattle.odb_engine.specs.Halts.{Found, Refuses, RefusesNamesOf, Halted, text_found, HaltsBy}
 
 -- a result of the search for a text
@@ -70,8 +69,8 @@ Halted-weaker Is Js to (halts.Refused refusal) so = to _ so
 Halted-weaker Is Js to halts.Read so = tt
 Halted-weaker Is Js to halts.OutOfMemory so = tt
 
-pub reports : (Is : Printed → Type 0) (refusal : Printed) → Is refusal → Reports Is Refused (line_of refusal)
-reports Is refusal is = record { refusal = refusal; is = is; ends = refl; line = refl }
+pub reports : (Is : Printed → Type 0) (form : Form) (refusal : Printed) → Is refusal → Reports Is form Refused (fault_text form refusal)
+reports Is form refusal is = record { refusal = refusal; is = is; ends = refl; prints = refl }
 
 -- no document was read, so there is no value
 pub unread-value : {T : Type 0} (left : Option (List ℕ)) (Q : List ℕ → T → Type 0) (Is : List ℕ → Printed → Type 0) (halt : Halt) (r : Result T Halt) → IsErrAnd r (λ other. other ≡ halt) → Halted (λ refusal. ⊥) halt
@@ -81,40 +80,40 @@ unread-value left Q Is halt r is unrefused =
     (bytes, gives, exit-error (λ x. IfOk x (Q bytes) × IfErr x (Halted (Is bytes))) halt r is (tt, Halted-weaker (λ refusal. ⊥) (Is bytes) (λ refusal none. absurd none) halt unrefused))
 
 -- the value of a document at a place is written so
-pub of-value : (place : Place) (P : Data → Writes) (bytes : List ℕ) (value : Data) → IsDocument bytes value → (ended : Ended) (text : List ℕ) → P value ended text → OfDocument place P bytes ended text
-of-value place P bytes value is ended text so = inr (record { value = value; document = is; holds = so })
+pub of-value : (place : Place) (P : Data → WritesIn) (bytes : List ℕ) (value : Data) → IsDocument bytes value → (form : Form) (ended : Ended) (text : List ℕ) → P value form ended text → OfDocument place P bytes form ended text
+of-value place P bytes value is form ended text so = inr (record { value = value; document = is; holds = so })
 
 -- the bytes of a document are refused
-pub halt-document : (place : Place) (P : Data → Writes) (bytes : List ℕ) (halt : Halt) → Halted (RefusesBytes place bytes) halt → Refuses (OfDocument place P bytes) halt
-halt-document place P bytes = Halted-weaker (RefusesBytes place bytes) (λ refusal. OfDocument place P bytes Refused (line_of refusal))
-    (λ refusal refused. inl (reports (RefusesBytes place bytes) refusal refused))
+pub halt-document : (place : Place) (P : Data → WritesIn) (bytes : List ℕ) (form : Form) (halt : Halt) → Halted (RefusesBytes place bytes) halt → Refuses (OfDocument place P bytes) form halt
+halt-document place P bytes form = Halted-weaker (RefusesBytes place bytes) (λ refusal. OfDocument place P bytes form Refused (fault_text form refusal))
+    (λ refusal refused. inl (reports (RefusesBytes place bytes) form refusal refused))
 
 -- a value has a fault
-pub halt-fault : {F : Type 0} (Refused-by : F → Data → Type 0) (row : F → Option Printed) (P : Writes) (value : Data) → ((refusal : Printed) → HasFault Refused-by row value refusal → P Refused (line_of refusal))
-    → (fault : F) → Refused-by fault value → (halt : Halt) → HaltsBy (row fault) halt → Refuses P halt
-halt-fault Refused-by row P value writes fault refuses = halted-by (λ refusal. P Refused (line_of refusal)) _ (λ refusal is. writes refusal (record { fault = fault; refuses = refuses; is = is }))
+pub halt-fault : {F : Type 0} (Refused-by : F → Data → Type 0) (row : F → Option Printed) (P : WritesIn) (form : Form) (value : Data) → ((refusal : Printed) → HasFault Refused-by row value refusal → P form Refused (fault_text form refusal))
+    → (fault : F) → Refused-by fault value → (halt : Halt) → HaltsBy (row fault) halt → Refuses P form halt
+halt-fault Refused-by row P form value writes fault refuses = halted-by (λ refusal. P form Refused (fault_text form refusal)) _ (λ refusal is. writes refusal (record { fault = fault; refuses = refuses; is = is }))
 
 -- the value of a batch document has a fault of shape
-pub halt-shape : (P : List Record → Writes) (value : Data) (fault : DocFault) → IsLeastFault fault value → (halt : Halt) → HaltsBy (document_row fault) halt → Refuses (AnswersValue P value) halt
-halt-shape P value fault least = halt-fault IsLeastFault document_row (AnswersValue P value) value (λ refusal is. inl (reports (IsLeastOfBatch value) refusal (inl is))) fault least
+pub halt-shape : (P : List Record → WritesIn) (form : Form) (value : Data) (fault : DocFault) → IsLeastFault fault value → (halt : Halt) → HaltsBy (document_row fault) halt → Refuses (AnswersValue P value) form halt
+halt-shape P form value fault least = halt-fault IsLeastFault document_row (AnswersValue P value) form value (λ refusal is. inl (reports (IsLeastOfBatch value) form refusal (inl is))) fault least
 
 -- the names of its requests have a fault
-pub halt-names : (P : List Record → Writes) (value : Data) (batch : List Record) → IsWellShaped value → IsBatchOf value batch → (halt : Halt) → Halted (RefusesNamesOf batch) halt → Refuses (AnswersValue P value) halt
-halt-names P value batch plan_graph is_batch = Halted-weaker (RefusesNamesOf batch) (λ refusal. AnswersValue P value Refused (line_of refusal))
-    (λ refusal refuses. inl (reports (IsLeastOfBatch value) refusal (inr (record { fault = refuses.fault; refuses = record { batch = batch; plan_graph = plan_graph; is_batch = is_batch; holds = refuses.refuses }; is = refuses.is }))))
+pub halt-names : (P : List Record → WritesIn) (form : Form) (value : Data) (batch : List Record) → IsWellShaped value → IsBatchOf value batch → (halt : Halt) → Halted (RefusesNamesOf batch) halt → Refuses (AnswersValue P value) form halt
+halt-names P form value batch plan_graph is_batch = Halted-weaker (RefusesNamesOf batch) (λ refusal. AnswersValue P value form Refused (fault_text form refusal))
+    (λ refusal refuses. inl (reports (IsLeastOfBatch value) form refusal (inr (record { fault = refuses.fault; refuses = record { batch = batch; plan_graph = plan_graph; is_batch = is_batch; holds = refuses.refuses }; is = refuses.is }))))
 
 -- the value is a batch that the check accepts
 pub accepted-value : (value : Data) (batch planned : List Record) (P : List Record → Type 0) → IsWellShaped value → IsBatchOf value batch → HasGoodNames batch → planned ≡ batch → P planned → AcceptsValue value P
 accepted-value value batch planned P plan_graph is_batch names same so = record { batch = batch; plan_graph = plan_graph; is_batch = is_batch; holds = (names, subst P same so) }
 
 -- what may be written in less cases may be written
-pub Refuses-weaker : (P Q : Writes) (halt : Halt) → ((ended : Ended) (text : List ℕ) → P ended text → Q ended text) → Refuses P halt → Refuses Q halt
-Refuses-weaker P Q halt to = Halted-weaker (λ refusal. P Refused (line_of refusal)) (λ refusal. Q Refused (line_of refusal)) (λ refusal. to Refused (line_of refusal)) halt
+pub Refuses-weaker : (P Q : WritesIn) (form : Form) (halt : Halt) → ((ended : Ended) (text : List ℕ) → P form ended text → Q form ended text) → Refuses P form halt → Refuses Q form halt
+Refuses-weaker P Q form halt to = Halted-weaker (λ refusal. P form Refused (fault_text form refusal)) (λ refusal. Q form Refused (fault_text form refusal)) (λ refusal. to Refused (fault_text form refusal)) halt
 
 -- what may be found in less cases may be found
-pub found-weaker : (P Q : Writes) (found : FoundText) → ((ended : Ended) (text : List ℕ) → P ended text → Q ended text) → Found P found → Found Q found
-found-weaker P Q (Ok text) to so = to Done (string_bytes text) so
-found-weaker P Q (Err halt) to so = Refuses-weaker P Q halt to so
+pub found-weaker : (P Q : WritesIn) (form : Form) (found : FoundText) → ((ended : Ended) (text : List ℕ) → P form ended text → Q form ended text) → Found P form found → Found Q form found
+found-weaker P Q form (Ok text) to so = to Done (string_bytes text) so
+found-weaker P Q form (Err halt) to so = Refuses-weaker P Q form halt to so
 
 prefix-weaker : (P Q : Writes) (old new : Option (List ℕ)) → ((ended : Ended) (text : List ℕ) → P ended text → Q ended text) → WritesPrefix old new P → WritesPrefix old new Q
 prefix-weaker P Q old new to part = record { ended = part.ended; text = part.text; so = to part.ended part.text part.so; written = part.written }
@@ -138,35 +137,18 @@ Ends-weaker contents P Q F G old new result to read is = record {
 pub printed : (P : Writes) (line : List ℕ) → P Done line → (ended : Ended) (text : List ℕ) → Prints line ended text → P ended text
 printed P line so ended text (ends, same) = subst (λ e. P e text) (sym ends) (subst (P Done) (sym same) so)
 
--- a result is the same in each form
-pub done_in : (form : Form) (P : Writes) (text : List ℕ) → P Done text → InForm form P Done text
-done_in Lines P text so = so
-done_in Json P text so = inl (refl, so)
-
--- a fault is written in its form
-pub refused_in : (form : Form) (P : Writes) (refusal : Printed) → P Refused (line_of refusal) → InForm form P Refused (fault_text form refusal)
-refused_in Lines P refusal so = so
-refused_in Json P refusal so = inr (record { refusal = refusal; is = so; ends = refl; prints = refl })
-
--- what may be written in less cases may be written in a form
-pub InForm-weaker : (form : Form) (P Q : Writes) → ((ended : Ended) (text : List ℕ) → P ended text → Q ended text) → (ended : Ended) (text : List ℕ) → InForm form P ended text → InForm form Q ended text
-InForm-weaker Lines P Q to ended text so = to ended text so
-InForm-weaker Json P Q to ended text (inl (ends, so)) = inl (ends, to Done text so)
-InForm-weaker Json P Q to ended text (inr fault) = inr (record { refusal = fault.refusal; is = to Refused (line_of fault.refusal) fault.is; ends = fault.ends; prints = fault.prints })
-
 -- what is written of what was found is what may be written
-pub answered : (form : Form) (P : Writes) (found : FoundText) → Found P found → (ended : Ended) (text : List ℕ) → text_found form found ended text → InForm form P ended text
-answered form P (Ok found) so ended text prints = printed (InForm form P) (string_bytes found) (done_in form P (string_bytes found) so) ended text prints
-answered form P (Err (halts.Refused refusal)) so ended text (ends, line) =
-    subst (λ e. InForm form P e text) (sym ends) (subst (InForm form P Refused) (sym line) (refused_in form P (refusals.printed refusal) so))
+pub answered : (form : Form) (P : WritesIn) (found : FoundText) → Found P form found → (ended : Ended) (text : List ℕ) → text_found form found ended text → P form ended text
+answered form P (Ok found) so ended text prints = printed (P form) (string_bytes found) so ended text prints
+answered form P (Err (halts.Refused refusal)) so ended text (ends, line) = subst (λ e. P form e text) (sym ends) (subst (P form Refused) (sym line) so)
 answered form P (Err halts.Read) so ended text none = absurd none
 answered form P (Err halts.OutOfMemory) so ended text none = absurd none
 
 -- an engine that ends by what was found
-pub Ends-found : {W : Type 0} (contents : W → Option (List ℕ)) (form : Form) (P : Writes) (ReadFailed : Type 0) (old new : Writing W) (found : FoundText) (result : Result Ended EngineFault)
-    → Found P found → ((found ≡ Err halts.Read) ↔ ReadFailed) → Ends contents (text_found form found) (found ≡ Err halts.Read) old new result → Ends contents (InForm form P) ReadFailed old new result
+pub Ends-found : {W : Type 0} (contents : W → Option (List ℕ)) (form : Form) (P : WritesIn) (ReadFailed : Type 0) (old new : Writing W) (found : FoundText) (result : Result Ended EngineFault)
+    → Found P form found → ((found ≡ Err halts.Read) ↔ ReadFailed) → Ends contents (text_found form found) (found ≡ Err halts.Read) old new result → Ends contents (P form) ReadFailed old new result
 Ends-found contents form P ReadFailed old new found result so read is =
-    Ends-weaker contents (text_found form found) (InForm form P) _ ReadFailed old new result (answered form P found so) read is
+    Ends-weaker contents (text_found form found) (P form) _ ReadFailed old new result (answered form P found so) read is
 
 abbrev pub halt_in : {T : Type 0} → Result T Halt → Halt
 halt_in (Ok value) = halts.Read

@@ -16,7 +16,9 @@ use Rattle.odb_check.specs.declared.fault.CheckFault.{CheckFault}
 use Rattle.odb_check.specs.FaultTable.{check_row}
 use Rattle.odb_check.specs.LeastNameFault.{HasGoodNames, RefusesNames}
 use Rattle.odb_engine.specs.declared.ending.Ended.{Ended}
-use Rattle.odb_engine.specs.Cascade.{IsOne, Writes, line_of, RefusesBytes, Accepts, AcceptsValue, Answers, AnswersValue, HasValue, IsLeastOfBatch, OfDocument, at_place}
+use Rattle.odb_engine.specs.declared.form.Form.{Form}
+use Rattle.odb_engine.specs.Forms.{fault_text}
+use Rattle.odb_engine.specs.Cascade.{IsOne, WritesIn, RefusesBytes, Accepts, AcceptsValue, Answers, AnswersValue, HasValue, IsLeastOfBatch, OfDocument, at_place}
 use Rattle.odb_doc.specs.Refusals.{Printed}
 use Rattle.odb_engine.proofs.MemoryLemmas.{one_value}
 
@@ -75,12 +77,12 @@ refused_no_value place bytes refusal P refused has =
 -- ---- a document, and the value of a batch document
 
 -- one text is written of a document, if one is of its value
-pub document_one : (place : Place) (P : Data → Writes) (bytes : List ℕ) → ((value : Data) → IsOne (P value)) → IsOne (OfDocument place P bytes)
-document_one place P bytes one a b s t (inl x) (inl y) = (x.ends ∙ sym y.ends, x.line ∙ ap line_of (one_refusal place bytes x.refusal y.refusal x.is y.is) ∙ sym y.line)
-document_one place P bytes one a b s t (inl x) (inr y) = absurd (refused_no_value place bytes x.refusal (λ value. P value b t) x.is y)
-document_one place P bytes one a b s t (inr x) (inl y) = absurd (refused_no_value place bytes y.refusal (λ value. P value a s) y.is x)
-document_one place P bytes one a b s t (inr x) (inr y) =
-    one y.value a b s t (subst (λ value. P value a s) (one_value bytes x.value y.value x.document y.document) x.holds) y.holds
+pub document_one : (place : Place) (P : Data → WritesIn) (bytes : List ℕ) (form : Form) → ((value : Data) → IsOne (P value form)) → IsOne (OfDocument place P bytes form)
+document_one place P bytes form one a b s t (inl x) (inl y) = (x.ends ∙ sym y.ends, x.prints ∙ ap (fault_text form) (one_refusal place bytes x.refusal y.refusal x.is y.is) ∙ sym y.prints)
+document_one place P bytes form one a b s t (inl x) (inr y) = absurd (refused_no_value place bytes x.refusal (λ value. P value form b t) x.is y)
+document_one place P bytes form one a b s t (inr x) (inl y) = absurd (refused_no_value place bytes y.refusal (λ value. P value form a s) y.is x)
+document_one place P bytes form one a b s t (inr x) (inr y) =
+    one y.value a b s t (subst (λ value. P value form a s) (one_value bytes x.value y.value x.document y.document) x.holds) y.holds
 
 least_one : AreFunctional → (value : Data) (s t : Printed) → IsLeastOfBatch value s → IsLeastOfBatch value t → s ≡ t
 least_one law value s t (inl one) (inl two) =
@@ -96,18 +98,18 @@ least_not_value law value P refusal (inl one) is = law.no_plan_graph value one.f
 least_not_value law value P refusal (inr one) is =
     law.no_name is.batch one.fault (ap is_some one.is) (subst (RefusesNames one.fault) (law.one_batch value _ _ one.refuses.is_batch is.is_batch) one.refuses.holds) is.holds.0
 
-pub value_one : AreFunctional → (P : List Record → Writes) → ((batch : List Record) → HasGoodNames batch → IsOne (P batch)) → (value : Data) → IsOne (AnswersValue P value)
-value_one law P one value a b s t (inl x) (inl y) = (x.ends ∙ sym y.ends, x.line ∙ ap line_of (least_one law value x.refusal y.refusal x.is y.is) ∙ sym y.line)
-value_one law P one value a b s t (inl x) (inr y) = absurd (least_not_value law value (λ batch. P batch b t) x.refusal x.is y)
-value_one law P one value a b s t (inr x) (inl y) = absurd (least_not_value law value (λ batch. P batch a s) y.refusal y.is x)
-value_one law P one value a b s t (inr x) (inr y) =
-    one y.batch y.holds.0 a b s t (subst (λ xs. P xs a s) (law.one_batch value _ _ x.is_batch y.is_batch) x.holds.1) y.holds.1
+pub value_one : AreFunctional → (P : List Record → WritesIn) (form : Form) → ((batch : List Record) → HasGoodNames batch → IsOne (P batch form)) → (value : Data) → IsOne (AnswersValue P value form)
+value_one law P form one value a b s t (inl x) (inl y) = (x.ends ∙ sym y.ends, x.prints ∙ ap (fault_text form) (least_one law value x.refusal y.refusal x.is y.is) ∙ sym y.prints)
+value_one law P form one value a b s t (inl x) (inr y) = absurd (least_not_value law value (λ batch. P batch form b t) x.refusal x.is y)
+value_one law P form one value a b s t (inr x) (inl y) = absurd (least_not_value law value (λ batch. P batch form a s) y.refusal y.is x)
+value_one law P form one value a b s t (inr x) (inr y) =
+    one y.batch y.holds.0 a b s t (subst (λ xs. P xs form a s) (law.one_batch value _ _ x.is_batch y.is_batch) x.holds.1) y.holds.1
 
 -- ---- the cascade
 
 -- one text is written of a document, if one is of each batch whose names are good
-pub answers_one : AreFunctional → (P : List Record → Writes) (bytes : List ℕ) → ((batch : List Record) → HasGoodNames batch → IsOne (P batch)) → IsOne (Answers P bytes)
-answers_one law P bytes one = document_one Batch (AnswersValue P) bytes (value_one law P one)
+pub answers_one : AreFunctional → (P : List Record → WritesIn) (bytes : List ℕ) (form : Form) → ((batch : List Record) → HasGoodNames batch → IsOne (P batch form)) → IsOne (Answers P bytes form)
+answers_one law P bytes form one = document_one Batch (AnswersValue P) bytes form (value_one law P form one)
 
 -- two readings of a batch that is accepted have the same requests
 pub same_batch : AreFunctional → (bytes : List ℕ) (P Q : List Record → Type 0) → (one : Accepts bytes P) (two : Accepts bytes Q) → one.holds.batch ≡ two.holds.batch
@@ -115,10 +117,10 @@ same_batch law bytes P Q one two =
     law.one_batch two.value _ _ (subst (λ v. IsBatchOf v one.holds.batch) (one_value bytes one.value two.value one.document two.document) one.holds.is_batch) two.holds.is_batch
 
 -- what is written of a batch that is accepted is what P writes of its requests
-pub answers_accepted : AreFunctional → (P : List Record → Writes) (Q : List Record → Type 0) (bytes : List ℕ) (ended : Ended) (text : List ℕ) → Accepts bytes Q → Answers P bytes ended text → Accepts bytes (λ batch. P batch ended text)
-answers_accepted law P Q bytes ended text is (inl x) = absurd (refused_no_value Batch bytes x.refusal (λ value. AcceptsValue value Q) x.is is)
-answers_accepted law P Q bytes ended text is (inr y) = at y.holds
+pub answers_accepted : AreFunctional → (P : List Record → WritesIn) (Q : List Record → Type 0) (bytes : List ℕ) (form : Form) (ended : Ended) (text : List ℕ) → Accepts bytes Q → Answers P bytes form ended text → Accepts bytes (λ batch. P batch form ended text)
+answers_accepted law P Q bytes form ended text is (inl x) = absurd (refused_no_value Batch bytes x.refusal (λ value. AcceptsValue value Q) x.is is)
+answers_accepted law P Q bytes form ended text is (inr y) = at y.holds
   where
-    at : AnswersValue P y.value ended text → Accepts bytes (λ batch. P batch ended text)
+    at : AnswersValue P y.value form ended text → Accepts bytes (λ batch. P batch form ended text)
     at (inl x) = absurd (least_not_value law y.value Q x.refusal x.is (subst (λ v. AcceptsValue v Q) (one_value bytes is.value y.value is.document y.document) is.holds))
     at (inr so) = record { value = y.value; document = y.document; holds = so }

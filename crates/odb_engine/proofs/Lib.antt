@@ -8,6 +8,7 @@ mod RunLemmas
 mod RunLawLemmas
 mod LawLemmas
 mod ReadAgainLemmas
+mod ReplayedLemmas
 mod SecondLemmas
 mod CourseLemmas
 mod TextLemmas
@@ -20,8 +21,10 @@ mod RequestLemmas
 mod LabelLemmas
 mod LiveLawLemmas
 mod TaskLawLemmas
+mod PairLawLemmas
 mod ByteLemmas
 mod LineLemmas
 mod EachLineLemmas
 mod EachLineLawLemmas
 mod FullPlanLemmas
+mod AllFaultLemmas

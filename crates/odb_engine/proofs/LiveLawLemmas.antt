@@ -32,6 +32,7 @@ use Rattle.odb_reply.proofs.RestLemmas.{text_with-none}
 use Rattle.odb_engine.specs.declared.ending.Ended.{Ended}
 use Rattle.odb_engine.specs.declared.ending.Ended.TheVariants.{Done}
 use Rattle.odb_doc.specs.Refusals.{Printed}
+use Rattle.odb_engine.specs.declared.form.Form.{Form}
 use Rattle.odb_engine.specs.Cascade.{Accepts, Answers}
 use Rattle.odb_text.specs.Lines.{response_line}
 use Rattle.odb_engine.specs.Live.{IsAfter, IsLeastOfLive, IsOpened, Live, Opens, RecordsOneMore, Shows, with_run}
@@ -89,23 +90,23 @@ module _ (causes : HaveOneCause) (policy : Policy) (batch : List Record) (good :
   faultless finished refusal (OfEnd fs others walk ends is) =
       both_ways _ ends (ap (λ (l : List Event). is_finished (end_of policy batch l)) (same-events causes policy batch good ns fs es others resolved) ∙ finished)
 
-  finished-one : is_finished last ≡ true → (ended : Ended) (text : List ℕ) → RunsEvents policy batch ns ended text → (Done ≡ ended) × (response_line last ≡ text)
-  finished-one finished ended text (inl x) = absurd (faultless finished x.refusal x.is)
-  finished-one finished ended text (inr y) =
+  finished-one : is_finished last ≡ true → (form : Form) (ended : Ended) (text : List ℕ) → RunsEvents policy batch ns form ended text → (Done ≡ ended) × (response_line last ≡ text)
+  finished-one finished form ended text (inl x) = absurd (faultless finished x.refusal x.is)
+  finished-one finished form ended text (inr y) =
       (sym y.ends, ap (λ (l : List Event). response_line (end_of policy batch l)) (same-events causes policy batch good ns es y.events resolved y.resolved) ∙ sym y.result)
 
   -- the live run after the events, with these texts
   abbrev pub lived : List (Option (List ℕ)) → Live
   lived texts = record { labels = labels_of batch; texts = texts; run = without_requests last }
 
-  pub live-one : (texts : List (Option (List ℕ))) → HasNoText texts → (a b : Ended) (s t : List ℕ) → Shows (lived texts) a s → RunsEvents policy batch ns b t → (a ≡ b) × (s ≡ t)
-  live-one texts none a b s t (inl x) y = at x.is
+  pub live-one : (texts : List (Option (List ℕ))) → HasNoText texts → (form : Form) (a b : Ended) (s t : List ℕ) → Shows (lived texts) form a s → RunsEvents policy batch ns form b t → (a ≡ b) × (s ≡ t)
+  live-one texts none form a b s t (inl x) y = at x.is
     where
       at : IsLeastOfLive (lived texts) x.refusal → (a ≡ b) × (s ≡ t)
-      at (AtEnd goes is) = one-run causes policy batch good ns a b s t (inl (record { refusal = x.refusal; is = OfEnd es resolved run goes is; ends = x.ends; line = x.line })) y
+      at (AtEnd goes is) = one-run causes policy batch good ns form a b s t (inl (record { refusal = x.refusal; is = OfEnd es resolved run goes is; ends = x.ends; prints = x.prints })) y
       at (OfBody i finished body row) = absurd (body.holds (subst (λ text. HasWholeValue (answer (without_requests last) i) text) (sym (none i)) (whole i body.within)))
-  live-one texts none a b s t (inr (finished, (ends, is))) y =
-      let same = finished-one finished b t y in
+  live-one texts none form a b s t (inr (finished, (ends, is))) y =
+      let same = finished-one finished form b t y in
       let untexted = ap (λ bs. bs ++ newline ∷ []) (text_with-none (labels_of batch) texts (answer last) none) in
       let lines = ap (λ (rs : List Record). text_of (labels_of rs) (answer last) ++ newline ∷ []) (sym (requests-after_all first es)) in
       (ends ∙ same.0, is ∙ untexted ∙ lines ∙ same.1)
@@ -113,12 +114,12 @@ module _ (causes : HaveOneCause) (policy : Policy) (batch : List Record) (good :
 -- ---- from bytes
 
 module _ (law : AreFunctional) (causes : HaveOneCause) (history : AreOneHistory) (policy : Policy) where
-  after-one : (batch : List Record) → HasGoodNames batch → (events : List ℕ) (live : Live) → IsOpened policy batch events live → (a b : Ended) (s t : List ℕ) → Shows live a s
-      → RunsBatch policy batch events b t → (a ≡ b) × (s ≡ t)
-  after-one batch good events live opened a b s t shows (inl x) = absurd (refused_no_value places.Events events x.refusal _ x.is opened.after.named_in)
-  after-one batch good events live opened a b s t shows (inr has) = at has.holds
+  after-one : (batch : List Record) → HasGoodNames batch → (events : List ℕ) (live : Live) → IsOpened policy batch events live → (form : Form) (a b : Ended) (s t : List ℕ) → Shows live form a s
+      → RunsBatch policy batch events form b t → (a ≡ b) × (s ≡ t)
+  after-one batch good events live opened form a b s t shows (inl x) = absurd (refused_no_value places.Events events x.refusal _ x.is opened.after.named_in)
+  after-one batch good events live opened form a b s t shows (inr has) = at has.holds
     where
-      at : RunsValue policy batch has.value b t → (a ≡ b) × (s ≡ t)
+      at : RunsValue policy batch has.value form b t → (a ≡ b) × (s ≡ t)
       at (inl x) =
           let same = one_value events opened.after.named_in.value has.value opened.after.named_in.document has.document in
           absurd (second.least_not event_faults.event_row RefusesEvents IsEventsDocument AreEventsOf history has.value opened.after.named x.refusal x.is (subst (λ v. IsHistoryOf v opened.after.named) same opened.after.named_in.holds))
@@ -126,17 +127,17 @@ module _ (law : AreFunctional) (causes : HaveOneCause) (history : AreOneHistory)
           let in_document : AreEventsIn events ns = record { value = has.value; document = has.document; holds = lists } in
           let same = second.one_reading event_faults.event_row RefusesEvents IsEventsDocument AreEventsOf history events ns opened.after.named in_document opened.after.named_in in
           let sound = well-formed (elements opened.after.named_in.value) opened.after.named opened.after.named_in.holds.0.1 opened.after.named_in.holds.1 in
-          live-one causes policy batch good opened.after.named opened.after.events opened.after.resolved opened.after.may_come (whole-bodies policy batch opened.after.named opened.after.events opened.after.resolved sound) live.texts opened.texts a b s t
-          (subst (λ (x : Live). Shows x a s) (λ k. record { labels = opened.labels k; texts = live.texts; run = opened.after.state k }) shows)
-          (subst (λ xs. RunsEvents policy batch xs b t) same writes)
+          live-one causes policy batch good opened.after.named opened.after.events opened.after.resolved opened.after.may_come (whole-bodies policy batch opened.after.named opened.after.events opened.after.resolved sound) live.texts opened.texts form a b s t
+          (subst (λ (x : Live). Shows x form a s) (λ k. record { labels = opened.labels k; texts = live.texts; run = opened.after.state k }) shows)
+          (subst (λ xs. RunsEvents policy batch xs form b t) same writes)
 
-  pub live-text : (batch events : List ℕ) (live : Live) (a b : Ended) (s t : List ℕ) → Opens policy batch events live → Shows live a s → Answers (Runs policy (Some events)) batch b t → (a ≡ b) × (s ≡ t)
-  live-text batch events live a b s t opens shows recorded =
-      let x = answers_accepted law (Runs policy (Some events)) _ batch b t opens recorded in
+  pub live-text : (batch events : List ℕ) (live : Live) (form : Form) (a b : Ended) (s t : List ℕ) → Opens policy batch events live → Shows live form a s → Answers (Runs policy (Some events)) batch form b t → (a ≡ b) × (s ≡ t)
+  live-text batch events live form a b s t opens shows recorded =
+      let x = answers_accepted law (Runs policy (Some events)) _ batch form b t opens recorded in
       let is = opens.holds.holds.1 in
-      let (document, gives, writes) = subst (λ rs. Runs policy (Some events) rs b t) (same_batch law batch _ _ x opens) x.holds.holds.1 in
+      let (document, gives, writes) = subst (λ rs. Runs policy (Some events) rs form b t) (same_batch law batch _ _ x opens) x.holds.holds.1 in
       let whole = one_document events document events gives (whole-document events _ is.after.named_in) in
-      after-one opens.holds.batch opens.holds.holds.0 events live is a b s t shows (subst (λ bytes. RunsBatch policy opens.holds.batch bytes b t) whole writes)
+      after-one opens.holds.batch opens.holds.holds.0 events live is form a b s t shows (subst (λ bytes. RunsBatch policy opens.holds.batch bytes form b t) whole writes)
 
 -- ---- one event more
 

@@ -27,7 +27,9 @@ use Rattle.odb_reply.specs.BodyTexts.{HasNoText}
 use Rattle.odb_reply.specs.NotWhole.{IsFirstNotWholeValue}
 use Rattle.odb_engine.specs.declared.ending.Ended.TheVariants.{Refused}
 use Rattle.odb_engine.specs.declared.halt.Halt.{Halt}
-use Rattle.odb_engine.specs.Cascade.{Accepts, IsLeast, line_of}
+use Rattle.odb_engine.specs.declared.form.Form.{Form}
+use Rattle.odb_engine.specs.Cascade.{Accepts, IsLeast}
+use Rattle.odb_engine.specs.Forms.{fault_text}
 use Rattle.odb_engine.specs.Halts.{Found, Halted, RefusesNamesOf}
 use Rattle.odb_engine.specs.Live.{IsLeastAfter, IsLeastOfLive, Live, Shows}
 use Rattle.odb_engine.specs.Live.IsLeastAfter.{OfIds, OfEvent}
@@ -57,8 +59,8 @@ not-whole live finished (texts.NotWhole at) first shown row = OfBody at finished
 not-whole live finished texts.OutOfMemory first shown row = absurd (cc row)
 
 -- the fault of a run is shown of it
-pub refused : (live : Live) (halt : Halt) → Halted (IsLeastOfLive live) halt → Found (Shows live) (Err halt)
-refused live halt = Halted-weaker (IsLeastOfLive live) (λ refusal. Shows live Refused (line_of refusal)) (λ refusal so. inl (reports (IsLeastOfLive live) refusal so)) halt
+pub refused : (live : Live) (form : Form) (halt : Halt) → Halted (IsLeastOfLive live) halt → Found (Shows live) form (Err halt)
+refused live form halt = Halted-weaker (IsLeastOfLive live) (λ refusal. Shows live form Refused (fault_text form refusal)) (λ refusal so. inl (reports (IsLeastOfLive live) form refusal so)) halt
 
 -- a run that has gone on is of the same batch
 pub kept-with : (kept : Inside) (run : State) → run.plan_graph ≡ kept.run.plan_graph → IsOfOneBatch kept → IsOfOneBatch (record kept { run = run })

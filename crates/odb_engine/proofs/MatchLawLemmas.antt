@@ -1,11 +1,15 @@
 -- What a match writes of a batch and the bytes of a response document is one text.
-use Rattle.std.proofs.Common.{◌≡◌, ◌∙◌, ℕ, List, Some, IsSome, is_some, inl, inr, sym, ap}
+use Rattle.std.proofs.Common.{◌≡◌, ◌∙◌, ℕ, Bool, true, false, true≢false, List, Some, IsSome, is_some, inl, inr, sym, ap, subst}
 use Rattle.std.proofs.lemmas.Option.{same_Some}
 use Rattle.std.specs.List.{AllZip}
 use Rattle.serde_json.specs.Data.{Data}
 use Rattle.odb_doc.specs.declared.fault.Place.TheVariants as places
 use Rattle.odb_doc.specs.batch.Records.{Record}
+use Rattle.odb_check.specs.PlanGraph.{PlanGraph}
+use Rattle.odb_check.specs.Plans.{batch_plan_graph}
 use Rattle.odb_sched.specs.declared.policy.Mode.{Mode}
+use Rattle.odb_sched.specs.run.Possible.{IsPossible}
+use Rattle.odb_reply.specs.declared.status_fault.StatusFault.{StatusFault}
 use Rattle.odb_reply.specs.declared.match_fault.MatchFault.{MatchFault}
 use Rattle.odb_reply.specs.declared.response_fault.ResponseFault.{ResponseFault}
 use Rattle.odb_reply.specs.Fits.{Fits, IsTableOf}
@@ -13,9 +17,11 @@ use Rattle.odb_reply.specs.LeastMatchFault.{RefusesMatch}
 use Rattle.odb_reply.specs.MatchFaults as match_faults
 use Rattle.odb_reply.specs.ResponseDocuments.{Entry, IsResponseDocument, RefusesResponses, ReadsAs, responses_in}
 use Rattle.odb_reply.specs.ResponseDocuments as response_documents
+use Rattle.odb_reply.specs.StatusFaults.{RefusesStatuses, status_at, status_row}
 use Rattle.odb_doc.specs.Refusals.{Printed}
-use Rattle.odb_engine.specs.Cascade.{line_of, IsOne}
-use Rattle.odb_engine.specs.Matches.{MatchesIn, MatchesEntries, MatchesValue, Misfits, decided, match_text}
+use Rattle.odb_engine.specs.Cascade.{IsOne}
+use Rattle.odb_engine.specs.Forms.{fault_text}
+use Rattle.odb_engine.specs.Matches.{AreImpossible, IsAnswered, MatchesEntries, MatchesValue, Misfits, WritesStatuses, decided}
 use Rattle.odb_engine.specs.Inputs.{BySecond}
 use Rattle.odb_engine.specs.declared.form.Form.{Form}
 use Rattle.odb_engine.proofs.LawLemmas.{document_one}
@@ -31,20 +37,37 @@ pub record AreOneMatch : Type 0 where
   pub no_misfit : (requests : List Record) (responses : List Entry) (fault : MatchFault) → IsSome (match_faults.match_row fault) → RefusesMatch fault requests responses → ¬ Fits requests responses
   pub one_table : (requests : List Record) (responses : List Entry) (places others statuses different : List ℕ) → Fits requests responses
       → IsTableOf requests responses places statuses → IsTableOf requests responses others different → (places ≡ others) × (statuses ≡ different)
+  pub one_status : (plan : PlanGraph) (statuses : ℕ → ℕ) (fault other : StatusFault) → IsSome (status_row fault) → IsSome (status_row other) → RefusesStatuses fault plan statuses → RefusesStatuses other plan statuses → fault ≡ other
+  pub no_status : (plan : PlanGraph) (statuses : ℕ → ℕ) (fault : StatusFault) → IsSome (status_row fault) → RefusesStatuses fault plan statuses → ¬ IsPossible plan statuses
 
 one_misfits : AreOneMatch → (batch : List Record) (entries : List Entry) (s t : Printed) → Misfits batch entries s → Misfits batch entries t → s ≡ t
 one_misfits law batch entries s t one two =
     same_Some s t (sym one.is ∙ ap match_faults.match_row (law.one_misfit batch entries one.fault two.fault (ap is_some one.is) (ap is_some two.is) one.least two.least) ∙ two.is)
 
-entries_one : AreOneMatch → (form : Form) (batch : List Record) (entries : List Entry) → IsOne (MatchesEntries form batch entries)
-entries_one law form batch entries a b s t (inl x) (inl y) = (x.ends ∙ sym y.ends, x.line ∙ ap line_of (one_misfits law batch entries x.refusal y.refusal x.is y.is) ∙ sym y.line)
-entries_one law form batch entries a b s t (inl x) (inr y) = absurd (law.no_misfit batch entries x.is.fault (ap is_some x.is.is) x.is.least y.fits)
-entries_one law form batch entries a b s t (inr x) (inl y) = absurd (law.no_misfit batch entries y.is.fault (ap is_some y.is.is) y.is.least x.fits)
-entries_one law form batch entries a b s t (inr x) (inr y) =
+one_statuses : AreOneMatch → (strict : Bool) (batch : List Record) (statuses : List ℕ) (s t : Printed) → AreImpossible strict batch statuses s → AreImpossible strict batch statuses t → s ≡ t
+one_statuses law strict batch statuses s t one two =
+    same_Some s t (sym one.is ∙ ap status_row (law.one_status (batch_plan_graph batch) (status_at statuses) one.fault two.fault (ap is_some one.is) (ap is_some two.is) one.least two.least) ∙ two.is)
+
+-- statuses that no finished run answers are refused, where that is asked
+not_answered : AreOneMatch → (strict : Bool) (batch : List Record) (statuses : List ℕ) (refusal : Printed) → AreImpossible strict batch statuses refusal → ¬ IsAnswered strict batch statuses
+not_answered law false batch statuses refusal bad answered = absurd (true≢false (sym bad.asked))
+not_answered law true batch statuses refusal bad answered = law.no_status (batch_plan_graph batch) (status_at statuses) bad.fault (ap is_some bad.is) bad.least answered
+
+statuses_one : AreOneMatch → (strict : Bool) (batch : List Record) (statuses : List ℕ) (form : Form) → IsOne (WritesStatuses strict batch statuses form)
+statuses_one law strict batch statuses form a b s t (inl x) (inl y) = (x.ends ∙ sym y.ends, x.prints ∙ ap (fault_text form) (one_statuses law strict batch statuses x.refusal y.refusal x.is y.is) ∙ sym y.prints)
+statuses_one law strict batch statuses form a b s t (inl x) (inr y) = absurd (not_answered law strict batch statuses x.refusal x.is y.0)
+statuses_one law strict batch statuses form a b s t (inr x) (inl y) = absurd (not_answered law strict batch statuses y.refusal y.is x.0)
+statuses_one law strict batch statuses form a b s t (inr x) (inr y) = (x.1.0 ∙ sym y.1.0, x.1.1 ∙ sym y.1.1)
+
+entries_one : AreOneMatch → (strict : Bool) (batch : List Record) (entries : List Entry) (form : Form) → IsOne (MatchesEntries strict batch entries form)
+entries_one law strict batch entries form a b s t (inl x) (inl y) = (x.ends ∙ sym y.ends, x.prints ∙ ap (fault_text form) (one_misfits law batch entries x.refusal y.refusal x.is y.is) ∙ sym y.prints)
+entries_one law strict batch entries form a b s t (inl x) (inr y) = absurd (law.no_misfit batch entries x.is.fault (ap is_some x.is.is) x.is.least y.fits)
+entries_one law strict batch entries form a b s t (inr x) (inl y) = absurd (law.no_misfit batch entries y.is.fault (ap is_some y.is.is) y.is.least x.fits)
+entries_one law strict batch entries form a b s t (inr x) (inr y) =
     let same = law.one_table batch entries x.places y.places x.statuses y.statuses x.fits x.table y.table in
-    (x.prints.0 ∙ sym y.prints.0, x.prints.1 ∙ ap (match_text form batch) same.1 ∙ sym y.prints.1)
+    statuses_one law strict batch y.statuses form a b s t (subst (λ statuses. WritesStatuses strict batch statuses form a s) same.1 x.writes) y.writes
 
 -- a batch and the value of a response document have one text
-pub matches_value_one : AreOneMatch → (mode : Mode) (form : Form) (batch : List Record) (value : Data) → IsOne (MatchesValue mode form batch value)
-matches_value_one law mode form batch = reading_one response_documents.responses_row RefusesResponses IsResponseDocument (λ value. AllZip ReadsAs (responses_in value))
-    (record { one_fault = law.one_fault; no_fault = law.no_fault; one_reading = λ value. law.one_list (responses_in value) }) (λ entries. MatchesEntries form batch (decided mode batch entries)) (λ entries. entries_one law form batch (decided mode batch entries))
+pub matches_value_one : AreOneMatch → (mode : Mode) (strict : Bool) (batch : List Record) (value : Data) (form : Form) → IsOne (MatchesValue mode strict batch value form)
+matches_value_one law mode strict batch = reading_one response_documents.responses_row RefusesResponses IsResponseDocument (λ value. AllZip ReadsAs (responses_in value))
+    (record { one_fault = law.one_fault; no_fault = law.no_fault; one_reading = λ value. law.one_list (responses_in value) }) (λ entries. MatchesEntries strict batch (decided mode batch entries)) (λ entries. entries_one law strict batch (decided mode batch entries))

@@ -11,7 +11,8 @@ use Rattle.odb_sched.specs.declared.order.Order.{Order}
 use Rattle.odb_sched.specs.declared.policy.Policy.{Policy}
 use Rattle.odb_sched.specs.run.Choosing.{AllowsOrder}
 use Rattle.odb_engine.specs.declared.ending.Ended.TheVariants.{Done}
-use Rattle.odb_engine.specs.Cascade.{Writes, Accepts, AcceptsValue, Answers, AnswersValue}
+use Rattle.odb_engine.specs.declared.form.Form.{Form}
+use Rattle.odb_engine.specs.Cascade.{WritesIn, Accepts, AcceptsValue, Answers, AnswersValue}
 use Rattle.odb_engine.specs.ReadAgain.{IsReadAgain}
 use Rattle.odb_engine.specs.Replays.{Replays, ReplaysValue}
 use Rattle.odb_engine.specs.Runs.{Runs, RunsValue}
@@ -24,19 +25,19 @@ pub record AreReadings : Type 0 where
   pub events : (value : Data) (events : List EventValue) → IsHeld value → depth value ≤ 127 → AreEventsOf value events → All IsRecordableEvent events
 
 -- a result is written of a value, and of a batch that is accepted
-value-done : (P : List Record → Writes) (Q : List Record → Type 0) (value : Data) (text : List ℕ) → ((batch : List Record) → P batch Done text → Q batch) → AnswersValue P value Done text → AcceptsValue value Q
-value-done P Q value text so (inl x) = absurd (cc (x.ends))
-value-done P Q value text so (inr x) = record { batch = x.batch; plan_graph = x.plan_graph; is_batch = x.is_batch; holds = (x.holds.0, so x.batch x.holds.1) }
+value-done : (P : List Record → WritesIn) (Q : List Record → Type 0) (value : Data) (form : Form) (text : List ℕ) → ((batch : List Record) → P batch form Done text → Q batch) → AnswersValue P value form Done text → AcceptsValue value Q
+value-done P Q value form text so (inl x) = absurd (cc (x.ends))
+value-done P Q value form text so (inr x) = record { batch = x.batch; plan_graph = x.plan_graph; is_batch = x.is_batch; holds = (x.holds.0, so x.batch x.holds.1) }
 
-answers-done : (P : List Record → Writes) (Q : List Record → Type 0) (bytes text : List ℕ) → ((batch : List Record) → P batch Done text → Q batch) → Answers P bytes Done text → Accepts bytes Q
-answers-done P Q bytes text so (inl x) = absurd (cc (x.ends))
-answers-done P Q bytes text so (inr x) = record { value = x.value; document = x.document; holds = value-done P Q x.value text so x.holds }
+answers-done : (P : List Record → WritesIn) (Q : List Record → Type 0) (bytes text : List ℕ) (form : Form) → ((batch : List Record) → P batch form Done text → Q batch) → Answers P bytes form Done text → Accepts bytes Q
+answers-done P Q bytes text form so (inl x) = absurd (cc (x.ends))
+answers-done P Q bytes text form so (inr x) = record { value = x.value; document = x.document; holds = value-done P Q x.value form text so x.holds }
 
-replays-again : AreReadings → (order : Order) (policy : Policy) (outcomes text : List ℕ) (batch : List Record) → Replays (AllowsOrder order) policy false (Some outcomes) batch Done text → IsReadAgain batch text
-replays-again law order policy outcomes text batch (document, gives, inl x) = absurd (cc (x.ends))
-replays-again law order policy outcomes text batch (document, gives, inr has) = at has.holds
+replays-again : AreReadings → (order : Order) (policy : Policy) (outcomes text : List ℕ) (form : Form) (batch : List Record) → Replays (AllowsOrder order) policy false (Some outcomes) batch form Done text → IsReadAgain batch text
+replays-again law order policy outcomes text form batch (document, gives, inl x) = absurd (cc (x.ends))
+replays-again law order policy outcomes text form batch (document, gives, inr has) = at has.holds
   where
-    at : ReplaysValue (AllowsOrder order) policy false batch has.value Done text → IsReadAgain batch text
+    at : ReplaysValue (AllowsOrder order) policy false batch has.value form Done text → IsReadAgain batch text
     at (inl x) = absurd (cc (x.ends))
     at (inr (entries, is, inl result)) =
         let reads = has.document.1.1 in
@@ -44,11 +45,11 @@ replays-again law order policy outcomes text batch (document, gives, inr has) = 
         subst (IsReadAgain batch) (sym result.result) (result.read_again recordable)
     at (inr (entries, is, inr lacks)) = absurd (cc (lacks.ends))
 
-runs-again : AreReadings → (policy : Policy) (events text : List ℕ) (batch : List Record) → Runs policy (Some events) batch Done text → IsReadAgain batch text
-runs-again law policy events text batch (document, gives, inl x) = absurd (cc (x.ends))
-runs-again law policy events text batch (document, gives, inr has) = at has.holds
+runs-again : AreReadings → (policy : Policy) (events text : List ℕ) (form : Form) (batch : List Record) → Runs policy (Some events) batch form Done text → IsReadAgain batch text
+runs-again law policy events text form batch (document, gives, inl x) = absurd (cc (x.ends))
+runs-again law policy events text form batch (document, gives, inr has) = at has.holds
   where
-    at : RunsValue policy batch has.value Done text → IsReadAgain batch text
+    at : RunsValue policy batch has.value form Done text → IsReadAgain batch text
     at (inl x) = absurd (cc (x.ends))
     at (inr (named, is, inl x)) = absurd (cc (x.ends))
     at (inr (named, is, inr result)) =
@@ -56,8 +57,8 @@ runs-again law policy events text batch (document, gives, inr has) = at has.hold
         let recordable = law.events has.value named (law.held document has.value reads) (law.nests document has.value reads) is.1 in
         subst (IsReadAgain batch) (sym result.result) (result.read_again recordable)
 
-pub replay-again : AreReadings → (order : Order) (policy : Policy) (bytes outcomes text : List ℕ) → Answers (Replays (AllowsOrder order) policy false (Some outcomes)) bytes Done text → Accepts bytes (λ batch. IsReadAgain batch text)
-replay-again law order policy bytes outcomes text = answers-done (Replays (AllowsOrder order) policy false (Some outcomes)) (λ batch. IsReadAgain batch text) bytes text (replays-again law order policy outcomes text)
+pub replay-again : AreReadings → (order : Order) (policy : Policy) (form : Form) (bytes outcomes text : List ℕ) → Answers (Replays (AllowsOrder order) policy false (Some outcomes)) bytes form Done text → Accepts bytes (λ batch. IsReadAgain batch text)
+replay-again law order policy form bytes outcomes text = answers-done (Replays (AllowsOrder order) policy false (Some outcomes)) (λ batch. IsReadAgain batch text) bytes text form (replays-again law order policy outcomes text form)
 
-pub run-again : AreReadings → (policy : Policy) (bytes events text : List ℕ) → Answers (Runs policy (Some events)) bytes Done text → Accepts bytes (λ batch. IsReadAgain batch text)
-run-again law policy bytes events text = answers-done (Runs policy (Some events)) (λ batch. IsReadAgain batch text) bytes text (runs-again law policy events text)
+pub run-again : AreReadings → (policy : Policy) (form : Form) (bytes events text : List ℕ) → Answers (Runs policy (Some events)) bytes form Done text → Accepts bytes (λ batch. IsReadAgain batch text)
+run-again law policy form bytes events text = answers-done (Runs policy (Some events)) (λ batch. IsReadAgain batch text) bytes text form (runs-again law policy events text form)

@@ -27,8 +27,6 @@ use Rattle.odb_doc.specs.Statuses.{is_status, is_success}
 use Rattle.odb_sched.specs.run.Steps.{unit_succeeded}
 use Rattle.odb_reply.specs.NotWhole.{HasWholeBody, HasWholeBodies}
 use Rattle.odb_reply.specs.Readable.{AnswersBy, IsReadable}
-use Rattle.odb_engine.specs.declared.ending.Ended.TheVariants.{Refused}
-use Rattle.odb_engine.specs.Cascade.{line_of}
 use Rattle.odb_engine.specs.Replays.{LacksOutcome, offers_of}
 
 -- what is recorded for an id is in an entry
@@ -52,7 +50,7 @@ abbrev outcome_in : Result Outcome ServiceFault → Option Outcome
 outcome_in (Ok outcome) = Some outcome
 outcome_in (Err cause) = None
 
-offered-outcome : (slot : Option Outcome) (outcome : Outcome) → Ok outcome ≡ offered slot → slot ≡ Some outcome
+pub offered-outcome : (slot : Option Outcome) (outcome : Outcome) → Ok outcome ≡ offered slot → slot ≡ Some outcome
 offered-outcome None outcome e = absurd (true≢false (ap (λ answer. is_some (outcome_in answer)) e))
 offered-outcome (Some other) outcome e = sym (ap outcome_in e)
 
@@ -117,8 +115,8 @@ not_failed (Some outcome) e = true≢false (ap is_failed e)
 -- an execution by recorded outcomes fails only if an outcome is missing
 pub lacks-outcome : (allows : Allowance) (policy : Policy) (batch : List Record) (entries : List Recorded) (cause : ExecFault) → All IsWellFormedOutcome entries
     → IsCausedBy (offers_of batch entries) (IsReportEnabled allows (offers_of batch entries) (first_state batch policy)) cause
-    → (refusal : Printed) → exec_row cause ≡ Some refusal → LacksOutcome allows policy batch entries Refused (line_of refusal)
-lacks-outcome allows policy batch entries (fault.NoOutcome i) sound (due, none) refusal row = record { at = i; due = due; none = none; ends = refl; line = ap line_of (same_Some _ _ (sym row)) }
+    → (refusal : Printed) → exec_row cause ≡ Some refusal → LacksOutcome allows policy batch entries refusal
+lacks-outcome allows policy batch entries (fault.NoOutcome i) sound (due, none) refusal row = record { at = i; due = due; none = none; is = same_Some _ _ (sym row) }
 lacks-outcome allows policy batch entries (fault.Service i) sound (due, failed) refusal row = absurd (not_failed (get_or (recorded_for batch entries) i None) failed)
 lacks-outcome allows policy batch entries (fault.BadStatus i) sound (due, (outcome, offer, bad)) refusal row =
     let (entry, fit, same) = offered-entry IsWellFormedOutcome batch entries i outcome sound offer in

@@ -27,7 +27,9 @@ use Rattle.odb_send.specs.Parts.{IsBatchIn}
 use Rattle.odb_engine.specs.declared.ending.Ended.{Ended}
 use Rattle.odb_engine.specs.declared.ending.Ended.TheVariants.{Done, Refused}
 use Rattle.odb_engine.specs.declared.halt.Halt.{Halt}
-use Rattle.odb_engine.specs.Cascade.{Accepts, Answers, IsLeast, IsLeastOfBatch, RefusesBytes, Writes, line_of}
+use Rattle.odb_engine.specs.Cascade.{Accepts, Answers, IsLeast, IsLeastOfBatch, RefusesBytes, WritesIn}
+use Rattle.odb_engine.specs.declared.form.Form.{Form}
+use Rattle.odb_engine.specs.Forms.{fault_text}
 use Rattle.odb_engine.specs.Contents.{IsAskedFor}
 use Rattle.odb_engine.specs.Contents.Content.{Bytes}
 use Rattle.odb_engine.specs.Halts.{Refuses, HaltsBy}
@@ -36,20 +38,20 @@ use Rattle.odb_engine.specs.Rests.{EndsLine, LacksLocations, RestsValue}
 use Rattle.odb_engine.proofs.EngineLemmas.{reports, halted-by, halt-fault}
 
 -- the response document has a fault
-pub rest-responses : (mode : Mode) (document : List ℕ) (batch : List Record) (value : Data) (fault : ResponseFault) → RefusesResponses fault value → (halt : Halt) → HaltsBy (response_documents.responses_row fault) halt → Refuses (RestsValue mode document batch value) halt
-rest-responses mode document batch value fault least = halt-fault RefusesResponses response_documents.responses_row (RestsValue mode document batch value) value (λ refusal is. inl (reports (IsFaultOfResponses value) refusal is)) fault least
+pub rest-responses : (mode : Mode) (form : Form) (document : List ℕ) (batch : List Record) (value : Data) (fault : ResponseFault) → RefusesResponses fault value → (halt : Halt) → HaltsBy (response_documents.responses_row fault) halt → Refuses (RestsValue mode document batch value) form halt
+rest-responses mode form document batch value fault least = halt-fault RefusesResponses response_documents.responses_row (RestsValue mode document batch value) form value (λ refusal is. inl (reports (IsFaultOfResponses value) form refusal is)) fault least
 
 -- the responses do not fit the batch
-pub rest-misfit : (mode : Mode) (document : List ℕ) (batch : List Record) (value : Data) (entries : List Entry) (fault : MatchFault) → Lists value entries → RefusesMatch fault batch (decided mode batch entries)
-    → (halt : Halt) → HaltsBy (match_faults.match_row fault) halt → Refuses (RestsValue mode document batch value) halt
-rest-misfit mode document batch value entries fault lists least = halted-by (λ refusal. RestsValue mode document batch value Refused (line_of refusal)) _
-    (λ refusal row. inr (entries, lists, inl (reports (Misfits batch (decided mode batch entries)) refusal (record { fault = fault; least = least; is = row }))))
+pub rest-misfit : (mode : Mode) (form : Form) (document : List ℕ) (batch : List Record) (value : Data) (entries : List Entry) (fault : MatchFault) → Lists value entries → RefusesMatch fault batch (decided mode batch entries)
+    → (halt : Halt) → HaltsBy (match_faults.match_row fault) halt → Refuses (RestsValue mode document batch value) form halt
+rest-misfit mode form document batch value entries fault lists least = halted-by (λ refusal. RestsValue mode document batch value form Refused (fault_text form refusal)) _
+    (λ refusal row. inr (entries, lists, inl (reports (Misfits batch (decided mode batch entries)) form refusal (record { fault = fault; least = least; is = row }))))
 
 -- a Location is missing
-pub rest-location : (mode : Mode) (document : List ℕ) (batch : List Record) (value : Data) (entries : List Entry) (places statuses : List ℕ) (fault : RestFault) → Lists value entries → Fits batch (decided mode batch entries)
+pub rest-location : (mode : Mode) (form : Form) (document : List ℕ) (batch : List Record) (value : Data) (entries : List Entry) (places statuses : List ℕ) (fault : RestFault) → Lists value entries → Fits batch (decided mode batch entries)
     → IsTableOf batch (decided mode batch entries) places statuses → ((units : List Bool) → AreMarksOf batch (IsInRest batch statuses) units → RefusesRest fault batch units (recorded value places))
-    → (halt : Halt) → HaltsBy (rest_row fault) halt → Refuses (RestsValue mode document batch value) halt
-rest-location mode document batch value entries places statuses fault lists fits table least = halted-by (λ refusal. RestsValue mode document batch value Refused (line_of refusal)) _
+    → (halt : Halt) → HaltsBy (rest_row fault) halt → Refuses (RestsValue mode document batch value) form halt
+rest-location mode form document batch value entries places statuses fault lists fits table least = halted-by (λ refusal. RestsValue mode document batch value form Refused (fault_text form refusal)) _
     (λ refusal row. inr (
       entries,
       lists,
@@ -58,15 +60,15 @@ rest-location mode document batch value entries places statuses fault lists fits
         places = places;
         statuses = statuses;
         table = table;
-        writes = inl (reports (LacksLocations batch value places statuses) refusal (record { fault = fault; least = least; is = row }));
+        writes = inl (reports (LacksLocations batch value places statuses) form refusal (record { fault = fault; least = least; is = row }));
       }),
     ))
 
 -- the text of the rest
-pub found-rest : (mode : Mode) (document : List ℕ) (batch : List Record) (value : Data) (entries : List Entry) (places statuses text : List ℕ) (rest : Rest) → Lists value entries → Fits batch (decided mode batch entries)
+pub found-rest : (mode : Mode) (form : Form) (document : List ℕ) (batch : List Record) (value : Data) (entries : List Entry) (places statuses text : List ℕ) (rest : Rest) → Lists value entries → Fits batch (decided mode batch entries)
     → IsTableOf batch (decided mode batch entries) places statuses → IsRestOf batch statuses (recorded value places) rest → ((d : Data) → IsBatchIn document d batch → IsTextOf document d batch rest text)
-    → RestsValue mode document batch value Done text
-found-rest mode document batch value entries places statuses text rest lists fits table is written = inr (
+    → RestsValue mode document batch value form Done text
+found-rest mode form document batch value entries places statuses text rest lists fits table is written = inr (
   entries,
   lists,
   inr (record {
@@ -80,14 +82,14 @@ found-rest mode document batch value entries places statuses text rest lists fit
 
 -- ---- the batch in a document
 
--- the line of the least fault of the batch may be written
-pub least-answers : (P : List Record → Writes) (bytes : List ℕ) (refusal : Printed) → IsLeast bytes refusal → Answers P bytes Refused (line_of refusal)
-least-answers P bytes refusal (inl is) = inl (reports (RefusesBytes Batch bytes) refusal is)
-least-answers P bytes refusal (inr has) = inr (record { value = has.value; document = has.document; holds = inl (reports (IsLeastOfBatch has.value) refusal has.holds) })
+-- the least fault of the batch may be written
+pub least-answers : (P : List Record → WritesIn) (bytes : List ℕ) (form : Form) (refusal : Printed) → IsLeast bytes refusal → Answers P bytes form Refused (fault_text form refusal)
+least-answers P bytes form refusal (inl is) = inl (reports (RefusesBytes Batch bytes) form refusal is)
+least-answers P bytes form refusal (inr has) = inr (record { value = has.value; document = has.document; holds = inl (reports (IsLeastOfBatch has.value) form refusal has.holds) })
 
 -- what is written of a batch that is accepted
-pub accepted-answers : (P : List Record → Writes) (bytes : List ℕ) (value : Data) (batch : List Record) (ended : Ended) (text : List ℕ) → IsDocument bytes value → IsWellShaped value → IsBatchOf value batch → HasGoodNames batch → P batch ended text → Answers P bytes ended text
-accepted-answers P bytes value batch ended text document shaped is good writes = inr (record { value = value; document = document; holds = inr (record { batch = batch; plan_graph = shaped; is_batch = is; holds = (good, writes) }) })
+pub accepted-answers : (P : List Record → WritesIn) (bytes : List ℕ) (value : Data) (batch : List Record) (form : Form) (ended : Ended) (text : List ℕ) → IsDocument bytes value → IsWellShaped value → IsBatchOf value batch → HasGoodNames batch → P batch form ended text → Answers P bytes form ended text
+accepted-answers P bytes value batch form ended text document shaped is good writes = inr (record { value = value; document = document; holds = inr (record { batch = batch; plan_graph = shaped; is_batch = is; holds = (good, writes) }) })
 
 -- the second reader was asked only after the first
 pub asked-after : {S : Type 0} (was_read : Type 0) (bytes : List ℕ) (old new : S) → was_read → (new ≡ old) ⊎ Accepts bytes (λ _. Unit {0}) → IsAskedFor was_read (Bytes bytes) old new
@@ -95,5 +97,5 @@ asked-after was_read bytes old new was (inl same) = inl same
 asked-after was_read bytes old new was (inr accepts) = inr (was, accepts)
 
 -- the text of the rest and a newline
-pub ends-line : (P : Writes) (text line : List ℕ) → P Done text → line ≡ text ++ newline ∷ [] → EndsLine P Done line
-ends-line P text line so same = (text, so, same)
+pub ends-line : (P : WritesIn) (form : Form) (text line : List ℕ) → P form Done text → line ≡ text ++ newline ∷ [] → EndsLine P form Done line
+ends-line P form text line so same = (text, so, same)

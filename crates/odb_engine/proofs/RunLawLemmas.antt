@@ -25,7 +25,9 @@ use Rattle.odb_sched.specs.run.State.{State, after, first_state}
 use Rattle.odb_sched.specs.run.Steps.{is_finished, may_come}
 use Rattle.odb_engine.specs.declared.ending.Ended.{Ended}
 use Rattle.odb_doc.specs.Refusals.{Printed}
-use Rattle.odb_engine.specs.Cascade.{line_of, IsOne}
+use Rattle.odb_engine.specs.declared.form.Form.{Form}
+use Rattle.odb_engine.specs.Cascade.{IsOne}
+use Rattle.odb_engine.specs.Forms.{fault_text}
 use Rattle.odb_text.specs.Lines.{response_line}
 use Rattle.odb_engine.specs.Runs.{AreResolved, IsLeastOfRun, IsResult, Runs, RunsBatch, RunsEvents, RunsValue, end_of}
 use Rattle.odb_engine.specs.Runs.IsLeastOfRun.{OfIds, OfEvent, OfEnd}
@@ -126,11 +128,11 @@ module _ (causes : HaveOneCause) (policy : Policy) (batch : List Record) (good :
   not-least a ended text (OfEnd es q run barred same) y =
       both_ways _ barred (ap (λ (l : List Event). is_finished (end_of policy batch l)) (same-events es y.events q y.resolved) ∙ y.finished)
 
-  pub one-run : IsOne (RunsEvents policy batch ns)
-  one-run a b s t (inl x) (inl y) = (x.ends ∙ sym y.ends, x.line ∙ ap line_of (one-least x.refusal y.refusal x.is y.is) ∙ sym y.line)
-  one-run a b s t (inl x) (inr y) = absurd (not-least x.refusal b t x.is y)
-  one-run a b s t (inr x) (inl y) = absurd (not-least y.refusal a s y.is x)
-  one-run a b s t (inr x) (inr y) =
+  pub one-run : (form : Form) → IsOne (RunsEvents policy batch ns form)
+  one-run form a b s t (inl x) (inl y) = (x.ends ∙ sym y.ends, x.prints ∙ ap (fault_text form) (one-least x.refusal y.refusal x.is y.is) ∙ sym y.prints)
+  one-run form a b s t (inl x) (inr y) = absurd (not-least x.refusal b t x.is y)
+  one-run form a b s t (inr x) (inl y) = absurd (not-least y.refusal a s y.is x)
+  one-run form a b s t (inr x) (inr y) =
       (x.ends ∙ sym y.ends, x.result ∙ ap (λ (l : List Event). response_line (end_of policy batch l)) (same-events x.events y.events x.resolved y.resolved) ∙ sym y.result)
 
 -- the laws of odb_doc on documents of events
@@ -138,5 +140,5 @@ abbrev pub AreOneHistory : Type 0
 AreOneHistory = IsOneKind event_faults.event_row RefusesEvents IsEventsDocument AreEventsOf
 
 -- a batch and the value of a document of events have one text
-pub runs_value_one : HaveOneCause → AreOneHistory → (policy : Policy) (batch : List Record) → HasGoodNames batch → (value : Data) → IsOne (RunsValue policy batch value)
+pub runs_value_one : HaveOneCause → AreOneHistory → (policy : Policy) (batch : List Record) → HasGoodNames batch → (value : Data) (form : Form) → IsOne (RunsValue policy batch value form)
 runs_value_one causes law policy batch good = reading_one event_faults.event_row RefusesEvents IsEventsDocument AreEventsOf law (RunsEvents policy batch) (one-run causes policy batch good)

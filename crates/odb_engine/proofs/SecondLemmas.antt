@@ -5,7 +5,9 @@ use Rattle.std.proofs.lemmas.Option.{same_Some}
 use Rattle.std.proofs.Math.Seq.{take-append_seam}
 use Rattle.serde_json.specs.Data.{Data}
 use Rattle.odb_doc.specs.Refusals.{Printed}
-use Rattle.odb_engine.specs.Cascade.{Writes, HasFault, HasValue, Reports, line_of, IsOne}
+use Rattle.odb_engine.specs.declared.form.Form.{Form}
+use Rattle.odb_engine.specs.Cascade.{Writes, WritesIn, HasFault, HasValue, Reports, IsOne}
+use Rattle.odb_engine.specs.Forms.{fault_text}
 use Rattle.odb_engine.specs.Inputs.{IsDocumentOf, SomeDocument}
 use Rattle.odb_engine.proofs.MemoryLemmas.{one_value}
 
@@ -41,8 +43,8 @@ module _ {F X : Type 0} (row : F → Option Printed) (Refuses : F → Data → T
   IsReadAs value x = IsGood value × Reads value x
 
   -- what is written of a value, by what it reads as
-  abbrev ByReading : (X → Writes) → Data → Writes
-  ByReading W value ended text = Reports (HasFault Refuses row value) ended text ⊎ ((x : X) × IsReadAs value x × W x ended text)
+  abbrev ByReading : (X → WritesIn) → Data → WritesIn
+  ByReading W value form ended text = Reports (HasFault Refuses row value) form ended text ⊎ ((x : X) × IsReadAs value x × W x form ended text)
 
   least_one : (value : Data) (s t : Printed) → HasFault Refuses row value s → HasFault Refuses row value t → s ≡ t
   least_one value s t one two = same_Some s t (sym one.is ∙ ap row (law.one_fault value one.fault two.fault (ap is_some one.is) (ap is_some two.is) one.refuses two.refuses) ∙ two.is)
@@ -51,12 +53,12 @@ module _ {F X : Type 0} (row : F → Option Printed) (Refuses : F → Data → T
   least_not value x refusal one is = law.no_fault value one.fault (ap is_some one.is) one.refuses is.0
 
   -- one text is written of a value, if one is by each reading
-  pub reading_one : (W : X → Writes) → ((x : X) → IsOne (W x)) → (value : Data) → IsOne (ByReading W value)
-  reading_one W one value a b s t (inl x) (inl y) = (x.ends ∙ sym y.ends, x.line ∙ ap line_of (least_one value x.refusal y.refusal x.is y.is) ∙ sym y.line)
-  reading_one W one value a b s t (inl x) (inr (other, is, so)) = absurd (least_not value other x.refusal x.is is)
-  reading_one W one value a b s t (inr (reading, is, so)) (inl y) = absurd (least_not value reading y.refusal y.is is)
-  reading_one W one value a b s t (inr (reading, is, so)) (inr (other, too, also)) =
-      one other a b s t (subst (λ x. W x a s) (law.one_reading value reading other is.1 too.1) so) also
+  pub reading_one : (W : X → WritesIn) → ((x : X) (form : Form) → IsOne (W x form)) → (value : Data) (form : Form) → IsOne (ByReading W value form)
+  reading_one W one value form a b s t (inl x) (inl y) = (x.ends ∙ sym y.ends, x.prints ∙ ap (fault_text form) (least_one value x.refusal y.refusal x.is y.is) ∙ sym y.prints)
+  reading_one W one value form a b s t (inl x) (inr (other, is, so)) = absurd (least_not value other x.refusal x.is is)
+  reading_one W one value form a b s t (inr (reading, is, so)) (inl y) = absurd (least_not value reading y.refusal y.is is)
+  reading_one W one value form a b s t (inr (reading, is, so)) (inr (other, too, also)) =
+      one other form a b s t (subst (λ x. W x form a s) (law.one_reading value reading other is.1 too.1) so) also
 
   -- two readings of the bytes of a document are equal
   pub one_reading : (bytes : List ℕ) (x y : X) → HasValue bytes (λ value. IsReadAs value x) → HasValue bytes (λ value. IsReadAs value y) → x ≡ y

@@ -6,7 +6,8 @@ use Rattle.odb_doc.specs.batch.Records.{Record}
 use Rattle.odb_engine.specs.declared.halt.Halt.{Halt}
 use Rattle.odb_engine.specs.declared.halt.Halt.TheVariants as halts
 use Rattle.odb_engine.specs.declared.ending.Ended.{Ended}
-use Rattle.odb_engine.specs.Cascade.{Writes, AcceptsValue}
+use Rattle.odb_engine.specs.declared.form.Form.{Form}
+use Rattle.odb_engine.specs.Cascade.{WritesIn, AcceptsValue}
 use Rattle.odb_engine.specs.Contents.{Content, Given, AcceptsContent, IsAskedFor, IsValueOf, OfContent, OfGiven, RefusesContent, SomeContent}
 use Rattle.odb_engine.specs.Contents.Content.{Bytes, Held}
 use Rattle.odb_engine.specs.Contents.Given.{ByReader, InHand, InMemory}
@@ -20,16 +21,16 @@ some-weaker (InMemory bytes) P Q to so = to (Bytes bytes) so
 some-weaker (InHand value) P Q to so = to (Held value) so
 
 -- what is written of the value of a document is written of the document
-pub of-content : (place : Place) (P : Data → Writes) (content : Content) (value : Data) → IsValueOf content value → (ended : Ended) (text : List _) → P value ended text → OfContent place P content ended text
-of-content place P (Bytes bytes) value is ended text so = of-value place P bytes value is ended text so
-of-content place P (Held held) value is ended text so = subst (λ v. P v ended text) is so
+pub of-content : (place : Place) (P : Data → WritesIn) (content : Content) (value : Data) → IsValueOf content value → (form : Form) (ended : Ended) (text : List _) → P value form ended text → OfContent place P content form ended text
+of-content place P (Bytes bytes) value is form ended text so = of-value place P bytes value is form ended text so
+of-content place P (Held held) value is form ended text so = subst (λ v. P v form ended text) is so
 
 -- the bytes of the document are refused
-pub halt-content : (place : Place) (P : Data → Writes) (content : Content) (halt : Halt) → Halted (RefusesContent place content) halt → Refuses (OfContent place P content) halt
-halt-content place P (Bytes bytes) halt refused = halt-document place P bytes halt refused
-halt-content place P (Held value) (halts.Refused refusal) refused = absurd refused
-halt-content place P (Held value) halts.Read refused = tt
-halt-content place P (Held value) halts.OutOfMemory refused = tt
+pub halt-content : (place : Place) (P : Data → WritesIn) (content : Content) (form : Form) (halt : Halt) → Halted (RefusesContent place content) halt → Refuses (OfContent place P content) form halt
+halt-content place P (Bytes bytes) form halt refused = halt-document place P bytes form halt refused
+halt-content place P (Held value) form (halts.Refused refusal) refused = absurd refused
+halt-content place P (Held value) form halts.Read refused = tt
+halt-content place P (Held value) form halts.OutOfMemory refused = tt
 
 accepts-content : (P : List Record → Type 0) (content : Content) (value : Data) → IsValueOf content value → AcceptsValue value P → AcceptsContent content P
 accepts-content P (Bytes bytes) value is accepts = record { value = value; document = is; holds = accepts }
@@ -41,12 +42,12 @@ asked-for was_read content value old new is was (inl same) = inl same
 asked-for was_read content value old new is was (inr accepts) = inr (was, accepts-content (λ _. Unit {0}) content value is accepts)
 
 -- what was found of the value of a second document
-pub given-found : (given : Given) (place : Place) (P : Data → Writes) (value : Data) (W : Content → Type 0) (found : FoundText) → SomeContent given (λ content. (IsValueOf content value × W content) × Unit {0}) → Found (P value) found → Found (OfGiven given place P) found
-given-found given place P value W found some = found-weaker (P value) (OfGiven given place P) found (λ ended text so.
-    some-weaker given _ (λ content. OfContent place P content ended text) (λ content is. of-content place P content value is.0.0 ended text so) some)
+pub given-found : (given : Given) (place : Place) (P : Data → WritesIn) (value : Data) (W : Content → Type 0) (form : Form) (found : FoundText) → SomeContent given (λ content. (IsValueOf content value × W content) × Unit {0}) → Found (P value) form found → Found (OfGiven given place P) form found
+given-found given place P value W form found some = found-weaker (P value) (OfGiven given place P) form found (λ ended text so.
+    some-weaker given _ (λ content. OfContent place P content form ended text) (λ content is. of-content place P content value is.0.0 form ended text so) some)
 
 -- the bytes of a second document are refused
-pub given-halt : (given : Given) (place : Place) (P : Data → Writes) (halt : Halt) → SomeContent given (λ content. Unit {0} × Halted (RefusesContent place content) halt) → Refuses (OfGiven given place P) halt
-given-halt given place P (halts.Refused refusal) some = some-weaker given _ _ (λ content is. halt-content place P content (halts.Refused refusal) is.1) some
-given-halt given place P halts.Read some = tt
-given-halt given place P halts.OutOfMemory some = tt
+pub given-halt : (given : Given) (place : Place) (P : Data → WritesIn) (form : Form) (halt : Halt) → SomeContent given (λ content. Unit {0} × Halted (RefusesContent place content) halt) → Refuses (OfGiven given place P) form halt
+given-halt given place P form (halts.Refused refusal) some = some-weaker given _ _ (λ content is. halt-content place P content form (halts.Refused refusal) is.1) some
+given-halt given place P form halts.Read some = tt
+given-halt given place P form halts.OutOfMemory some = tt

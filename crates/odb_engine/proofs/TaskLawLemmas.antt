@@ -12,7 +12,8 @@ use Rattle.odb_sched.specs.run.State.{State}
 use Rattle.odb_engine.specs.declared.form.Form.{Form}
 use Rattle.odb_engine.specs.declared.task.Task.{Task}
 use Rattle.odb_engine.specs.declared.task.Task.TheVariants as tasks
-use Rattle.odb_engine.specs.Cascade.{Answers, AnswersValue, IsOne, OfDocument, Writes, line_of}
+use Rattle.odb_engine.specs.Cascade.{Answers, AnswersValue, IsOne, OfDocument, WritesIn}
+use Rattle.odb_engine.specs.Forms.{fault_text}
 use Rattle.odb_engine.specs.Contents.{Given, OfGiven}
 use Rattle.odb_engine.specs.Contents.Given.{ByReader, InHand, InMemory}
 use Rattle.odb_engine.specs.Tasks.{AnswersPair, InLine, OfLine, OfPair, OfTask, takes_second}
@@ -43,27 +44,27 @@ tail no_items = no_items
 tail (item d ds) = ds
 
 -- the first and the second of a pair are determined
-first-one : (a b c d : Data) → array (item a (item b no_items)) ≡ array (item c (item d no_items)) → a ≡ c
+pub first-one : (a b c d : Data) → array (item a (item b no_items)) ≡ array (item c (item d no_items)) → a ≡ c
 first-one a b c d same = ap (λ v. head (elements v)) same
 
-second-one : (a b c d : Data) → array (item a (item b no_items)) ≡ array (item c (item d no_items)) → b ≡ d
+pub second-one : (a b c d : Data) → array (item a (item b no_items)) ≡ array (item c (item d no_items)) → b ≡ d
 second-one a b c d same = ap (λ v. head (tail (elements v))) same
 
 -- one text is written of a line with two documents, if one is of each batch and each second document
-module _ (law : AreFunctional) (P : List Record → Data → Writes) (one : (batch : List Record) → HasGoodNames batch → (second : Data) → IsOne (P batch second)) where
-  pair-value : (value : Data) → IsOne (AnswersPair P value)
-  pair-value value a b s t (inl x) (inl y) = (x.ends ∙ sym y.ends, x.line ∙ ap line_of (x.is.is ∙ sym y.is.is) ∙ sym y.line)
+module _ (law : AreFunctional) (P : List Record → Data → WritesIn) (form : Form) (one : (batch : List Record) → HasGoodNames batch → (second : Data) → IsOne (P batch second form)) where
+  pair-value : (value : Data) → IsOne (AnswersPair P value form)
+  pair-value value a b s t (inl x) (inl y) = (x.ends ∙ sym y.ends, x.prints ∙ ap (fault_text form) (x.is.is ∙ sym y.is.is) ∙ sym y.prints)
   pair-value value a b s t (inl x) (inr y) = absurd (x.is.none y.first y.second y.pair)
   pair-value value a b s t (inr x) (inl y) = absurd (y.is.none x.first x.second x.pair)
   pair-value value a b s t (inr x) (inr y) =
       let same = sym x.pair ∙ y.pair in
       let first = first-one x.first x.second y.first y.second same in
       let second = second-one x.first x.second y.first y.second same in
-      value_one law (λ requests. P requests y.second) (λ batch good. one batch good y.second) y.first a b s t
-      (subst (λ d. AnswersValue (λ requests. P requests y.second) d a s) first (subst (λ d. AnswersValue (λ requests. P requests d) x.first a s) second x.so)) y.so
+      value_one law (λ requests. P requests y.second) form (λ batch good. one batch good y.second) y.first a b s t
+      (subst (λ d. AnswersValue (λ requests. P requests y.second) d form a s) first (subst (λ d. AnswersValue (λ requests. P requests d) x.first form a s) second x.so)) y.so
 
-  pub pair-one : (line : List ℕ) → IsOne (OfPair P line)
-  pair-one line = document_one places.Batch (AnswersPair P) line pair-value
+  pub pair-one : (line : List ℕ) → IsOne (OfPair P line form)
+  pair-one line = document_one places.Batch (AnswersPair P) line form pair-value
 
 -- the laws that the tasks stand on
 pub record AreOneText : Type 0 where
@@ -82,29 +83,29 @@ IsKnown (InMemory bytes) = Unit {0}
 IsKnown (InHand value) = Unit {0}
 
 -- one text is written of the document that is given, if one is of each value
-given-one : (given : Given) → IsKnown given → (place : Place) (P : Data → Writes) → ((value : Data) → IsOne (P value)) → IsOne (OfGiven given place P)
-given-one (ByReader None) known place P one = absurd known
-given-one (ByReader (Some left)) known place P one = some_document_one left (OfDocument place P) (λ bytes. document_one place P bytes one)
-given-one (InMemory bytes) known place P one = document_one place P bytes one
-given-one (InHand value) known place P one = one value
+given-one : (given : Given) → IsKnown given → (place : Place) (P : Data → WritesIn) (form : Form) → ((value : Data) → IsOne (P value form)) → IsOne (OfGiven given place P form)
+given-one (ByReader None) known place P form one = absurd known
+given-one (ByReader (Some left)) known place P form one = some_document_one left (λ bytes. OfDocument place P bytes form) (λ bytes. document_one place P bytes form one)
+given-one (InMemory bytes) known place P form one = document_one place P bytes form one
+given-one (InHand value) known place P form one = one value
 
 -- one text is written of a batch and a second document
-task-one : AreOneText → (task : Task) (form : Form) (given : Given) → IsKnown given → (batch : List Record) → HasGoodNames batch → IsOne (OfTask task form given batch)
+task-one : AreOneText → (task : Task) (form : Form) (given : Given) → IsKnown given → (batch : List Record) → HasGoodNames batch → IsOne (OfTask task given batch form)
 task-one law tasks.Check form given known batch good a b s t x y = (x.0 ∙ sym y.0, x.1 ∙ sym y.1)
 task-one law tasks.Plan form given known batch good a b s t x y = (x.0 ∙ sym y.0, x.1 ∙ sym y.1)
 task-one law tasks.Draw form given known batch good a b s t x y = (x.0 ∙ sym y.0, x.1 ∙ sym y.1)
-task-one law tasks.Canon form given known batch good a b s t x y = canonical_one batch a b s t x y
-task-one law (tasks.Match mode) form given known batch good a b s t x y = given-one given known places.Responses (MatchesValue mode form batch) (matches_value_one law.matching mode form batch) a b s t x y
+task-one law tasks.Canon form given known batch good a b s t x y = canonical_one batch form a b s t x y
+task-one law (tasks.Match mode strict) form given known batch good a b s t x y = given-one given known places.Responses (MatchesValue mode strict batch) form (λ value. matches_value_one law.matching mode strict batch value form) a b s t x y
 task-one law (tasks.Replay policy order traced) form given known batch good a b s t x y =
-    given-one given known places.Outcomes (ReplaysValue (AllowsOrder order) policy traced batch) (replays_value_one order (law.order order) law.recorded policy traced batch) a b s t x y
-task-one law (tasks.Run policy) form given known batch good a b s t x y = given-one given known places.Events (RunsValue policy batch) (runs_value_one law.causes law.history policy batch good) a b s t x y
+    given-one given known places.Outcomes (ReplaysValue (AllowsOrder order) policy traced batch) form (λ value. replays_value_one order (law.order order) law.recorded policy traced batch value form) a b s t x y
+task-one law (tasks.Run policy) form given known batch good a b s t x y = given-one given known places.Events (RunsValue policy batch) form (λ value. runs_value_one law.causes law.history policy batch good value form) a b s t x y
 
-pub answers-one : AreOneText → (task : Task) (form : Form) (given : Given) → IsKnown given → (bytes : List ℕ) → IsOne (Answers (OfTask task form given) bytes)
-answers-one law task form given known bytes = answers_one law.batch (OfTask task form given) bytes (task-one law task form given known)
+pub answers-one : AreOneText → (task : Task) (form : Form) (given : Given) → IsKnown given → (bytes : List ℕ) → IsOne (Answers (OfTask task given) bytes form)
+answers-one law task form given known bytes = answers_one law.batch (OfTask task given) bytes form (task-one law task form given known)
 
-pub line-one : AreOneText → (task : Task) (form : Form) (line : List ℕ) → IsOne (OfLine task form line)
+pub line-one : AreOneText → (task : Task) (form : Form) (line : List ℕ) → IsOne (OfLine task line form)
 line-one law task form line = at (takes_second task)
   where
-    at : (two : Bool) → IsOne (InLine two (OfTask task form) line)
+    at : (two : Bool) → IsOne (InLine two (OfTask task) line form)
     at false = answers-one law task form (InMemory []) tt line
-    at true = pair-one law.batch (λ batch second. OfTask task form (InHand second) batch) (λ batch good second. task-one law task form (InHand second) tt batch good) line
+    at true = pair-one law.batch (λ batch second. OfTask task (InHand second) batch) form (λ batch good second. task-one law task form (InHand second) tt batch good) line

@@ -1,4 +1,4 @@
--- What is written of a batch document: the line of its least fault, or what a command prints of its requests.
+-- What is written of a batch document: its least fault, or what a command prints of its requests.
 use Rattle.std.specs.Prelude.{◌≡◌, ◌⊎◌, ℕ, List, Option, Some, option_map}
 use Rattle.serde_json.specs.Data.{Data}
 use Rattle.odb_doc.specs.declared.fault.Place.{Place}
@@ -14,18 +14,20 @@ use Rattle.odb_check.specs.FaultTable.{check_row}
 use Rattle.odb_check.specs.LeastNameFault.{HasGoodNames, RefusesNames}
 use Rattle.odb_engine.specs.declared.ending.Ended.{Ended}
 use Rattle.odb_engine.specs.declared.ending.Ended.TheVariants.{Done, Refused}
-use Rattle.odb_text.specs.Lines.{fault_line}
+use Rattle.odb_engine.specs.declared.form.Form.{Form}
+use Rattle.odb_engine.specs.Forms.{fault_text}
 
 -- how a command ends, and what it has written then
 abbrev pub Writes : Type 1
 Writes = Ended → List ℕ → Type 0
 
+-- the same in each form
+abbrev pub WritesIn : Type 1
+WritesIn = Form → Writes
+
 -- the result is this text
 abbrev pub Prints : List ℕ → Writes
 Prints text ended written = (ended ≡ Done) × (written ≡ text)
-
-abbrev pub line_of : Printed → List ℕ
-line_of refusal = fault_line refusal.code refusal.name refusal.place
 
 -- what is printed of a fault in another document than that of its row
 abbrev pub at_place : Place → Printed → Printed
@@ -43,16 +45,16 @@ pub record HasValue (bytes : List ℕ) (P : Data → Type 0) : Type 0 where
   pub document : IsDocument bytes value
   pub holds : P value
 
--- the line of such a fault
-pub record Reports (Is : Printed → Type 0) (ended : Ended) (text : List ℕ) : Type 0 where
+-- such a fault is printed in a form
+pub record Reports (Is : Printed → Type 0) (form : Form) (ended : Ended) (text : List ℕ) : Type 0 where
   pub refusal : Printed
   pub is : Is refusal
   pub ends : ended ≡ Refused
-  pub line : text ≡ line_of refusal
+  pub prints : text ≡ fault_text form refusal
 
--- what is written of the document at a place: the line of the fault of its bytes, or what P writes of its value
-abbrev pub OfDocument : Place → (Data → Writes) → List ℕ → Writes
-OfDocument place P bytes ended text = Reports (RefusesBytes place bytes) ended text ⊎ HasValue bytes (λ value. P value ended text)
+-- what is written of the document at a place: the fault of its bytes, or what P writes of its value
+abbrev pub OfDocument : Place → (Data → WritesIn) → List ℕ → WritesIn
+OfDocument place P bytes form ended text = Reports (RefusesBytes place bytes) form ended text ⊎ HasValue bytes (λ value. P value form ended text)
 
 -- the value has a fault that is printed so
 pub record HasFault {F : Type 0} (Refuses : F → Data → Type 0) (row : F → Option Printed) (value : Data) (refusal : Printed) : Type 0 where
@@ -83,12 +85,12 @@ IsLeastOfBatch value refusal = HasFault IsLeastFault document_row value refusal 
 abbrev pub AcceptsValue : Data → (List Record → Type 0) → Type 0
 AcceptsValue value P = HasBatch value (λ batch. HasGoodNames batch × P batch)
 
--- the cascade of every command: the line of the least fault of the batch, or what P writes of its requests
-abbrev pub AnswersValue : (List Record → Writes) → Data → Writes
-AnswersValue P value ended text = Reports (IsLeastOfBatch value) ended text ⊎ AcceptsValue value (λ batch. P batch ended text)
+-- the cascade of every command: the least fault of the batch, or what P writes of its requests
+abbrev pub AnswersValue : (List Record → WritesIn) → Data → WritesIn
+AnswersValue P value form ended text = Reports (IsLeastOfBatch value) form ended text ⊎ AcceptsValue value (λ batch. P batch form ended text)
 
 -- the same of the bytes of a batch document
-abbrev pub Answers : (List Record → Writes) → List ℕ → Writes
+abbrev pub Answers : (List Record → WritesIn) → List ℕ → WritesIn
 Answers P = OfDocument Batch (AnswersValue P)
 
 -- the least fault of the bytes of a batch document

@@ -6,7 +6,7 @@ use Rattle.odb_doc.specs.declared.fault.Place.{Place}
 use Rattle.odb_doc.specs.Documents.{IsDocument}
 use Rattle.odb_doc.specs.Refusals.{Printed}
 use Rattle.odb_doc.specs.batch.Records.{Record}
-use Rattle.odb_engine.specs.Cascade.{Writes, Accepts, AcceptsValue, OfDocument, RefusesBytes}
+use Rattle.odb_engine.specs.Cascade.{WritesIn, Accepts, AcceptsValue, OfDocument, RefusesBytes}
 use Rattle.odb_engine.specs.Inputs.{SomeDocument, WasRead}
 
 -- the bytes of a document, or its value
@@ -36,14 +36,14 @@ abbrev pub RefusesContent : Place → Content → Printed → Type 0
 RefusesContent place (Bytes bytes) refusal = RefusesBytes place bytes refusal
 RefusesContent place (Held value) refusal = ⊥
 
--- what is written of the document at a place: the line of the fault of its bytes, or what P writes of its value
-abbrev pub OfContent : Place → (Data → Writes) → Content → Writes
-OfContent place P (Bytes bytes) ended text = OfDocument place P bytes ended text
-OfContent place P (Held value) ended text = P value ended text
+-- what is written of the document at a place: the fault of its bytes, or what P writes of its value
+abbrev pub OfContent : Place → (Data → WritesIn) → Content → WritesIn
+OfContent place P (Bytes bytes) form ended text = OfDocument place P bytes form ended text
+OfContent place P (Held value) form ended text = P value form ended text
 
 -- what is written of the document that is given at a place
-abbrev pub OfGiven : Given → Place → (Data → Writes) → Writes
-OfGiven given place P ended text = SomeContent given (λ content. OfContent place P content ended text)
+abbrev pub OfGiven : Given → Place → (Data → WritesIn) → WritesIn
+OfGiven given place P form ended text = SomeContent given (λ content. OfContent place P content form ended text)
 
 -- the document is a batch that the check accepts, and its requests have this property
 abbrev pub AcceptsContent : Content → (List Record → Type 0) → Type 0

@@ -13,7 +13,7 @@ use Rattle.odb_engine.specs.declared.ending.Ended.{Ended}
 use Rattle.odb_engine.specs.declared.form.Form.{Form}
 use Rattle.odb_engine.specs.declared.lines.work.Work.{Work}
 use Rattle.odb_engine.specs.declared.lines.work.Work.TheVariants as works
-use Rattle.odb_engine.specs.Cascade.{Answers, Prints, Writes}
+use Rattle.odb_engine.specs.Cascade.{Answers, Prints, WritesIn}
 use Rattle.odb_engine.specs.Tasks.{OfLine}
 
 -- the spans are the places of the bodies of the requests in the document, in order; without one there is no body
@@ -21,17 +21,17 @@ pub record AreBodiesIn (document : List ℕ) (d : Data) (spans : List (Option Sp
   pub bodies : AllZip (HasBodyAt document) (elements d) spans
   pub places : EachSpan (IsPlaceOfBody document d) 0 spans
 
--- the full plan of a batch, by the places of its bodies in the document
-pub record ShowsPlaces (document : List ℕ) (batch : List Record) (ended : Ended) (text : List ℕ) : Type 0 where
+-- the full plan of a batch, by the places of its bodies in the document: JSON in each form
+pub record ShowsPlaces (document : List ℕ) (batch : List Record) (form : Form) (ended : Ended) (text : List ℕ) : Type 0 where
   pub bodies : List (Option Span)
   pub places : (d : Data) → IsJson document d → AreBodiesIn document d bodies
   pub prints : Prints (json_line (full_plan_value batch bodies)) ended text
 
 -- what is written of a document as a full plan
-abbrev pub FullPlans : List ℕ → Writes
+abbrev pub FullPlans : List ℕ → WritesIn
 FullPlans document = Answers (ShowsPlaces document) document
 
--- what is written of a line, the result of a task in a form
-abbrev pub OfWork : Work → Form → List ℕ → Writes
-OfWork (works.Task task) form line = OfLine task form line
-OfWork works.FullPlan form line = FullPlans line
+-- what is written of a line
+abbrev pub OfWork : Work → List ℕ → WritesIn
+OfWork (works.Task task) line = OfLine task line
+OfWork works.FullPlan line = FullPlans line

@@ -16,9 +16,9 @@ use Rattle.odb_engine.specs.declared.halt.Halt.TheVariants as halts
 use Rattle.odb_engine.specs.declared.form.Form.{Form}
 use Rattle.odb_doc.specs.Refusals.{Printed}
 use Rattle.odb_doc.specs.Refusals as refusals
-use Rattle.odb_engine.specs.Cascade.{Writes, Prints, line_of}
+use Rattle.odb_engine.specs.Cascade.{Writes, WritesIn, Prints}
 use Rattle.odb_engine.specs.Engines.{Ends}
-use Rattle.odb_engine.specs.Forms.{InForm, fault_text}
+use Rattle.odb_engine.specs.Forms.{fault_text}
 
 -- a halt by a fault is one by such a fault
 abbrev pub Halted : (Printed → Type 0) → Halt → Type 0
@@ -26,14 +26,14 @@ Halted Is (halts.Refused refusal) = Is (refusals.printed refusal)
 Halted Is halts.Read = Unit {0}
 Halted Is halts.OutOfMemory = Unit {0}
 
--- a halt by a fault is one whose line may be written
-abbrev pub Refuses : Writes → Halt → Type 0
-Refuses P halt = Halted (λ refusal. P Refused (line_of refusal)) halt
+-- a halt by a fault is one that may be written in this form
+abbrev pub Refuses : WritesIn → Form → Halt → Type 0
+Refuses P form halt = Halted (λ refusal. P form Refused (fault_text form refusal)) halt
 
--- what was found may be written this way
-abbrev pub Found : Writes → Result (String Global) Halt → Type 0
-Found P (Ok text) = P Done (string_bytes text)
-Found P (Err halt) = Refuses P halt
+-- what was found may be written in this form
+abbrev pub Found : WritesIn → Form → Result (String Global) Halt → Type 0
+Found P form (Ok text) = P form Done (string_bytes text)
+Found P form (Err halt) = Refuses P form halt
 
 -- what is written of what was found
 abbrev pub text_found : Form → Result (String Global) Halt → Writes

@@ -5,9 +5,11 @@ pub mod Engines
 pub mod Forms
 pub mod Halts
 pub mod Commands
+pub mod AllFaults
 pub mod ReadAgain
 pub mod Replays
 pub mod Runs
+pub mod Replayed
 pub mod Matches
 pub mod Rests
 pub mod Contents

@@ -19,7 +19,7 @@ use Rattle.odb_sched.specs.run.Steps.{is_finished}
 use Rattle.odb_reply.specs.BodyTexts.{HasNoText, text_with}
 use Rattle.odb_reply.specs.NotWhole.{IsFirstNotWholeValue}
 use Rattle.odb_reply.specs.Responses.{LabelValue, labels_of}
-use Rattle.odb_engine.specs.Cascade.{Writes, Prints, Reports, IsLeast, Accepts}
+use Rattle.odb_engine.specs.Cascade.{WritesIn, Prints, Reports, IsLeast, Accepts}
 use Rattle.odb_engine.specs.Runs.{AreEventsIn, AreResolved, IsLeastOfEvents, end_of, unfinished}
 
 -- a run, the ids and groups of the requests of its batch, and by position the bodies that were reported as text
@@ -77,8 +77,8 @@ pub data IsLeastOfLive (live : Live) (refusal : Printed) : Type 0 where
   OfBody : (at : ℕ) → is_finished live.run ≡ true → IsFirstNotWholeValue live.texts live.run at → text_row (NotWhole at) ≡ Some refusal → IsLeastOfLive live refusal
 
 -- what is written of a live run: the response if it is finished
-abbrev pub Shows : Live → Writes
-Shows live ended text = Reports (IsLeastOfLive live) ended text ⊎ ((is_finished live.run ≡ true) × Prints (text_with live.labels live.texts (answer live.run) ++ newline ∷ []) ended text)
+abbrev pub Shows : Live → WritesIn
+Shows live form ended text = Reports (IsLeastOfLive live) form ended text ⊎ ((is_finished live.run ≡ true) × Prints (text_with live.labels live.texts (answer live.run) ++ newline ∷ []) ended text)
 
 -- A document of events records one event more than another, at its end, which is this event of the batch.
 pub record RecordsOneMore (batch : List Record) (events more : List ℕ) (event : Event) : Type 0 where

@@ -1,22 +1,26 @@
 -- What a match writes of a batch and of the response document of a service (OData JSON Format 4.01, section 19.5).
-use Rattle.std.specs.Prelude.{◌≡◌, ◌⊎◌, ℕ, List, ◌++◌, Some, length}
+use Rattle.std.specs.Prelude.{◌≡◌, ◌⊎◌, ℕ, Bool, true, false, List, ◌++◌, Some, length}
 use Rattle.std.specs.List.{AllZip}
 use Rattle.serde_json.specs.Data.{Data}
 use Rattle.odb_doc.specs.declared.fault.Place.TheVariants as places
 use Rattle.odb_doc.specs.batch.Records.{Record}
+use Rattle.odb_check.specs.Plans.{batch_plan_graph}
 use Rattle.odb_sched.specs.declared.policy.Mode.{Mode}
 use Rattle.odb_sched.specs.declared.policy.Mode.TheVariants.{Continue, Stop}
 use Rattle.odb_reply.specs.declared.match_fault.MatchFault.{MatchFault}
+use Rattle.odb_sched.specs.run.Possible.{IsPossible}
+use Rattle.odb_reply.specs.declared.status_fault.StatusFault.{StatusFault}
 use Rattle.odb_reply.specs.Completed.{completed}
 use Rattle.odb_reply.specs.Fits.{Fits, IsTableOf}
 use Rattle.odb_reply.specs.LeastMatchFault.{RefusesMatch}
 use Rattle.odb_reply.specs.MatchFaults.{match_row}
 use Rattle.odb_reply.specs.ResponseDocuments.{Entry, IsResponseDocument, RefusesResponses, ReadsAs, responses_in, responses_row}
+use Rattle.odb_reply.specs.StatusFaults.{RefusesStatuses, status_at, status_row}
 use Rattle.odb_engine.specs.declared.ending.Ended.{Ended}
 use Rattle.odb_engine.specs.declared.form.Form.{Form}
 use Rattle.odb_engine.specs.declared.form.Form.TheVariants.{Lines, Json}
 use Rattle.odb_doc.specs.Refusals.{Printed}
-use Rattle.odb_engine.specs.Cascade.{Writes, Prints, Reports, HasFault, OfDocument}
+use Rattle.odb_engine.specs.Cascade.{WritesIn, Prints, Reports, HasFault, OfDocument}
 use Rattle.odb_text.specs.Lines.{fit_line, status_lines}
 use Rattle.odb_text.specs.Results.{json_line, match_value}
 
@@ -44,27 +48,43 @@ pub record Misfits (batch : List Record) (entries : List Entry) (refusal : Print
   pub least : RefusesMatch fault batch entries
   pub is : match_row fault ≡ Some refusal
 
--- the responses fit the batch, and their statuses are printed
-pub record PrintsFit (form : Form) (batch : List Record) (entries : List Entry) (ended : Ended) (text : List ℕ) : Type 0 where
+-- if it is asked, some finished run answers these statuses
+abbrev pub IsAnswered : Bool → List Record → List ℕ → Type 0
+IsAnswered false batch statuses = Unit {0}
+IsAnswered true batch statuses = IsPossible (batch_plan_graph batch) (status_at statuses)
+
+-- it is asked, no finished run does, and this is the least fault
+pub record AreImpossible (strict : Bool) (batch : List Record) (statuses : List ℕ) (refusal : Printed) : Type 0 where
+  pub asked : strict ≡ true
+  pub fault : StatusFault
+  pub least : RefusesStatuses fault (batch_plan_graph batch) (status_at statuses)
+  pub is : status_row fault ≡ Some refusal
+
+-- what is written of the statuses of responses that fit
+abbrev pub WritesStatuses : Bool → List Record → List ℕ → WritesIn
+WritesStatuses strict batch statuses form ended text = Reports (AreImpossible strict batch statuses) form ended text ⊎ (IsAnswered strict batch statuses × Prints (match_text form batch statuses) ended text)
+
+-- the responses fit the batch, and this is written of their statuses
+pub record WritesFit (strict : Bool) (batch : List Record) (entries : List Entry) (form : Form) (ended : Ended) (text : List ℕ) : Type 0 where
   pub fits : Fits batch entries
   pub places : List ℕ
   pub statuses : List ℕ
   pub table : IsTableOf batch entries places statuses
-  pub prints : Prints (match_text form batch statuses) ended text
+  pub writes : WritesStatuses strict batch statuses form ended text
 
 -- what is written of a batch and of responses
-abbrev pub MatchesEntries : Form → List Record → List Entry → Writes
-MatchesEntries form batch entries ended text = Reports (Misfits batch entries) ended text ⊎ PrintsFit form batch entries ended text
+abbrev pub MatchesEntries : Bool → List Record → List Entry → WritesIn
+MatchesEntries strict batch entries form ended text = Reports (Misfits batch entries) form ended text ⊎ WritesFit strict batch entries form ended text
 
--- what is written of a batch and the value of a response document, by whether an error stops the service, with the result
--- in a form
-abbrev pub MatchesValue : Mode → Form → List Record → Data → Writes
-MatchesValue mode form batch value ended text = Reports (IsFaultOfResponses value) ended text ⊎ ((entries : List Entry) × Lists value entries × MatchesEntries form batch (decided mode batch entries) ended text)
+-- what is written of a batch and the value of a response document, by whether an error stops the service, and whether some
+-- finished run has to answer the statuses
+abbrev pub MatchesValue : Mode → Bool → List Record → Data → WritesIn
+MatchesValue mode strict batch value form ended text = Reports (IsFaultOfResponses value) form ended text ⊎ ((entries : List Entry) × Lists value entries × MatchesEntries strict batch (decided mode batch entries) form ended text)
 
 -- the same of the bytes of a response document
-abbrev pub MatchesIn : Mode → Form → List Record → List ℕ → Writes
-MatchesIn mode form batch = OfDocument places.Responses (MatchesValue mode form batch)
+abbrev pub MatchesIn : Mode → Bool → List Record → List ℕ → WritesIn
+MatchesIn mode strict batch = OfDocument places.Responses (MatchesValue mode strict batch)
 
--- of a service that continues after an error, the result as lines of words
-abbrev pub Matches : List Record → List ℕ → Writes
-Matches = MatchesIn Continue Lines
+-- of a service that continues after an error, whatever a run answers
+abbrev pub Matches : List Record → List ℕ → WritesIn
+Matches = MatchesIn Continue false

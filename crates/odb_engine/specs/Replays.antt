@@ -18,11 +18,11 @@ use Rattle.odb_reply.specs.Responses.{response_value}
 use Rattle.odb_reply.specs.OnePerId.{HasOnePerId}
 use Rattle.odb_sched.specs.run.Laws.{StartsAfterDependencies}
 use Rattle.odb_engine.specs.declared.ending.Ended.{Ended}
-use Rattle.odb_engine.specs.declared.ending.Ended.TheVariants.{Done, Refused}
+use Rattle.odb_engine.specs.declared.ending.Ended.TheVariants.{Done}
 use Rattle.odb_text.specs.Lines.{response_line}
 use Rattle.odb_text.specs.Traces.{trace_part}
 use Rattle.odb_doc.specs.Refusals.{Printed}
-use Rattle.odb_engine.specs.Cascade.{Writes, line_of, Reports, HasFault, OfDocument}
+use Rattle.odb_engine.specs.Cascade.{WritesIn, Reports, HasFault, OfDocument}
 use Rattle.odb_engine.specs.Inputs.{BySecond}
 use Rattle.odb_engine.specs.ReadAgain.{IsReadAgain}
 
@@ -48,16 +48,15 @@ pub record IsResult (allows : Allowance) (policy : Policy) (traced : Bool) (batc
   pub read_again : All (λ (entry : Recorded). IsRecordable entry.1) entries → IsReadAgain batch (response_line last)
 
 -- a request whose report is due after some course has no outcome
-pub record LacksOutcome (allows : Allowance) (policy : Policy) (batch : List Record) (entries : List Recorded) (ended : Ended) (text : List ℕ) : Type 0 where
+pub record LacksOutcome (allows : Allowance) (policy : Policy) (batch : List Record) (entries : List Recorded) (refusal : Printed) : Type 0 where
   pub at : ℕ
   pub due : IsReportEnabled allows (offers_of batch entries) (first_state batch policy) at
   pub none : offers_of batch entries at (Err NoOutcome)
-  pub ends : ended ≡ Refused
-  pub line : text ≡ line_of (record { code = codes "F80"; name = codes "NoOutcome"; place = places.Request at })
+  pub is : refusal ≡ record { code = codes "F80"; name = codes "NoOutcome"; place = places.Request at }
 
 -- what is written of a batch by recorded outcomes
-abbrev pub ReplaysEntries : Allowance → Policy → Bool → List Record → List Recorded → Writes
-ReplaysEntries allows policy traced batch entries ended text = IsResult allows policy traced batch entries ended text ⊎ LacksOutcome allows policy batch entries ended text
+abbrev pub ReplaysEntries : Allowance → Policy → Bool → List Record → List Recorded → WritesIn
+ReplaysEntries allows policy traced batch entries form ended text = IsResult allows policy traced batch entries ended text ⊎ Reports (LacksOutcome allows policy batch entries) form ended text
 
 -- the least fault of the value of an outcomes document
 abbrev pub IsFaultOfOutcomes : Data → Printed → Type 0
@@ -68,13 +67,13 @@ abbrev pub IsRecordOf : Data → List Recorded → Type 0
 IsRecordOf value entries = IsOutcomesDocument value × AreOutcomesOf value entries
 
 -- what is written of a batch and the value of an outcomes document
-abbrev pub ReplaysValue : Allowance → Policy → Bool → List Record → Data → Writes
-ReplaysValue allows policy traced batch value ended text = Reports (IsFaultOfOutcomes value) ended text ⊎ ((entries : List Recorded) × IsRecordOf value entries × ReplaysEntries allows policy traced batch entries ended text)
+abbrev pub ReplaysValue : Allowance → Policy → Bool → List Record → Data → WritesIn
+ReplaysValue allows policy traced batch value form ended text = Reports (IsFaultOfOutcomes value) form ended text ⊎ ((entries : List Recorded) × IsRecordOf value entries × ReplaysEntries allows policy traced batch entries form ended text)
 
 -- the same of the bytes of an outcomes document
-abbrev pub ReplaysBatch : Allowance → Policy → Bool → List Record → List ℕ → Writes
+abbrev pub ReplaysBatch : Allowance → Policy → Bool → List Record → List ℕ → WritesIn
 ReplaysBatch allows policy traced batch = OfDocument places.Outcomes (ReplaysValue allows policy traced batch)
 
 -- what is written of a batch by the outcomes document of a reader
-abbrev pub Replays : Allowance → Policy → Bool → Option (List ℕ) → List Record → Writes
+abbrev pub Replays : Allowance → Policy → Bool → Option (List ℕ) → List Record → WritesIn
 Replays allows policy traced left = BySecond left (ReplaysBatch allows policy traced)

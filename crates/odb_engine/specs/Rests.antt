@@ -19,7 +19,8 @@ use Rattle.odb_rest.specs.Units.{AreMarksOf, IsInRest}
 use Rattle.odb_send.specs.Parts.{IsBatchIn}
 use Rattle.odb_engine.specs.declared.ending.Ended.{Ended}
 use Rattle.odb_engine.specs.declared.ending.Ended.TheVariants.{Done, Refused}
-use Rattle.odb_engine.specs.Cascade.{Answers, Reports, Writes}
+use Rattle.odb_engine.specs.declared.form.Form.{Form}
+use Rattle.odb_engine.specs.Cascade.{Answers, Reports, WritesIn}
 use Rattle.odb_engine.specs.Contents.{Given, OfGiven}
 use Rattle.odb_engine.specs.Contents.Given.{InMemory}
 use Rattle.odb_engine.specs.Matches.{IsFaultOfResponses, Lists, Misfits, decided}
@@ -38,34 +39,34 @@ pub record PrintsRest (document : List ℕ) (batch : List Record) (value : Data)
   pub ends : ended ≡ Done
 
 -- the responses fit the batch, and this is written of its rest
-pub record RestsFit (document : List ℕ) (batch : List Record) (value : Data) (entries : List Entry) (ended : Ended) (text : List ℕ) : Type 0 where
+pub record RestsFit (document : List ℕ) (batch : List Record) (value : Data) (entries : List Entry) (form : Form) (ended : Ended) (text : List ℕ) : Type 0 where
   pub fits : Fits batch entries
   pub places : List ℕ
   pub statuses : List ℕ
   pub table : IsTableOf batch entries places statuses
-  pub writes : Reports (LacksLocations batch value places statuses) ended text ⊎ PrintsRest document batch value places statuses ended text
+  pub writes : Reports (LacksLocations batch value places statuses) form ended text ⊎ PrintsRest document batch value places statuses ended text
 
 -- what is written of a batch and of responses
-abbrev pub RestsEntries : List ℕ → List Record → Data → List Entry → Writes
-RestsEntries document batch value entries ended text = Reports (Misfits batch entries) ended text ⊎ RestsFit document batch value entries ended text
+abbrev pub RestsEntries : List ℕ → List Record → Data → List Entry → WritesIn
+RestsEntries document batch value entries form ended text = Reports (Misfits batch entries) form ended text ⊎ RestsFit document batch value entries form ended text
 
 -- what is written of the batch in a document and the value of a response document, by whether an error stops the service
-abbrev pub RestsValue : Mode → List ℕ → List Record → Data → Writes
-RestsValue mode document batch value ended text = Reports (IsFaultOfResponses value) ended text ⊎ ((entries : List Entry) × Lists value entries × RestsEntries document batch value (decided mode batch entries) ended text)
+abbrev pub RestsValue : Mode → List ℕ → List Record → Data → WritesIn
+RestsValue mode document batch value form ended text = Reports (IsFaultOfResponses value) form ended text ⊎ ((entries : List Entry) × Lists value entries × RestsEntries document batch value (decided mode batch entries) form ended text)
 
 -- the same of the response document that is given
-abbrev pub RestsBy : Mode → List ℕ → Given → List Record → Writes
+abbrev pub RestsBy : Mode → List ℕ → Given → List Record → WritesIn
 RestsBy mode document given batch = OfGiven given places.Responses (RestsValue mode document batch)
 
 -- the same of the bytes of a response document
-abbrev pub RestsIn : Mode → List ℕ → List ℕ → List Record → Writes
+abbrev pub RestsIn : Mode → List ℕ → List ℕ → List Record → WritesIn
 RestsIn mode document responses = RestsBy mode document (InMemory responses)
 
 -- a result has a newline after it, and a fault is as it was
-abbrev pub EndsLine : Writes → Writes
-EndsLine P Done written = (text : List ℕ) × P Done text × (written ≡ text ++ newline ∷ [])
-EndsLine P Refused written = P Refused written
+abbrev pub EndsLine : WritesIn → WritesIn
+EndsLine P form Done written = (text : List ℕ) × P form Done text × (written ≡ text ++ newline ∷ [])
+EndsLine P form Refused written = P form Refused written
 
 -- what the command writes of a batch document and of the response document that is given
-abbrev pub Rests : Mode → List ℕ → Given → Writes
+abbrev pub Rests : Mode → List ℕ → Given → WritesIn
 Rests mode document given = EndsLine (Answers (RestsBy mode document given) document)

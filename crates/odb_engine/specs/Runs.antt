@@ -22,7 +22,7 @@ use Rattle.odb_reply.specs.Responses.{response_value}
 use Rattle.odb_engine.specs.declared.ending.Ended.{Ended}
 use Rattle.odb_engine.specs.declared.ending.Ended.TheVariants.{Done}
 use Rattle.odb_doc.specs.Refusals.{Printed}
-use Rattle.odb_engine.specs.Cascade.{Writes, Reports, HasFault, HasValue, IsLeastOf, OfDocument}
+use Rattle.odb_engine.specs.Cascade.{WritesIn, Reports, HasFault, HasValue, IsLeastOf, OfDocument}
 use Rattle.odb_engine.specs.Inputs.{BySecond}
 use Rattle.odb_engine.specs.ReadAgain.{IsReadAgain}
 use Rattle.odb_text.specs.Lines.{response_line}
@@ -76,17 +76,17 @@ pub record IsResult (policy : Policy) (batch : List Record) (named : List EventV
   pub read_again : All IsRecordableEvent named → IsReadAgain batch (response_line (end_of policy batch events))
 
 -- what is written of a batch by recorded events
-abbrev pub RunsEvents : Policy → List Record → List EventValue → Writes
-RunsEvents policy batch named ended text = Reports (IsLeastOfRun policy batch named) ended text ⊎ IsResult policy batch named ended text
+abbrev pub RunsEvents : Policy → List Record → List EventValue → WritesIn
+RunsEvents policy batch named form ended text = Reports (IsLeastOfRun policy batch named) form ended text ⊎ IsResult policy batch named ended text
 
 -- what is written of a batch and the value of an events document
-abbrev pub RunsValue : Policy → List Record → Data → Writes
-RunsValue policy batch value ended text = Reports (IsFaultOfEvents value) ended text ⊎ ((named : List EventValue) × IsHistoryOf value named × RunsEvents policy batch named ended text)
+abbrev pub RunsValue : Policy → List Record → Data → WritesIn
+RunsValue policy batch value form ended text = Reports (IsFaultOfEvents value) form ended text ⊎ ((named : List EventValue) × IsHistoryOf value named × RunsEvents policy batch named form ended text)
 
 -- the same of the bytes of an events document
-abbrev pub RunsBatch : Policy → List Record → List ℕ → Writes
+abbrev pub RunsBatch : Policy → List Record → List ℕ → WritesIn
 RunsBatch policy batch = OfDocument places.Events (RunsValue policy batch)
 
 -- what is written of a batch by the events document of a reader
-abbrev pub Runs : Policy → Option (List ℕ) → List Record → Writes
+abbrev pub Runs : Policy → Option (List ℕ) → List Record → WritesIn
 Runs policy left = BySecond left (RunsBatch policy)

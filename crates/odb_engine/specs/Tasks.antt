@@ -2,6 +2,7 @@
 use Rattle.std.specs.Prelude.{◌≡◌, ◌⊎◌, ℕ, Bool, true, false, List, [], codes}
 use Rattle.serde_json.specs.Data.{Data, array, item, no_items}
 use Rattle.odb_doc.specs.declared.fault.Place.TheVariants as places
+use Rattle.odb_doc.specs.Documents.{IsDocument}
 use Rattle.odb_doc.specs.batch.Records.{Record}
 use Rattle.odb_doc.specs.Refusals.{Printed}
 use Rattle.odb_sched.specs.run.Choosing.{AllowsOrder}
@@ -9,23 +10,23 @@ use Rattle.odb_engine.specs.declared.ending.Ended.{Ended}
 use Rattle.odb_engine.specs.declared.form.Form.{Form}
 use Rattle.odb_engine.specs.declared.task.Task.{Task}
 use Rattle.odb_engine.specs.declared.task.Task.TheVariants as tasks
-use Rattle.odb_engine.specs.Cascade.{Writes, Answers, AnswersValue, OfDocument, Reports}
-use Rattle.odb_engine.specs.Commands.{Canonical, CountsIn, Drawings, PlansIn}
+use Rattle.odb_engine.specs.Cascade.{WritesIn, Answers, AnswersValue, OfDocument, Reports}
+use Rattle.odb_engine.specs.Commands.{Canonical, Counts, Drawings, Plans}
 use Rattle.odb_engine.specs.Contents.{Given, OfGiven}
 use Rattle.odb_engine.specs.Contents.Given.{InHand, InMemory}
 use Rattle.odb_engine.specs.Matches.{MatchesValue}
 use Rattle.odb_engine.specs.Replays.{ReplaysValue}
 use Rattle.odb_engine.specs.Runs.{RunsValue}
 
--- what a task writes of the requests of a batch, its result in a form; by the second document, if it takes one
-abbrev pub OfTask : Task → Form → Given → List Record → Writes
-OfTask tasks.Check form second batch = CountsIn form batch
-OfTask tasks.Plan form second batch = PlansIn form batch
-OfTask tasks.Draw form second batch = Drawings batch
-OfTask tasks.Canon form second batch = Canonical batch
-OfTask (tasks.Match mode) form second batch = OfGiven second places.Responses (MatchesValue mode form batch)
-OfTask (tasks.Replay policy order traced) form second batch = OfGiven second places.Outcomes (ReplaysValue (AllowsOrder order) policy traced batch)
-OfTask (tasks.Run policy) form second batch = OfGiven second places.Events (RunsValue policy batch)
+-- what a task writes of the requests of a batch, by the second document if it takes one
+abbrev pub OfTask : Task → Given → List Record → WritesIn
+OfTask tasks.Check second batch = Counts batch
+OfTask tasks.Plan second batch = Plans batch
+OfTask tasks.Draw second batch = Drawings batch
+OfTask tasks.Canon second batch = Canonical batch
+OfTask (tasks.Match mode strict) second batch = OfGiven second places.Responses (MatchesValue mode strict batch)
+OfTask (tasks.Replay policy order traced) second batch = OfGiven second places.Outcomes (ReplaysValue (AllowsOrder order) policy traced batch)
+OfTask (tasks.Run policy) second batch = OfGiven second places.Events (RunsValue policy batch)
 
 -- whether a task takes a second document
 abbrev pub takes_second : Task → Bool
@@ -33,7 +34,7 @@ takes_second tasks.Check = false
 takes_second tasks.Plan = false
 takes_second tasks.Draw = false
 takes_second tasks.Canon = false
-takes_second (tasks.Match mode) = true
+takes_second (tasks.Match mode strict) = true
 takes_second (tasks.Replay policy order traced) = true
 takes_second (tasks.Run policy) = true
 
@@ -51,25 +52,33 @@ pub record IsNoPair (value : Data) (refusal : Printed) : Type 0 where
   pub is : refusal ≡ not_pair
 
 -- what is written of an array of two values: of the first as a batch document, and by the second
-pub record WritesPair (P : List Record → Data → Writes) (value : Data) (ended : Ended) (text : List ℕ) : Type 0 where
+pub record WritesPair (P : List Record → Data → WritesIn) (value : Data) (form : Form) (ended : Ended) (text : List ℕ) : Type 0 where
   pub first : Data
   pub second : Data
   pub pair : IsPair value first second
-  pub so : AnswersValue (λ requests. P requests second) first ended text
+  pub so : AnswersValue (λ requests. P requests second) first form ended text
 
 -- what is written of the two documents in the value of a line
-abbrev pub AnswersPair : (List Record → Data → Writes) → Data → Writes
-AnswersPair P value ended text = Reports (IsNoPair value) ended text ⊎ WritesPair P value ended text
+abbrev pub AnswersPair : (List Record → Data → WritesIn) → Data → WritesIn
+AnswersPair P value form ended text = Reports (IsNoPair value) form ended text ⊎ WritesPair P value form ended text
 
 -- the same of the bytes of a line
-abbrev pub OfPair : (List Record → Data → Writes) → List ℕ → Writes
+abbrev pub OfPair : (List Record → Data → WritesIn) → List ℕ → WritesIn
 OfPair P = OfDocument places.Batch (AnswersPair P)
 
 -- what is written of a line: of the document in it, or of the two documents in it
-abbrev pub InLine : Bool → (Given → List Record → Writes) → List ℕ → Writes
+abbrev pub InLine : Bool → (Given → List Record → WritesIn) → List ℕ → WritesIn
 InLine false P = Answers (P (InMemory []))
 InLine true P = OfPair (λ batch second. P (InHand second) batch)
 
--- what a task writes of a line, its result in a form
-abbrev pub OfLine : Task → Form → List ℕ → Writes
-OfLine task form = InLine (takes_second task) (OfTask task form)
+-- what a task writes of a line
+abbrev pub OfLine : Task → List ℕ → WritesIn
+OfLine task = InLine (takes_second task) (OfTask task)
+
+-- the line holds the values of two documents, as an array
+pub record IsLineOf (batch second line : List ℕ) : Type 0 where
+  pub batch_value : Data
+  pub second_value : Data
+  pub batch_is : IsDocument batch batch_value
+  pub second_is : IsDocument second second_value
+  pub line_is : IsDocument line (array (item batch_value (item second_value no_items)))

@@ -3,7 +3,6 @@
 ghost use Rattle.std.specs.Prelude.{◌≡◌, ◌≤◌, ◌++◌, ◌↔◌, true, false, length, drop, IfOk, IsTrue};
 ghost use Rattle.odb_engine.specs.Cascade.{Answers};
 ghost use Rattle.odb_engine.specs.Contents.Given.{InMemory};
-ghost use Rattle.odb_engine.specs.Forms.{InForm};
 ghost use Rattle.odb_engine.specs.FullPlans.{OfWork};
 ghost use Rattle.odb_engine.specs.Halts.{text_found};
 ghost use Rattle.odb_engine.specs.Tasks.{OfTask};
@@ -76,8 +75,8 @@ pub fn answer_in_memory(
     task: Task,
     setup: Setup,
 ) -> Result<Answer, AllocError>
-    ensures { IfOk result (λ answer. InForm setup.form
-        (Answers (OfTask task setup.form (InMemory second.now)) batch.now) answer.ended answer.text.items) }
+    ensures { IfOk result (λ answer. Answers (OfTask task (InMemory second.now)) batch.now setup.form
+        answer.ended answer.text.items) }
 {
     let (mut first, mut second, mut task) = (batch, second, task);
     let found = text_of(alloc, &mut first, &mut second, &mut task, setup);
@@ -96,8 +95,7 @@ pub fn answer_line(
     work: Work,
     setup: Setup,
 ) -> Result<Answer, AllocError>
-    ensures { IfOk result (λ answer. InForm setup.form (OfWork work setup.form line.now)
-        answer.ended answer.text.items) }
+    ensures { IfOk result (λ answer. OfWork work line.now setup.form answer.ended answer.text.items) }
 {
     let found = text_of_work(alloc, line, work, setup);
     Answer::of(alloc, setup.form, found)

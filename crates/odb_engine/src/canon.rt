@@ -2,6 +2,8 @@
 
 ghost use Rattle.std.specs.Prelude.{◌≡◌, ◌≢◌, ◌++◌, ◌∷◌, [], false, Err, IsTrue, IfOk, IfErr, string_bytes};
 ghost use Rattle.odb_doc.specs.batch.Batches.{records};
+ghost use Rattle.odb_engine.specs.declared.form.Form.{Form};
+ghost use Rattle.odb_engine.specs.declared.form.Form.TheVariants.{Lines};
 ghost use Rattle.odb_engine.specs.declared.halt.Halt.TheVariants as halts;
 ghost use Rattle.odb_engine.specs.Inputs.{IsFresh, ReadsFew, SomeDocument};
 ghost use Rattle.odb_engine.specs.Cascade.{Answers};
@@ -19,7 +21,7 @@ use std::io::{Read, Write};
 
 /// Returns the canonical text, and a newline.
 pub fn canonical_text(alloc: Global, batch: &Batch<'_>) -> Result<String, Halt>
-    ensures found { Found (commands.Canonical (records batch.now)) result }
+    ensures found { (form : Form) → Found (commands.Canonical (records batch.now)) form result }
     ensures read { result ≢ Err halts.Read }
 {
     let mut text = batch.canonical(alloc)?;
@@ -45,7 +47,7 @@ pub fn canon_batch<R: Read, W: Write>(
     requires input { IsFresh input.old }
     requires output { output.old.failed ≡ false }
     ensures ends { SomeDocument (R.remaining input.old.reader) (λ bytes. Ends W.contents
-        (Answers commands.Canonical bytes) (IsTrue input.new.failed)
+        (Answers commands.Canonical bytes Lines) (IsTrue input.new.failed)
         output.old output.new result) }
     ensures memory { result ≡ Err EngineFault.OutOfMemory → output.new ≡ output.old }
     ensures reads { ReadsFew R.remaining input.old input.new }

@@ -6,6 +6,7 @@ ghost use Rattle.odb_engine.specs.Inputs.{IsFresh, ReadsFew, SomeDocument};
 ghost use Rattle.odb_engine.specs.Cascade.{Answers};
 ghost use Rattle.odb_engine.specs.Engines.{Ends};
 ghost use Rattle.odb_engine.specs.Halts.{Found};
+ghost use Rattle.odb_engine.specs.declared.form.Form.TheVariants.{Lines};
 ghost use Rattle.odb_engine.specs.declared.halt.Halt.TheVariants as halts;
 ghost use Rattle.odb_engine.specs.Commands as commands;
 
@@ -21,7 +22,7 @@ use std::io::{Read, Write};
 
 /// Returns how many requests and groups there are, in a form.
 pub fn counts_text(alloc: Global, plan: &Plan<'_>, form: Form) -> Result<String, Halt>
-    ensures found { Found (commands.CountsIn form (plan_records plan.now)) result }
+    ensures found { Found (commands.Counts (plan_records plan.now)) form result }
     ensures read { result ≢ Err halts.Read }
 {
     let (requests, groups) = (plan.len(), plan.group_count());
@@ -52,7 +53,7 @@ pub fn check_batch<R: Read, W: Write>(
     requires input { IsFresh input.old }
     requires output { output.old.failed ≡ false }
     ensures ends { SomeDocument (R.remaining input.old.reader) (λ bytes. Ends W.contents
-        (Answers commands.Counts bytes) (IsTrue input.new.failed)
+        (Answers commands.Counts bytes Lines) (IsTrue input.new.failed)
         output.old output.new result) }
     ensures memory { result ≡ Err EngineFault.OutOfMemory → output.new ≡ output.old }
     ensures reads { ReadsFew R.remaining input.old input.new }

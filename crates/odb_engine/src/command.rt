@@ -11,7 +11,6 @@ ghost use Rattle.serde_json.specs.View.{view};
 ghost use Rattle.odb_engine.specs.Cascade.{AcceptsValue, AnswersValue};
 ghost use Rattle.odb_engine.specs.Contents.{IsAskedFor, OfContent, SomeContent};
 ghost use Rattle.odb_engine.specs.Engines.{Ends};
-ghost use Rattle.odb_engine.specs.Forms.{InForm};
 ghost use Rattle.odb_engine.specs.Halts.{Found, RefusesNamesOf, Halted};
 
 use crate::disposal::DropOrLeak;
@@ -40,9 +39,9 @@ pub trait Command {
     ghost use Rattle.odb_engine.specs.Contents.{Given};
     ghost use Rattle.odb_engine.specs.Halts.{Found};
 
-    /// How it ends in a form, by what the second source gives, for the requests of a batch, and what it has
-    /// written then.
-    ghost writes: { Self → Form → Given → List Record → Ended → List ℕ → Type 0 };
+    /// How it ends by what the second source gives, for the requests of a batch, and what it has written then, in
+    /// each form.
+    ghost writes: { Self → Given → List Record → Form → Ended → List ℕ → Type 0 };
 
     /// Returns what is written of a batch and its plan. A command over one document leaves the second source as
     /// it is.
@@ -56,7 +55,7 @@ pub trait Command {
     ) -> Result<String, Halt>
         requires batch { records batch.now ≡ plan_records plan.now }
         requires second { S.is_fresh second.old }
-        ensures found { Found (writes self.old setup.form (S.given second.old) (plan_records plan.now))
+        ensures found { Found (writes self.old (S.given second.old) (plan_records plan.now)) setup.form
             result }
         ensures read { (result ≡ Err halts.Read) ↔ S.has_failed second.new }
         ensures second { S.reads_few second.old second.new };
@@ -96,8 +95,8 @@ fn text_in<S: Source, C: Command>(
     setup: Setup,
 ) -> Result<String, Halt>
     requires { S.is_fresh second.old }
-    ensures found { Found (AnswersValue (C.writes command.old setup.form (S.given second.old))
-        (view value.now)) result }
+    ensures found { Found (AnswersValue (C.writes command.old (S.given second.old)) (view value.now))
+        setup.form result }
     ensures asked { (second.new ≡ second.old) ⊎ AcceptsValue (view value.now) (λ _. Unit {0}) }
     ensures read { (result ≡ Err halts.Read) ↔ S.has_failed second.new }
     ensures second { S.reads_few second.old second.new }
@@ -127,7 +126,7 @@ pub fn text_of<R: Source, S: Source, C: Command>(
     requires first { R.is_fresh first.old }
     requires second { S.is_fresh second.old }
     ensures found { SomeContent (R.given first.old) (λ content. Found (OfContent places.Batch
-        (AnswersValue (C.writes command.old setup.form (S.given second.old))) content) result
+        (AnswersValue (C.writes command.old (S.given second.old))) content) setup.form result
         × IsAskedFor (R.was_read first.old first.new content) content second.old second.new) }
     ensures read { (result ≡ Err halts.Read) ↔ (R.has_failed first.new ⊎ S.has_failed second.new) }
     ensures first { R.reads_few first.old first.new }
@@ -162,8 +161,8 @@ pub fn answer_task<R: Source, S: Source, W: Write, C: Command + Drop>(
     requires first { R.is_fresh first.old }
     requires second { S.is_fresh second.old }
     requires output { output.old.failed ≡ false }
-    ensures ends { SomeContent (R.given first.old) (λ content. Ends W.contents (InForm setup.form
-        (OfContent places.Batch (AnswersValue (C.writes task setup.form (S.given second.old))) content))
+    ensures ends { SomeContent (R.given first.old) (λ content. Ends W.contents (OfContent places.Batch
+        (AnswersValue (C.writes task (S.given second.old))) content setup.form)
         (R.has_failed first.new ⊎ S.has_failed second.new) output.old output.new result
         × IsAskedFor (R.was_read first.old first.new content) content second.old second.new) }
     ensures memory { result ≡ Err EngineFault.OutOfMemory → output.new ≡ output.old }

@@ -5,7 +5,6 @@
 
 ghost use Rattle.std.specs.Prelude.{◌≡◌, ◌≢◌, ◌↔◌, false, Err, IsTrue};
 ghost use Rattle.odb_engine.specs.Engines.{Ends};
-ghost use Rattle.odb_engine.specs.Forms.{InForm};
 ghost use Rattle.odb_engine.specs.FullPlans.{FullPlans, ShowsPlaces};
 ghost use Rattle.odb_engine.specs.Halts.{Found};
 ghost use Rattle.odb_engine.specs.Inputs.{IsFresh, ReadsFew, SomeDocument};
@@ -32,7 +31,7 @@ struct FullPlan<'d> {
 }
 
 impl<'d> Command for FullPlan<'d> {
-    ghost writes = { λ self _ _ batch. ShowsPlaces self.document.now batch };
+    ghost writes = { λ self _ batch. ShowsPlaces self.document.now batch };
 
     fn text<S: Source>(
         &mut self,
@@ -53,7 +52,7 @@ impl<'d> Command for FullPlan<'d> {
 ///
 /// `Refused` by the least fault of the batch; `OutOfMemory` if an allocation fails. Never `Read`.
 pub(crate) fn full_plan_text(alloc: Global, document: &[u8], setup: Setup) -> Result<String, Halt>
-    ensures found { Found (FullPlans document.now) result }
+    ensures found { Found (FullPlans document.now) setup.form result }
     ensures read { result ≢ Err halts.Read }
 {
     let (mut first, mut none): (_, &[u8]) = (document, &[]);
@@ -65,7 +64,7 @@ pub(crate) fn full_plan_text(alloc: Global, document: &[u8], setup: Setup) -> Re
 fn full_plan_of<R: Read>(alloc: Global, input: &mut Input<R>, setup: Setup) -> Result<String, Halt>
     requires { IsFresh input.old }
     ensures found { SomeDocument (R.remaining input.old.reader) (λ bytes. Found (FullPlans bytes)
-        result) }
+        setup.form result) }
     ensures read { (result ≡ Err halts.Read) ↔ IsTrue input.new.failed }
     ensures few { ReadsFew R.remaining input.old input.new }
 {
@@ -92,7 +91,7 @@ pub fn full_plan_batch<R: Read, W: Write>(
     requires input { IsFresh input.old }
     requires output { output.old.failed ≡ false }
     ensures ends { SomeDocument (R.remaining input.old.reader) (λ bytes. Ends W.contents
-        (InForm setup.form (FullPlans bytes)) (IsTrue input.new.failed)
+        (FullPlans bytes setup.form) (IsTrue input.new.failed)
         output.old output.new result) }
     ensures memory { result ≡ Err EngineFault.OutOfMemory → output.new ≡ output.old }
     ensures reads { ReadsFew R.remaining input.old input.new }

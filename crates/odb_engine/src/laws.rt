@@ -1,10 +1,10 @@
-//! What the contracts of the engines determine: for the same bytes of the documents, one text, of a
-//! fault in the form of lines; and that a response is read again.
+//! What the contracts of the engines determine: for the same bytes of the documents, one text in each
+//! form; and that a response is read again.
 //!
 //! The laws are clauses of functions that change nothing. They speak of the very relations that the
 //! clauses `ends` of the engines cite.
 
-ghost use Rattle.std.specs.Prelude.{◌≡◌, ◌<◌, ℕ, Bool, true, false, List, Some};
+ghost use Rattle.std.specs.Prelude.{◌≡◌, ◌↔◌, ◌<◌, ℕ, Bool, true, false, List, Some};
 ghost use Rattle.odb_sched.specs.run.Choosing.{AllowsOrder};
 ghost use Rattle.odb_sched.specs.declared.order.Order.{Order};
 ghost use Rattle.odb_sched.specs.declared.event.Event.{Event};
@@ -18,10 +18,11 @@ ghost use Rattle.odb_engine.specs.declared.form.Form.{Form};
 ghost use Rattle.odb_engine.specs.Contents.Given.{ByReader, InMemory};
 ghost use Rattle.odb_engine.specs.Inputs.{IsDocumentOf};
 ghost use Rattle.odb_engine.specs.declared.task.Task.{Task};
-ghost use Rattle.odb_engine.specs.Tasks.{OfLine, OfTask};
+ghost use Rattle.odb_engine.specs.Tasks.{IsLineOf, OfLine, OfTask, takes_second};
 ghost use Rattle.odb_engine.specs.Live.{Live, Opens, RecordsOneMore, Shows, with_run};
 ghost use Rattle.odb_engine.specs.declared.ending.Ended.TheVariants.{Done};
 ghost use Rattle.odb_engine.specs.ReadAgain.{IsReadAgain};
+ghost use Rattle.odb_engine.specs.Replayed.{RunsAgain};
 ghost use Rattle.odb_engine.specs.Replays.{Replays};
 ghost use Rattle.odb_engine.specs.Runs.{Runs};
 
@@ -32,29 +33,44 @@ pub fn one_document()
 {}
 
 /// Two texts that a task may write for the same bytes of a batch document and of a second document are equal,
-/// and so are the ends: for each task with its options, with the result in each form, and also if one of the
-/// documents is refused. Likewise for a line of a log, with one document or with two. So what a task writes is
-/// a function of the bytes.
+/// and so are the ends: for each task with its options, in each form, and also if one of the documents is
+/// refused. Likewise for a line of a log, with one document or with two. So what a task writes is a function of
+/// the bytes and the form.
 ///
-/// The relation `OfTask` is that of [`crate::answer_task`], and `OfLine` that of [`crate::answer_line`]; in each the
-/// fault is in the form of lines. `left` is what the second reader has left.
+/// The relation `OfTask` is that of [`crate::answer_task`], and `OfLine` that of [`crate::answer_line`]. `left` is what
+/// the second reader has left.
 pub fn one_text()
     ensures task { (task : Task) (form : Form) (bytes left : List ℕ)
-        → IsOne (Answers (OfTask task form (ByReader (Some left))) bytes) }
+        → IsOne (Answers (OfTask task (ByReader (Some left))) bytes form) }
     ensures memory { (task : Task) (form : Form) (bytes second : List ℕ)
-        → IsOne (Answers (OfTask task form (InMemory second)) bytes) }
-    ensures line { (task : Task) (form : Form) (line : List ℕ) → IsOne (OfLine task form line) }
+        → IsOne (Answers (OfTask task (InMemory second)) bytes form) }
+    ensures line { (task : Task) (form : Form) (line : List ℕ) → IsOne (OfLine task line form) }
 {
     odb_doc::laws::one_batch();
     odb_doc::laws::one_fault();
     odb_check::laws::one_fault();
     odb_reply::laws::one_document();
     odb_reply::laws::one_match();
+    odb_reply::laws::one_status();
     odb_doc::laws::one_record();
     odb_exec::laws::every_order();
     odb_doc::laws::one_history();
     odb_sched::laws::every_cause();
 }
+
+/// What a task over two documents writes of a line `[batch, second]` is what it writes of the two documents, and
+/// it ends alike: for `match`, `replay` and `run` with their options, in each form.
+///
+/// The two documents are in memory, or the second is all that a reader has left. `IsLineOf` asks that the line
+/// itself is a document too: so it has at most 16,777,216 bytes, and what is in it nests at most 126 deep.
+pub fn every_pair()
+    ensures memory { (task : Task) (form : Form) (batch second line text : List ℕ) (ended : Ended)
+        → takes_second task ≡ true → IsLineOf batch second line → (OfLine task line form ended text)
+        ↔ (Answers (OfTask task (InMemory second)) batch form ended text) }
+    ensures readers { (task : Task) (form : Form) (batch second line text : List ℕ) (ended : Ended)
+        → takes_second task ≡ true → IsLineOf batch second line → (OfLine task line form ended text)
+        ↔ (Answers (OfTask task (ByReader (Some second))) batch form ended text) }
+{}
 
 /// What a replay without a trace, or a run by recorded events, writes as its result is read again:
 /// `serde_json` reads the text, with its newline, as a response document, and its responses fit the
@@ -62,11 +78,11 @@ pub fn one_text()
 ///
 /// A body that was read from a document nests at most 124 deep, so a response of it at most 127.
 pub fn read_again()
-    ensures replay { (order : Order) (policy : Policy) (bytes outcomes text : List ℕ)
-        → Answers (Replays (AllowsOrder order) policy false (Some outcomes)) bytes Done text
+    ensures replay { (order : Order) (policy : Policy) (form : Form) (bytes outcomes text : List ℕ)
+        → Answers (Replays (AllowsOrder order) policy false (Some outcomes)) bytes form Done text
         → Accepts bytes (λ batch. IsReadAgain batch text) }
-    ensures run { (policy : Policy) (bytes events text : List ℕ)
-        → Answers (Runs policy (Some events)) bytes Done text
+    ensures run { (policy : Policy) (form : Form) (bytes events text : List ℕ)
+        → Answers (Runs policy (Some events)) bytes form Done text
         → Accepts bytes (λ batch. IsReadAgain batch text) }
 {
     odb_doc::laws::every_value();
@@ -81,9 +97,9 @@ pub fn read_again()
 /// The relations are those of [`crate::open_run`], [`crate::LiveRun::response`] and
 /// [`crate::run_batch`].
 pub fn one_live_run()
-    ensures text { (policy : Policy) (batch events text different : List ℕ) (live : Live)
-        (ended other : Ended) → Opens policy batch events live → Shows live ended text
-        → Answers (Runs policy (Some events)) batch other different
+    ensures text { (policy : Policy) (form : Form) (batch events text different : List ℕ)
+        (live : Live) (ended other : Ended) → Opens policy batch events live → Shows live form ended text
+        → Answers (Runs policy (Some events)) batch form other different
         → (ended ≡ other) × (text ≡ different) }
     ensures goes_on { (policy : Policy) (batch events more : List ℕ) (live : Live) (event : Event)
         → Opens policy batch events live
@@ -96,4 +112,20 @@ pub fn one_live_run()
     odb_check::laws::one_fault();
     odb_doc::laws::one_history();
     odb_sched::laws::every_cause();
+}
+
+/// A replay that is recorded as events is a run: each document of the events of its course, in which each report has
+/// the outcome that is recorded for its request, runs to the same response under the same policy.
+///
+/// The steps of the course are those of the trace. It is the only course in the order of the replay, by
+/// [`odb_exec::laws::every_order`]. The relations are those of [`crate::replay_batch`] and [`crate::run_batch`].
+pub fn every_replay()
+    ensures { (order : Order) (policy : Policy) (traced : Bool) (form : Form)
+        (bytes outcomes text : List ℕ)
+        → Answers (Replays (AllowsOrder order) policy traced (Some outcomes)) bytes form Done text
+        → Accepts bytes (RunsAgain (AllowsOrder order) policy traced form bytes outcomes text) }
+{
+    odb_doc::laws::every_value();
+    odb_doc::laws::one_record();
+    odb_doc::laws::one_history();
 }

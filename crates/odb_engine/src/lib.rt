@@ -15,12 +15,15 @@
 //! returns its text. [`answer_in_memory`] returns what a task writes of documents in memory, and [`answer_lines`]
 //! does an [`EachLine`] on each line of an input. `live` opens a run that its caller drives, and
 //! [`requests_in`] returns what is to be sent of each request, and [`rest_in`] what may be sent again of a batch.
-//! [`full_plan_batch`] and [`rest_batch`] are commands over readers that need the bytes of the batch, so they are no tasks.
+//! [`full_plan_batch`] and [`rest_batch`] are commands over readers that need the bytes of the batch, so they are no tasks;
+//! nor is [`check_all_batch`], which writes all faults that [`faults_in`] lists.
 #![tactic(auto)]
 
+mod all_faults;
 mod answer;
 mod canon;
 mod check;
+mod check_all;
 mod command;
 mod disposal;
 mod ending;
@@ -43,9 +46,11 @@ mod setup;
 mod source;
 mod task;
 
+pub use all_faults::{check_all_in_memory, faults_in};
 pub use answer::{Answer, answer_in_memory, answer_line};
 pub use canon::canon_batch;
 pub use check::check_batch;
+pub use check_all::check_all_batch;
 pub use command::{Command, answer_task, plan_of, text_of};
 pub use disposal::{Disposal, DropOrLeak};
 pub use ending::{Ended, EngineFault};

@@ -9,6 +9,7 @@ ghost use Rattle.odb_sched.specs.run.Answers.{answer, undone};
 ghost use Rattle.odb_sched.specs.run.State.{size};
 ghost use Rattle.odb_sched.specs.run.State as state;
 ghost use Rattle.odb_sched.specs.run.Steps.{IsReportCause, IsStartCause, is_finished, may_report, may_start};
+ghost use Rattle.odb_engine.specs.declared.form.Form.{Form};
 ghost use Rattle.odb_engine.specs.declared.halt.Halt.TheVariants as halts;
 ghost use Rattle.odb_engine.specs.Halts.{Found, Halted, HaltsBy};
 ghost use Rattle.odb_engine.specs.Labels.{id_lines, position_of};
@@ -239,7 +240,7 @@ impl LiveRun {
     /// `Refused` by F66 if the run is not finished, or by F50 if it answers a request by a body that is a
     /// value with a number that is not whole; `OutOfMemory` if an allocation fails. Never `Read`.
     pub fn response(&self, alloc: Global) -> Result<String, Halt>
-        ensures found { Found (live.Shows self.now) result }
+        ensures found { (form : Form) → Found (live.Shows self.now) form result }
         ensures read { result ≢ Err halts.Read }
         ensures reads_back { IfOk result (λ text. HasShallowValues self.now.texts self.now.run
             → read (string_bytes text)

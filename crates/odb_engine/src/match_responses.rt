@@ -1,16 +1,18 @@
 //! The command `match`: whether the responses of a service fit a batch.
 
-ghost use Rattle.std.specs.Prelude.{◌≡◌, ◌≢◌, ◌⊎◌, length, false, Err, IsTrue, IfOk, string_bytes};
+ghost use Rattle.std.specs.Prelude.{◌≡◌, ◌≢◌, ◌⊎◌, length, true, false, Err, IsTrue, IfOk, IfErr, OnOk, string_bytes};
 ghost use Rattle.serde_json.specs.View.{view};
-ghost use Rattle.odb_check.specs.Plans.{plan_records};
+ghost use Rattle.odb_check.specs.Plans.{plan_records, plan_graph};
 ghost use Rattle.odb_reply.specs.Fits.{statuses};
 ghost use Rattle.odb_reply.specs.ResponseDocuments.{entries};
+ghost use Rattle.odb_reply.specs.StatusFaults.{RefusesStatuses, status_at};
+ghost use Rattle.odb_engine.specs.declared.form.Form.TheVariants.{Lines};
 ghost use Rattle.odb_engine.specs.declared.halt.Halt.TheVariants as halts;
 ghost use Rattle.odb_engine.specs.Cascade.{Answers};
 ghost use Rattle.odb_engine.specs.Inputs.{AskedFor, BySecond, IsFresh, ReadsFew, SomeDocument};
 ghost use Rattle.odb_engine.specs.Engines.{Ends};
 ghost use Rattle.odb_engine.specs.Halts.{Found};
-ghost use Rattle.odb_engine.specs.Matches.{Matches, MatchesValue, decided, match_text};
+ghost use Rattle.odb_engine.specs.Matches.{IsAnswered, Matches, MatchesValue, decided, match_text};
 
 use crate::command::answer_task;
 use crate::disposal::DropOrLeak;
@@ -22,7 +24,7 @@ use crate::task::Task;
 use odb_check::Plan;
 use odb_doc::Place;
 use odb_io::{Input, Output};
-use odb_reply::{Responses, Table, match_responses};
+use odb_reply::{Responses, StatusFault, Table, check_statuses, match_responses};
 use odb_sched::Mode;
 use odb_text::{match_json, match_lines};
 use serde_json::Value;
@@ -63,15 +65,35 @@ pub(crate) fn decided<'a>(
     }
 }
 
-/// Returns what is printed of the responses in a value, by whether an error stops the service.
+/// Checks that some finished run answers the statuses of a table, if that is asked.
+fn check_asked(
+    alloc: Global,
+    plan: &Plan<'_>,
+    table: &Table,
+    strict: bool,
+) -> Result<(), StatusFault>
+    requires { length (statuses table.now) ≡ length (plan_records plan.now) }
+    ensures answered { OnOk result (IsAnswered strict (plan_records plan.now) (statuses table.now)) }
+    ensures least { IfErr result (λ fault. (strict ≡ true)
+        × RefusesStatuses fault (plan_graph plan.now) (status_at (statuses table.now))) }
+{
+    if strict {
+        check_statuses(alloc, plan, table)?;
+    }
+    Ok(())
+}
+
+/// Returns what is printed of the responses in a value, by whether an error stops the service, and whether some finished
+/// run has to answer their statuses.
 pub fn matched(
     alloc: Global,
     plan: &Plan<'_>,
     value: Value,
     mode: Mode,
+    strict: bool,
     setup: Setup,
 ) -> Result<String, Halt>
-    ensures found { Found (MatchesValue mode setup.form (plan_records plan.now) (view value)) result }
+    ensures found { Found (MatchesValue mode strict (plan_records plan.now) (view value)) setup.form result }
     ensures read { result ≢ Err halts.Read }
 {
     let value = DropOrLeak {
@@ -84,6 +106,7 @@ pub fn matched(
         disposal: setup.disposal,
     };
     let table = match_responses(alloc, plan, &responses.value)?;
+    check_asked(alloc, plan, &table, strict)?;
     Ok(match_text(alloc, plan, &table, setup.form)?)
 }
 
@@ -93,7 +116,8 @@ pub fn matched(
 /// The responses fit the batch if each request has exactly one and nothing else has one, if each has
 /// the group of its request, and if no success rests on a failure. The responses are read only if the
 /// check accepts the batch. The inputs must be new, and the output must not have failed.
-/// [`answer_task`] takes a [`Setup`] too, and in [`Task::Match`] the mode of a service that stops at its first error.
+/// [`answer_task`] takes a [`Setup`] too, and in [`Task::Match`] the mode of a service that stops at its first error,
+/// and whether some finished run has to answer the statuses.
 ///
 /// Takes O(n log n) time and O(n) memory for documents of n bytes.
 ///
@@ -110,7 +134,7 @@ pub fn match_batch<R: Read, S: Read, W: Write>(
     requires responses { IsFresh responses.old }
     requires output { output.old.failed ≡ false }
     ensures ends { SomeDocument (R.remaining batch.old.reader) (λ bytes. Ends W.contents
-        (Answers (BySecond (S.remaining responses.old.reader) Matches) bytes)
+        (Answers (BySecond (S.remaining responses.old.reader) Matches) bytes Lines)
         (IsTrue batch.new.failed ⊎ IsTrue responses.new.failed) output.old output.new result
         × AskedFor R.remaining batch.old batch.new bytes responses.old responses.new) }
     ensures memory { result ≡ Err EngineFault.OutOfMemory → output.new ≡ output.old }
@@ -119,6 +143,7 @@ pub fn match_batch<R: Read, S: Read, W: Write>(
 {
     let task = Task::Match {
         mode: Mode::Continue,
+        strict: false,
     };
     answer_task(alloc, batch, responses, output, task, Setup::plain())
 }

@@ -6,6 +6,8 @@ ghost use Rattle.odb_engine.specs.Inputs.{IsFresh, ReadsFew, SomeDocument};
 ghost use Rattle.odb_engine.specs.Cascade.{Answers};
 ghost use Rattle.odb_engine.specs.Engines.{Ends};
 ghost use Rattle.odb_engine.specs.Halts.{Found};
+ghost use Rattle.odb_engine.specs.declared.form.Form.{Form};
+ghost use Rattle.odb_engine.specs.declared.form.Form.TheVariants.{Lines};
 ghost use Rattle.odb_engine.specs.declared.halt.Halt.TheVariants as halts;
 ghost use Rattle.odb_engine.specs.Commands as commands;
 
@@ -21,7 +23,7 @@ use std::io::{Read, Write};
 
 /// Returns the plan in a form.
 pub fn planned_text(alloc: Global, plan: &Plan<'_>, form: Form) -> Result<String, Halt>
-    ensures found { Found (commands.PlansIn form (plan_records plan.now)) result }
+    ensures found { Found (commands.Plans (plan_records plan.now)) form result }
     ensures read { result ≢ Err halts.Read }
 {
     match form {
@@ -32,7 +34,7 @@ pub fn planned_text(alloc: Global, plan: &Plan<'_>, form: Form) -> Result<String
 
 /// Returns the drawing of the plan.
 pub fn drawn_text(alloc: Global, plan: &Plan<'_>) -> Result<String, Halt>
-    ensures found { Found (commands.Drawings (plan_records plan.now)) result }
+    ensures found { (form : Form) → Found (commands.Drawings (plan_records plan.now)) form result }
     ensures read { result ≢ Err halts.Read }
 {
     Ok(drawing_text(alloc, plan)?)
@@ -54,7 +56,7 @@ pub fn plan_batch<R: Read, W: Write>(
     requires input { IsFresh input.old }
     requires output { output.old.failed ≡ false }
     ensures ends { SomeDocument (R.remaining input.old.reader) (λ bytes. Ends W.contents
-        (Answers commands.Plans bytes) (IsTrue input.new.failed)
+        (Answers commands.Plans bytes Lines) (IsTrue input.new.failed)
         output.old output.new result) }
     ensures memory { result ≡ Err EngineFault.OutOfMemory → output.new ≡ output.old }
     ensures reads { ReadsFew R.remaining input.old input.new }

@@ -9,13 +9,15 @@ ghost use Rattle.odb_sched.specs.run.State.{size};
 ghost use Rattle.odb_sched.specs.run.Choosing.{AllowsOrder, position_in};
 ghost use Rattle.odb_reply.specs.NotWhole.{HasWholeBodies};
 ghost use Rattle.odb_engine.specs.declared.ending.Ended.TheVariants.{Done};
+ghost use Rattle.odb_engine.specs.declared.form.Form.{Form};
+ghost use Rattle.odb_engine.specs.declared.form.Form.TheVariants.{Lines};
 ghost use Rattle.odb_engine.specs.declared.halt.Halt.TheVariants as halts;
 ghost use Rattle.odb_engine.specs.Cascade.{Answers};
 ghost use Rattle.odb_engine.specs.Contents.{OfGiven};
 ghost use Rattle.odb_engine.specs.Engines.{Ends};
 ghost use Rattle.odb_engine.specs.Inputs.{AskedFor, IsFresh, ReadsFew, SomeDocument};
 ghost use Rattle.odb_engine.specs.Replays as replays;
-ghost use Rattle.odb_engine.specs.Halts.{Found, Refuses, Halted};
+ghost use Rattle.odb_engine.specs.Halts.{Found, Halted};
 
 use crate::command::{Command, answer_task};
 use crate::disposal::{Disposal, DropOrLeak};
@@ -71,7 +73,7 @@ fn run_of<'a: 'p, 'p>(
     ensures within { IfOk result (λ trace.
         All (λ step. position_in step < size trace.done) trace.steps.items) }
     ensures whole { IfOk result (λ trace. HasWholeBodies trace.done) }
-    ensures lacks { IfErr result (Refuses (replays.LacksOutcome (allows chooser.old) replay.policy
+    ensures lacks { IfErr result (Halted (replays.LacksOutcome (allows chooser.old) replay.policy
         (plan_records plan.now) (entries outcomes))) }
     ensures read { result ≢ Err halts.Read }
 {
@@ -94,8 +96,8 @@ fn replayed_by(
     chooser: &mut dyn Chooser,
     replay: Unordered,
 ) -> Result<String, Halt>
-    ensures found { Found (replays.ReplaysValue (allows chooser.old) replay.policy replay.traced
-        (plan_records plan.now) (view value)) result }
+    ensures found { (form : Form) → Found (replays.ReplaysValue (allows chooser.old) replay.policy
+        replay.traced (plan_records plan.now) (view value)) form result }
     ensures read { result ≢ Err halts.Read }
 {
     let outcomes = outcomes_of(alloc, value, replay.disposal)?;
@@ -116,8 +118,8 @@ pub fn replayed(
     order: Order,
     replay: Unordered,
 ) -> Result<String, Halt>
-    ensures found { Found (replays.ReplaysValue (AllowsOrder order) replay.policy replay.traced
-        (plan_records plan.now) (view value)) result }
+    ensures found { (form : Form) → Found (replays.ReplaysValue (AllowsOrder order) replay.policy
+        replay.traced (plan_records plan.now) (view value)) form result }
     ensures read { result ≢ Err halts.Read }
 {
     let mut order = order;
@@ -133,7 +135,7 @@ struct Replay<C> {
 }
 
 impl<'c> Command for Replay<&'c mut dyn Chooser> {
-    ghost writes = { λ self _ second batch. OfGiven second places.Outcomes (replays.ReplaysValue
+    ghost writes = { λ self second batch. OfGiven second places.Outcomes (replays.ReplaysValue
         ((Chooser-dyn self.chooser.now).allows self.chooser.now.1) self.policy self.traced batch) };
 
     fn text<S: Source>(
@@ -183,7 +185,7 @@ pub fn replay_batch<R: Read, S: Read, W: Write>(
     requires output { output.old.failed ≡ false }
     ensures ends { SomeDocument (R.remaining batch.old.reader) (λ bytes. Ends W.contents
         (Answers (replays.Replays (allows chooser.old) policy traced
-        (S.remaining outcomes.old.reader)) bytes)
+        (S.remaining outcomes.old.reader)) bytes Lines)
         (IsTrue batch.new.failed ⊎ IsTrue outcomes.new.failed) output.old output.new result
         × AskedFor R.remaining batch.old batch.new bytes outcomes.old outcomes.new) }
     ensures memory { result ≡ Err EngineFault.OutOfMemory → output.new ≡ output.old }

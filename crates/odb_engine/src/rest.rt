@@ -5,11 +5,11 @@ ghost use Rattle.serde_json.specs.Data.{Data};
 ghost use Rattle.serde_json.specs.View.{view};
 ghost use Rattle.odb_check.specs.Plans.{plan_records};
 ghost use Rattle.odb_send.specs.Parts.{IsBatchIn};
+ghost use Rattle.odb_engine.specs.declared.form.Form.{Form};
 ghost use Rattle.odb_engine.specs.declared.halt.Halt.TheVariants as halts;
 ghost use Rattle.odb_engine.specs.Cascade.{Accepts, Answers};
 ghost use Rattle.odb_engine.specs.Contents.Given.{ByReader};
 ghost use Rattle.odb_engine.specs.Engines.{Ends};
-ghost use Rattle.odb_engine.specs.Forms.{InForm};
 ghost use Rattle.odb_engine.specs.Halts.{Found};
 ghost use Rattle.odb_engine.specs.Inputs.{AskedFor, IsFresh, ReadsFew, SomeDocument};
 ghost use Rattle.odb_engine.specs.Rests.{Rests, RestsBy, RestsIn, RestsValue};
@@ -48,7 +48,8 @@ pub fn rest_written(
     setup: Setup,
 ) -> Result<String, Halt>
     requires { (d : Data) × IsBatchIn document.now d (plan_records plan.now) }
-    ensures found { Found (RestsValue mode document.now (plan_records plan.now) (view value)) result }
+    ensures found { (form : Form) → Found (RestsValue mode document.now (plan_records plan.now) (view value))
+        form result }
     ensures read { result ≢ Err halts.Read }
 {
     let value = DropOrLeak {
@@ -79,7 +80,8 @@ fn rest_by<S: Source>(
     setup: Setup,
 ) -> Result<String, Halt>
     requires { S.is_fresh responses.old }
-    ensures found { Found (Answers (RestsBy mode batch.now (S.given responses.old)) batch.now) result }
+    ensures found { (form : Form) → Found (Answers (RestsBy mode batch.now (S.given responses.old)) batch.now)
+        form result }
     ensures asked { (responses.new ≡ responses.old) ⊎ Accepts batch.now (λ _. Unit {0}) }
     ensures read { (result ≡ Err halts.Read) ↔ S.has_failed responses.new }
     ensures few { S.reads_few responses.old responses.new }
@@ -114,7 +116,8 @@ pub fn rest_in(
     mode: Mode,
     seed: Seed,
 ) -> Result<String, Halt>
-    ensures found { Found (Answers (RestsIn mode batch.now responses.now) batch.now) result }
+    ensures found { (form : Form) → Found (Answers (RestsIn mode batch.now responses.now) batch.now) form
+        result }
     ensures read { result ≢ Err halts.Read }
 {
     let mut responses = responses;
@@ -136,7 +139,7 @@ fn rest_line<R: Read, S: Read>(
     requires batch { IsFresh batch.old }
     requires responses { IsFresh responses.old }
     ensures found { SomeDocument (R.remaining batch.old.reader) (λ bytes.
-        Found (Rests mode bytes (ByReader (S.remaining responses.old.reader))) result
+        Found (Rests mode bytes (ByReader (S.remaining responses.old.reader))) setup.form result
         × AskedFor R.remaining batch.old batch.new bytes responses.old responses.new) }
     ensures read { (result ≡ Err halts.Read) ↔ (IsTrue batch.new.failed ⊎ IsTrue responses.new.failed) }
     ensures batch { ReadsFew R.remaining batch.old batch.new }
@@ -173,7 +176,7 @@ pub fn rest_batch<R: Read, S: Read, W: Write>(
     requires responses { IsFresh responses.old }
     requires output { output.old.failed ≡ false }
     ensures ends { SomeDocument (R.remaining batch.old.reader) (λ bytes. Ends W.contents
-        (InForm setup.form (Rests mode bytes (ByReader (S.remaining responses.old.reader))))
+        (Rests mode bytes (ByReader (S.remaining responses.old.reader)) setup.form)
         (IsTrue batch.new.failed ⊎ IsTrue responses.new.failed) output.old output.new result
         × AskedFor R.remaining batch.old batch.new bytes responses.old responses.new) }
     ensures memory { result ≡ Err EngineFault.OutOfMemory → output.new ≡ output.old }

@@ -6,6 +6,8 @@ ghost use Rattle.odb_doc.specs.recorded.EventLists.{entries};
 ghost use Rattle.odb_check.specs.Plans.{plan_records};
 ghost use Rattle.odb_reply.specs.NotWhole.{HasWholeBodies};
 ghost use Rattle.odb_engine.specs.declared.ending.Ended.TheVariants as ends;
+ghost use Rattle.odb_engine.specs.declared.form.Form.{Form};
+ghost use Rattle.odb_engine.specs.declared.form.Form.TheVariants.{Lines};
 ghost use Rattle.odb_engine.specs.declared.halt.Halt.TheVariants as halts;
 ghost use Rattle.odb_engine.specs.Cascade.{Answers};
 ghost use Rattle.odb_engine.specs.Engines.{Ends};
@@ -90,7 +92,8 @@ pub fn ran(
     policy: Policy,
     disposal: Disposal,
 ) -> Result<String, Halt>
-    ensures found { Found (runs.RunsValue policy (plan_records plan.now) (view value)) result }
+    ensures found { (form : Form) → Found (runs.RunsValue policy (plan_records plan.now) (view value)) form
+        result }
     ensures read { result ≢ Err halts.Read }
 {
     let events = events_of(alloc, value, disposal)?;
@@ -133,7 +136,7 @@ pub fn run_batch<R: Read, S: Read, W: Write>(
     requires events { IsFresh events.old }
     requires output { output.old.failed ≡ false }
     ensures ends { SomeDocument (R.remaining batch.old.reader) (λ bytes. Ends W.contents
-        (Answers (runs.Runs policy (S.remaining events.old.reader)) bytes)
+        (Answers (runs.Runs policy (S.remaining events.old.reader)) bytes Lines)
         (IsTrue batch.new.failed ⊎ IsTrue events.new.failed) output.old output.new result
         × AskedFor R.remaining batch.old batch.new bytes events.old events.new) }
     ensures memory { result ≡ Err EngineFault.OutOfMemory → output.new ≡ output.old }

@@ -38,9 +38,10 @@ pub enum Task {
     /// Write its canonical text.
     Canon,
     /// Match the responses of a service against it. In `Mode::Stop` the service stops at its first error, and may
-    /// leave out responses after one.
+    /// leave out responses after one. If `strict` is set, some finished run has to answer their statuses, too.
     Match {
         mode: Mode,
+        strict: bool,
     },
     /// Write the response of a run with recorded outcomes, in this order; after the trace of the steps if
     /// `traced` is set.
@@ -83,9 +84,9 @@ impl Command for Task {
             Task::Plan => planned_text(alloc, plan, setup.form),
             Task::Draw => drawn_text(alloc, plan),
             Task::Canon => canonical_text(alloc, batch),
-            Task::Match { mode } => {
+            Task::Match { mode, strict } => {
                 let responses = second.value(alloc, Place::Responses)?;
-                matched(alloc, plan, responses, mode, setup)
+                matched(alloc, plan, responses, mode, strict, setup)
             }
             Task::Replay {
                 policy,
@@ -118,7 +119,7 @@ pub(crate) fn answer_one<R: Read, W: Write>(
     requires input { IsFresh input.old }
     requires output { output.old.failed ≡ false }
     ensures ends { SomeDocument (R.remaining input.old.reader) (λ bytes. Ends W.contents
-        (Answers (OfTask task Lines (InMemory [])) bytes) (IsTrue input.new.failed)
+        (Answers (OfTask task (InMemory [])) bytes Lines) (IsTrue input.new.failed)
         output.old output.new result) }
     ensures memory { result ≡ Err EngineFault.OutOfMemory → output.new ≡ output.old }
     ensures reads { ReadsFew R.remaining input.old input.new }

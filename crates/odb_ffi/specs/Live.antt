@@ -19,6 +19,8 @@ use Rattle.odb_reply.specs.Readable.{HasShallowValues}
 use Rattle.odb_engine.specs.Cascade as cascade
 use Rattle.odb_engine.specs.declared.ending.Ended.{Ended}
 use Rattle.odb_engine.specs.declared.ending.Ended.TheVariants.{Done}
+use Rattle.odb_engine.specs.declared.form.Form.{Form}
+use Rattle.odb_engine.specs.declared.form.Form.TheVariants.{Lines}
 use Rattle.odb_engine.specs.declared.live.LiveRun.{LiveRun}
 use Rattle.odb_engine.specs.Labels.{position_of}
 use Rattle.odb_engine.specs.Live.{Opens, IsLeastOfOpening, Shows, with_run, with_text}
@@ -29,7 +31,7 @@ use Rattle.odb_ffi.specs.Returns.{IsOutOfMemory, Returns}
 -- line of the least fault.
 pub data Opening (policy : Policy) (batch events : List ℕ) (is : Option LiveRun) (status text_length : ℕ) (old new : List ℕ) : Type 0 where
   Opened : (live : LiveRun) → is ≡ Some live → Opens policy batch events live → status ≡ 0 → text_length ≡ 0 → new ≡ old → Opening policy batch events is status text_length old new
-  NotOpened : Returns (cascade.Reports (IsLeastOfOpening policy batch events)) status text_length old new → Opening policy batch events is status text_length old new
+  NotOpened : Returns (cascade.Reports (IsLeastOfOpening policy batch events) Lines) status text_length old new → Opening policy batch events is status text_length old new
 
 -- What a call returns that gives the undone positions of a run, from the last to the first: it gives them only of a finished
 -- run. Otherwise their number is 0, and the buffer is as it was.
@@ -46,8 +48,8 @@ pub data GivesPosition (live : LiveRun) (id : List ℕ) (status old new : ℕ) :
 
 -- What the response of a live run is: what is shown of it. Of a finished run it is read as the value of the response, if no body
 -- that is a value nests more than 124 deep.
-pub record Responds (live : LiveRun) (ended : Ended) (text : List ℕ) : Type 0 where
-  pub shows : Shows live ended text
+pub record Responds (live : LiveRun) (form : Form) (ended : Ended) (text : List ℕ) : Type 0 where
+  pub shows : Shows live form ended text
   pub reads_back : ended ≡ Done → HasShallowValues live.texts live.run → read text ≡ Some (value_with live.labels live.texts (answer live.run))
 
 -- What the start of a request returns: 0 if it may come, and the run has gone on; the first cause against it, or that there

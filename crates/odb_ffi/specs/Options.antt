@@ -59,10 +59,14 @@ NamesNoOrder order = 2 < order
 abbrev pub NamesNoFlag : ℕ → Type 0
 NamesNoFlag flag = 1 < flag
 
--- the number names the mode of the match
-abbrev pub IsMatch : ℕ → Task → Type 0
-IsMatch mode (tasks.Match named) = IsMode mode named
-IsMatch mode _ = ⊥
+-- these numbers name the match
+abbrev pub IsMatch : ℕ → ℕ → Task → Type 0
+IsMatch mode strict (tasks.Match named asked) = IsMode mode named × (strict ≡ flag_number asked)
+IsMatch mode strict _ = ⊥
+
+-- one of these numbers names no option of a match
+abbrev pub NamesNoMatch : ℕ → ℕ → Type 0
+NamesNoMatch mode strict = NamesNoMode mode ⊎ NamesNoFlag strict
 
 -- these numbers name the run
 abbrev pub IsRun : ℕ → ℕ → Task → Type 0

@@ -3,6 +3,7 @@ use Rattle.std.specs.Prelude.{◌≡◌, ◌<◌, ◌≤◌, ◌-◌, ◌⊎◌,
 use Rattle.odb_spans.specs.declared.span.Span.{Span}
 use Rattle.odb_send.specs.declared.parts.RequestParts.{RequestParts}
 use Rattle.odb_send.specs.declared.requests.Requests.{Requests}
+use Rattle.odb_engine.specs.declared.form.Form.TheVariants.{Lines}
 use Rattle.odb_engine.specs.Cascade.{IsLeast, Reports}
 use Rattle.odb_engine.specs.Requests.{Sends}
 use Rattle.odb_ffi.specs.declared.request.Part.{Part}
@@ -65,4 +66,4 @@ pub record Gives (found : Requests) (status text_length count : ℕ) (text new_t
 -- line of its least fault, and there are no requests.
 pub data GivesRequests (bytes : List ℕ) (status text_length count : ℕ) (text new_text : List ℕ) (requests new_requests : List Request) : Type 0 where
   Given : (found : Requests) → Sends bytes found → Gives found status text_length count text new_text requests new_requests → GivesRequests bytes status text_length count text new_text requests new_requests
-  NotGiven : Returns (Reports (IsLeast bytes)) status text_length text new_text → count ≡ 0 → new_requests ≡ requests → GivesRequests bytes status text_length count text new_text requests new_requests
+  NotGiven : Returns (Reports (IsLeast bytes) Lines) status text_length text new_text → count ≡ 0 → new_requests ≡ requests → GivesRequests bytes status text_length count text new_text requests new_requests

@@ -4,7 +4,6 @@ use Rattle.odb_engine.specs.declared.ending.Ended.{Ended}
 use Rattle.odb_engine.specs.declared.ending.Ended.TheVariants.{Done, Refused}
 use Rattle.odb_engine.specs.declared.form.Form.{Form}
 use Rattle.odb_engine.specs.Cascade.{Writes, Answers}
-use Rattle.odb_engine.specs.Forms.{InForm}
 use Rattle.odb_engine.specs.Contents.Given.{InMemory}
 use Rattle.odb_engine.specs.Tasks.{OfTask}
 use Rattle.odb_engine.specs.declared.task.Task.{Task}
@@ -20,7 +19,7 @@ Is ended text ended₁ text₁ = (ended₁ ≡ ended) × (text₁ ≡ text)
 
 -- what a task writes of the documents in these bytes, in a form; the second is one only if the task takes one
 abbrev pub Does : Task → Form → List ℕ → List ℕ → Writes
-Does task form batch second = InForm form (Answers (OfTask task form (InMemory second)) batch)
+Does task form batch second = Answers (OfTask task (InMemory second)) batch form
 
 -- The whole text is at the start of the buffer, and its length is returned; the rest of the buffer is as it was.
 pub record IsWhole (P : Writes) (status text_length : ℕ) (old new : List ℕ) : Type 0 where

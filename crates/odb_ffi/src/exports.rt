@@ -2,7 +2,7 @@
 //!
 //! A slice is a pointer and then a length for C, and `alloc` is nothing. Each call has a second one, as
 //! [`odb_check_as`], that also takes a form: 0 for lines, as the first writes, and 1 for one line of JSON, as
-//! `--json` of the command writes. [`odb_match_with`] takes a mode beside the form.
+//! `--json` of the command writes. [`odb_match_with`] takes a mode and a flag beside the form.
 //!
 //! A call sets `text_length` to the length of the text, and returns
 //! - 0 if the text is the result, and 1 if it is the line of a fault: then `text` begins with it;
@@ -13,12 +13,12 @@
 //! With any other status than 0 and 1 `text` is unchanged. Names are looked up by hashes that start from
 //! `seed`; 0 is no seed, and look-ups take O(log n) comparisons. The documents are not copied.
 
-ghost use Rattle.std.specs.Prelude.{◌≡◌, []};
+ghost use Rattle.std.specs.Prelude.{◌≡◌, [], false};
 ghost use Rattle.odb_sched.specs.declared.policy.Mode.TheVariants as modes;
 ghost use Rattle.odb_engine.specs.declared.form.Form.TheVariants as forms;
 ghost use Rattle.odb_engine.specs.declared.task.Task.TheVariants as tasks;
 ghost use Rattle.odb_ffi.specs.Options as options;
-ghost use Rattle.odb_ffi.specs.Rests.{RestIn};
+ghost use Rattle.odb_ffi.specs.Rests.{RestLine};
 ghost use Rattle.odb_ffi.specs.Returns.{Does, Returns, ReturnsBy};
 
 use crate::answer::{answer, answer_as, wrong_option};
@@ -143,15 +143,16 @@ pub extern "C" fn odb_match(
     text_length: &mut usize,
     seed: u64,
 ) -> u32
-    ensures { Returns (Does (tasks.Match modes.Continue) forms.Lines batch.now responses.now)
+    ensures { Returns (Does (tasks.Match modes.Continue false) forms.Lines batch.now responses.now)
         result text_length.new text.old text.new }
 {
     let mode = Mode::Continue;
+    let strict = false;
     answer(
         alloc,
         batch,
         responses,
-        Match { mode },
+        Match { mode, strict },
         Lines,
         seed,
         text,
@@ -171,15 +172,16 @@ pub extern "C" fn odb_match_as(
     seed: u64,
 ) -> u32
     ensures { ReturnsBy (options.IsForm form) (options.NamesNoForm form)
-        (λ form. Returns (Does (tasks.Match modes.Continue) form batch.now responses.now))
+        (λ form. Returns (Does (tasks.Match modes.Continue false) form batch.now responses.now))
         result text_length.new text.old text.new }
 {
     let mode = Mode::Continue;
+    let strict = false;
     answer_as(
         alloc,
         batch,
         responses,
-        Match { mode },
+        Match { mode, strict },
         form,
         seed,
         text,
@@ -188,24 +190,26 @@ pub extern "C" fn odb_match_as(
 }
 
 /// Does what [`odb_match_as`] does, of a service in a mode: `mode` is 0 for one that continues after an error, and
-/// 1 for one that stops at its first error, as `odb_batch match --stop` does.
+/// 1 for one that stops at its first error, as `odb_batch match --stop` does. With `strict` 1, as `odb_batch match
+/// --strict` does, some finished run has to answer the statuses; 0 asks no more than [`odb_match_as`].
 #[unsafe(no_mangle)]
 pub extern "C" fn odb_match_with(
     alloc: Global,
     batch: &[u8],
     responses: &[u8],
     mode: u32,
+    strict: u32,
     form: u32,
     text: &mut [u8],
     text_length: &mut usize,
     seed: u64,
 ) -> u32
-    ensures { ReturnsBy (options.IsMatch mode) (options.NamesNoMode mode)
+    ensures { ReturnsBy (options.IsMatch mode strict) (options.NamesNoMatch mode strict)
         (λ task. ReturnsBy (options.IsForm form) (options.NamesNoForm form)
         (λ form. Returns (Does task form batch.now responses.now)))
         result text_length.new text.old text.new }
 {
-    match match_of(mode) {
+    match match_of(mode, strict) {
         Some(task) => answer_as(alloc, batch, responses, task, form, seed, text, text_length),
         None => wrong_option(text_length),
     }
@@ -229,7 +233,7 @@ pub extern "C" fn odb_rest(
 ) -> u32
     ensures { ReturnsBy (options.IsMode mode) (options.NamesNoMode mode)
         (λ mode. ReturnsBy (options.IsForm form) (options.NamesNoForm form)
-        (λ form. Returns (RestIn mode batch.now responses.now form)))
+        (λ form. Returns (RestLine mode batch.now responses.now form)))
         result text_length.new text.old text.new }
 {
     match mode_of(mode) {

@@ -3,6 +3,7 @@
 ghost use Rattle.std.specs.Prelude.{◌≡◌, ◌<◌, ◌+◌, IfOk};
 ghost use Rattle.odb_engine.specs.Cascade.{Prints};
 ghost use Rattle.odb_engine.specs.Labels.{id_lines};
+ghost use Rattle.odb_engine.specs.declared.form.Form.TheVariants.{Lines};
 ghost use Rattle.odb_sched.specs.run.State as state;
 ghost use Rattle.odb_sched.specs.run.Steps.{report_number};
 ghost use Rattle.odb_ffi.specs.Live as calls;
@@ -93,7 +94,8 @@ pub fn ids(live: &LiveRun, alloc: Global) -> Result<Answer, AllocError>
 
 /// Returns what a run by recorded events writes after the same events.
 pub fn response(live: &LiveRun, alloc: Global) -> Result<Answer, AllocError>
-    ensures { IfOk result (λ answer. calls.Responds live.now answer.ended answer.text.items) }
+    ensures { IfOk result (λ answer. calls.Responds live.now Lines
+        answer.ended answer.text.items) }
 {
     Answer::of(alloc, Form::Lines, live.response(alloc))
 }

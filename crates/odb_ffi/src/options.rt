@@ -80,13 +80,14 @@ fn flag_of(number: u32) -> Option<bool>
     }
 }
 
-/// Returns the match of a service in the mode that a number names, or `None` if it may not be.
-pub fn match_of(mode: u32) -> Option<Task>
-    ensures some { IfSome result (options.IsMatch mode) }
-    ensures none { result ≡ None → options.NamesNoMode mode }
+/// Returns the match that two numbers name, or `None` if one of them may not be.
+pub fn match_of(mode: u32, strict: u32) -> Option<Task>
+    ensures some { IfSome result (options.IsMatch mode strict) }
+    ensures none { result ≡ None → options.NamesNoMatch mode strict }
 {
     let mode = mode_of(mode)?;
-    Some(Task::Match { mode })
+    let strict = flag_of(strict)?;
+    Some(Task::Match { mode, strict })
 }
 
 /// Returns the run that two numbers name, or `None` if one of them may not be.

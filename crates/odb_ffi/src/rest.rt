@@ -1,8 +1,9 @@
 //! The rest of a batch, as it reaches the buffer of the caller.
 
 ghost use Rattle.odb_engine.specs.Halts.{Found};
+ghost use Rattle.odb_engine.specs.declared.form.Form.{Form};
 ghost use Rattle.odb_ffi.specs.Options as options;
-ghost use Rattle.odb_ffi.specs.Rests.{RestIn, RestLine};
+ghost use Rattle.odb_ffi.specs.Rests.{RestLine};
 ghost use Rattle.odb_ffi.specs.Returns.{Returns, ReturnsBy};
 
 use crate::answer::{give, wrong_option};
@@ -24,7 +25,7 @@ fn rest_line(
     mode: Mode,
     seed: Seed,
 ) -> Result<String, Halt>
-    ensures { Found (RestLine mode batch.now responses.now) result }
+    ensures { (form : Form) → Found (RestLine mode batch.now responses.now) form result }
 {
     let mut text = rest_in(alloc, batch, responses, mode, seed)?;
     text.push_str("\n")?;
@@ -43,7 +44,7 @@ pub fn rest_as(
     text_length: &mut usize,
 ) -> u32
     ensures { ReturnsBy (options.IsForm form) (options.NamesNoForm form)
-        (λ form. Returns (RestIn mode batch.now responses.now form))
+        (λ form. Returns (RestLine mode batch.now responses.now form))
         result text_length.new buffer.old buffer.new }
 {
     match form_of(form) {

@@ -7,6 +7,7 @@ ghost use Rattle.odb_dense.specs.Lists.{ListsOnce};
 ghost use Rattle.odb_engine.specs.Cascade.{Prints};
 ghost use Rattle.odb_engine.specs.Halts.{Halted};
 ghost use Rattle.odb_engine.specs.Labels.{id_lines};
+ghost use Rattle.odb_engine.specs.declared.form.Form.TheVariants.{Lines};
 ghost use Rattle.odb_engine.specs.Live.{IsLeastOfOpening, Opens};
 ghost use Rattle.odb_sched.specs.run.State as state;
 ghost use Rattle.odb_sched.specs.run.Steps as steps;
@@ -232,7 +233,7 @@ pub extern "C" fn odb_run_response(
     text: &mut [u8],
     text_length: &mut usize,
 ) -> u32
-    ensures text { Returns (calls.Responds run.old.value) result text_length.new text.old text.new }
+    ensures text { Returns (calls.Responds run.old.value Lines) result text_length.new text.old text.new }
     ensures same { run.new.value ≡ run.old.value }
 {
     give(live::response(run.live(), alloc), text, text_length)

@@ -42,8 +42,8 @@ fn pair_of(value: Value) -> Option<(Value, Value)>
 
 /// Returns what a task writes of the two documents in a line.
 fn text_of_pair(alloc: Global, line: &[u8], task: Task, setup: Setup) -> Result<String, Halt>
-    ensures found { Found (OfPair (λ batch second. OfTask task setup.form (InHand second) batch) line.now)
-        result }
+    ensures found { Found (OfPair (λ batch second. OfTask task (InHand second) batch) line.now)
+        setup.form result }
     ensures read { result ≢ Err halts.Read }
 {
     let Some((mut first, mut second)) = pair_of(value_in(alloc, line, Place::Batch)?) else {
@@ -61,7 +61,7 @@ fn text_of_pair(alloc: Global, line: &[u8], task: Task, setup: Setup) -> Result<
 /// `Refused` by F07 if a task over two documents is not given an array of two elements; else as
 /// [`text_of`]. Never `Read`.
 pub fn text_of_line(alloc: Global, line: &[u8], task: Task, setup: Setup) -> Result<String, Halt>
-    ensures found { Found (OfLine task setup.form line.now) result }
+    ensures found { Found (OfLine task line.now) setup.form result }
     ensures read { result ≢ Err halts.Read }
 {
     if task.takes_second() {

@@ -31,7 +31,7 @@ pub enum Work {
 ///
 /// Those of the task; `Refused` by the least fault of the batch, or `OutOfMemory`. Never `Read`.
 pub fn text_of_work(alloc: Global, line: &[u8], work: Work, setup: Setup) -> Result<String, Halt>
-    ensures found { Found (OfWork work setup.form line.now) result }
+    ensures found { Found (OfWork work line.now) setup.form result }
     ensures read { result ≢ Err halts.Read }
 {
     match work {
@@ -48,10 +48,7 @@ pub struct EachLine {
 }
 
 impl LineCommand for EachLine {
-    ghost use Rattle.odb_engine.specs.Forms.{InForm};
-
-    ghost writes = { λ self line.
-        InForm self.setup.form (OfWork self.work self.setup.form line) };
+    ghost writes = { λ self line. OfWork self.work line self.setup.form };
 
     fn answer<W: Write>(
         &self,

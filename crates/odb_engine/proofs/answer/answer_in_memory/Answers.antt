@@ -6,4 +6,4 @@ use Rattle.odb_engine.proofs.answer.answer_in_memory.Goals as goal
 
 pub returns : goal.returns
 returns c =
-    answered-in c.args.setup.form (Answers (OfTask c.args.task c.args.setup.form (InMemory c.args.second.now)) c.args.batch.now) c.text_of-found.result c.of.result c.text_of-found.ensures.found.0 c.of.ensures
+    answered-in c.args.setup.form (Answers (OfTask c.args.task (InMemory c.args.second.now)) c.args.batch.now) c.text_of-found.result c.of.result c.text_of-found.ensures.found.0 c.of.ensures

@@ -9,4 +9,4 @@ use Rattle.odb_engine.proofs.canon.canonical_text.Goals as goal
 pub returns-in_err-text-clause-found : goal.returns-in_err-text-clause-found
 returns-in_err-text-clause-found c =
     let batch = records c.args.batch.now in
-    at-exit (Found (Canonical batch)) _ _ c.from_residual.ensures.1 (halt-text batch c.in_err-text.field-0.0 (λ at is. (c.in_err-text.ensures.not_whole at).0 (ap Err is)))
+    λ form. at-exit (Found (Canonical batch) form) _ _ c.from_residual.ensures.1 (halt-text batch form c.in_err-text.field-0.0 (λ at is. (c.in_err-text.ensures.not_whole at).0 (ap Err is)))

@@ -8,7 +8,7 @@ use Rattle.odb_engine.proofs.command.answer_task.Goals as goal
 
 pub returns-clause-ends : goal.returns-clause-ends
 returns-clause-ends g c =
-    let P = AnswersValue (g.C.Command.writes c.args.task c.args.setup.form (g.S.Source.given c.args.second.now)) in
+    let P = AnswersValue (g.C.Command.writes c.args.task (g.S.Source.given c.args.second.now)) in
     let failed = g.R.Source.has_failed c.text_of-found.new.first ⊎ g.S.Source.has_failed c.text_of-found.new.second in
     some-weaker (g.R.Source.given c.args.first.now) _ _
     (λ content (found, asked). (

@@ -15,6 +15,6 @@ returns c =
     let causes : HaveOneCause = record { one_refusal = c.every_cause.ensures.one_refusal; one_unknown = c.every_cause.ensures.one_unknown } in
     let history : AreOneHistory = record { one_fault = c.one_history.ensures.one; no_fault = c.one_history.ensures.none; one_reading = c.one_history.ensures.events } in
     record {
-      text = λ policy batch events text different live ended other. live-text law causes history policy batch events live ended other text different;
+      text = λ policy form batch events text different live ended other. live-text law causes history policy batch events live form ended other text different;
       goes_on = λ policy batch events more live event. live-next law history policy batch events more live event;
     }

@@ -19,6 +19,8 @@ returns c =
       no_fault = c.one_document.ensures.none;
       one_list = c.one_document.ensures.entries;
       one_misfit = c.one_match.ensures.one;
+      one_status = c.one_status.ensures.one;
+      no_status = c.one_status.ensures.none;
       no_misfit = c.one_match.ensures.none;
       one_table = c.one_match.ensures.table;
     } in

@@ -1,10 +1,8 @@
 use Rattle.std.proofs.Common.{◌⊎◌, IsTrue, subst}
-use Rattle.odb_sched.specs.declared.policy.Mode.TheVariants.{Continue}
 use Rattle.odb_engine.specs.Cascade.{Answers}
 use Rattle.odb_engine.specs.Engines.{Ends}
-use Rattle.odb_engine.specs.Forms.{InForm}
 use Rattle.odb_engine.specs.Inputs.{BySecond}
-use Rattle.odb_engine.specs.Matches.{MatchesIn}
+use Rattle.odb_engine.specs.Matches.{Matches}
 use Rattle.odb_engine.proofs.match_responses.match_batch.Goals as goal
 
 pub returns-clause-ends : goal.returns-clause-ends
@@ -15,7 +13,7 @@ returns-clause-ends g c =
       bytes,
       gives,
       (
-        subst (λ form. Ends g.W.Write.contents (InForm form (Answers (BySecond left (MatchesIn Continue form)) bytes)) failed c.args.output.now c.answer_task.new.output c.answer_task.result) c.plain.ensures.form ends,
+        subst (λ form. Ends g.W.Write.contents (Answers (BySecond left Matches) bytes form) failed c.args.output.now c.answer_task.new.output c.answer_task.result) c.plain.ensures.form ends,
         asked,
       ),
     )

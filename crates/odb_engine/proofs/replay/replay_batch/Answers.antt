@@ -1,7 +1,6 @@
 use Rattle.std.proofs.Common.{◌⊎◌, IsTrue, subst}
 use Rattle.odb_engine.specs.Cascade.{Answers}
 use Rattle.odb_engine.specs.Engines.{Ends}
-use Rattle.odb_engine.specs.Forms.{InForm}
 use Rattle.odb_engine.specs.Replays.{Replays}
 use Rattle.odb_engine.proofs.replay.replay_batch.Goals as goal
 
@@ -14,7 +13,7 @@ returns-clause-ends g c =
       bytes,
       gives,
       (
-        subst (λ form. Ends g.W.Write.contents (InForm form (Answers (Replays allows c.args.policy c.args.traced left) bytes)) failed c.args.output.now c.answer_task.new.output c.answer_task.result) c.plain.ensures.form ends,
+        subst (λ form. Ends g.W.Write.contents (Answers (Replays allows c.args.policy c.args.traced left) bytes form) failed c.args.output.now c.answer_task.new.output c.answer_task.result) c.plain.ensures.form ends,
         asked,
       ),
     )

@@ -3,10 +3,10 @@ use Rattle.serde_json.specs.View.{view}
 use Rattle.odb_doc.specs.recorded.OutcomeLists.{entries}
 use Rattle.odb_check.specs.Plans.{plan_records}
 use Rattle.odb_engine.specs.declared.ending.Ended.TheVariants.{Done, Refused}
-use Rattle.odb_engine.specs.Cascade.{line_of}
+use Rattle.odb_engine.specs.Forms.{fault_text}
 use Rattle.odb_engine.specs.Halts.{Found}
 use Rattle.odb_engine.specs.Replays.{IsFaultOfOutcomes, LacksOutcome, ReplaysValue, result_text}
-use Rattle.odb_engine.proofs.EngineLemmas.{exit-error, Refuses-weaker, Halted-weaker, reports}
+use Rattle.odb_engine.proofs.EngineLemmas.{exit-error, Halted-weaker, reports}
 use Rattle.odb_engine.proofs.replay.replayed_by.Goals as goal
 
 pub returns-in_err-outcomes-clause-found : goal.returns-in_err-outcomes-clause-found
@@ -15,8 +15,8 @@ returns-in_err-outcomes-clause-found g c =
     let value = view c.args.value in
     let allows = (goal.Chooser-dyn g c.args.chooser.now).allows c.args.chooser.now.1 in
     let writes = ReplaysValue allows replay.policy replay.traced (plan_records c.args.plan.now) value in
-    exit-error (Found writes) _ _ c.from_residual.ensures.1
-    (Halted-weaker (IsFaultOfOutcomes value) (λ refusal. writes Refused (line_of refusal)) (λ refusal is. inl (reports (IsFaultOfOutcomes value) refusal is)) _ c.in_err-outcomes.ensures.least)
+    λ form. exit-error (Found writes form) _ _ c.from_residual.ensures.1
+    (Halted-weaker (IsFaultOfOutcomes value) (λ refusal. writes form Refused (fault_text form refusal)) (λ refusal is. inl (reports (IsFaultOfOutcomes value) form refusal is)) _ c.in_err-outcomes.ensures.least)
 
 pub returns-in_err-run_of-clause-found : goal.returns-in_err-run_of-clause-found
 returns-in_err-run_of-clause-found g c =
@@ -25,8 +25,9 @@ returns-in_err-run_of-clause-found g c =
     let allows = (goal.Chooser-dyn g c.args.chooser.now).allows c.args.chooser.now.1 in
     let recorded = entries c.in_ok-outcomes.outcomes in
     let writes = ReplaysValue allows replay.policy replay.traced batch (view c.args.value) in
-    exit-error (Found writes) _ _ c.from_residual-in_err-run_of.ensures.1
-    (Refuses-weaker (LacksOutcome allows replay.policy batch recorded) writes _ (λ ended text lacks. inr (recorded, c.in_ok-outcomes.ensures.outcomes, inr lacks)) c.in_err-run_of.ensures.lacks)
+    let lacks = LacksOutcome allows replay.policy batch recorded in
+    λ form. exit-error (Found writes form) _ _ c.from_residual-in_err-run_of.ensures.1
+    (Halted-weaker lacks (λ refusal. writes form Refused (fault_text form refusal)) (λ refusal is. inr (recorded, c.in_ok-outcomes.ensures.outcomes, inr (reports lacks form refusal is))) _ c.in_err-run_of.ensures.lacks)
 
 pub returns-clause-found : goal.returns-clause-found
 returns-clause-found g c =
@@ -35,4 +36,4 @@ returns-clause-found g c =
     let allows = (goal.Chooser-dyn g c.args.chooser.now).allows c.args.chooser.now.1 in
     let writes = ReplaysValue allows replay.policy replay.traced (plan_records c.args.plan.now) (view c.args.value) in
     let same : string_bytes c.push_response.new.text ≡ result_text replay.traced trace.done trace.steps.items = search rules in
-    subst (writes Done) (sym same) (inr (entries c.in_ok-outcomes.outcomes, c.in_ok-outcomes.ensures.outcomes, inl (c.in_ok-run_of.ensures.result replay.traced)))
+    λ form. subst (writes form Done) (sym same) (inr (entries c.in_ok-outcomes.outcomes, c.in_ok-outcomes.ensures.outcomes, inl (c.in_ok-run_of.ensures.result replay.traced)))

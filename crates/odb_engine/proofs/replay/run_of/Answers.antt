@@ -11,9 +11,7 @@ use Rattle.odb_sched.specs.run.State.{first_state}
 use Rattle.odb_reply.specs.Fits.{ListsFit}
 use Rattle.odb_reply.specs.OnePerId.{HasOnePerId}
 use Rattle.odb_reply.specs.Responses.{response_value}
-use Rattle.odb_engine.specs.declared.ending.Ended.TheVariants.{Refused}
-use Rattle.odb_engine.specs.Cascade.{line_of}
-use Rattle.odb_engine.specs.Halts.{Refuses}
+use Rattle.odb_engine.specs.Halts.{Halted}
 use Rattle.odb_engine.specs.Replays.{LacksOutcome}
 use Rattle.odb_engine.proofs.EngineLemmas.{at-exit, halted-by}
 use Rattle.odb_engine.proofs.ReplayLemmas.{readable-answers, whole-bodies, lacks-outcome}
@@ -27,8 +25,8 @@ returns-in_err-trace-clause-lacks g c =
     let cause = c.in_err-trace.field-0.0 in
     let lacks = LacksOutcome allows c.args.replay.policy batch recorded in
     let caused = subst (λ s. IsCausedBy (OffersRecorded s) (IsReportEnabled allows (OffersRecorded s) (first_state batch c.args.replay.policy)) cause) c.in_ok-new.ensures c.in_err-trace.ensures.fault in
-    at-exit (λ r. IfErr r (Refuses lacks)) _ _ c.from_residual-in_err-trace.ensures.1
-    (halted-by (λ refusal. lacks Refused (line_of refusal)) _ (lacks-outcome allows c.args.replay.policy batch recorded cause c.len-count.ensures.well_formed caused))
+    at-exit (λ r. IfErr r (Halted lacks)) _ _ c.from_residual-in_err-trace.ensures.1
+    (halted-by lacks _ (lacks-outcome allows c.args.replay.policy batch recorded cause c.len-count.ensures.well_formed caused))
 
 pub returns-clause-result : goal.returns-clause-result
 returns-clause-result g c =

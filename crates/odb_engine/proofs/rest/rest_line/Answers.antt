@@ -16,8 +16,8 @@ returns-in_err-document-clause-found g c =
     let left = g.R.Read.remaining c.args.batch.now.reader in
     let given = ByReader (g.S.Read.remaining c.args.responses.now.reader) in
     let second = c.args.responses.now in
-    let (bytes, gives, so) = unread-found left (λ bytes. Rests c.args.mode bytes given) _ c.in_err-document.ensures.unrefused in
-    exit-error (λ r. SomeDocument left (λ bytes. Found (Rests c.args.mode bytes given) r × AskedFor g.R.Read.remaining c.args.batch.now c.read_document.new.input bytes second second)) _ _ c.from_residual.ensures.1 (bytes, gives, (so, inl refl))
+    let (bytes, gives, so) = unread-found left (λ bytes. Rests c.args.mode bytes given) c.args.setup.form _ c.in_err-document.ensures.unrefused in
+    exit-error (λ r. SomeDocument left (λ bytes. Found (Rests c.args.mode bytes given) c.args.setup.form r × AskedFor g.R.Read.remaining c.args.batch.now c.read_document.new.input bytes second second)) _ _ c.from_residual.ensures.1 (bytes, gives, (so, inl refl))
 
 pub returns-in_err-text-clause-found : goal.returns-in_err-text-clause-found
 returns-in_err-text-clause-found g c =
@@ -28,9 +28,9 @@ returns-in_err-text-clause-found g c =
     let bytes = c.in_ok-document.document.items in
     let halt = c.in_err-text.field-0.0 in
     let was = WasRead g.R.Read.remaining c.args.batch.now c.read_document.new.input in
-    let so = subst (λ bytes. Found (Answers (RestsBy c.args.mode bytes given) bytes) (Err halt)) c.deref.ensures.value c.in_err-text.ensures.found in
+    let so = subst (λ bytes. Found (Answers (RestsBy c.args.mode bytes given) bytes) c.args.setup.form (Err halt)) c.deref.ensures.value (c.in_err-text.ensures.found c.args.setup.form) in
     let asked = subst (λ bytes. (new ≡ old) ⊎ Accepts bytes (λ _. Unit {0})) c.deref.ensures.value c.in_err-text.ensures.asked in
-    exit-error (λ r. SomeDocument left (λ bytes. Found (Rests c.args.mode bytes given) r × AskedFor g.R.Read.remaining c.args.batch.now c.read_document.new.input bytes old new)) _ _ c.from_residual-in_err-text.ensures.1
+    exit-error (λ r. SomeDocument left (λ bytes. Found (Rests c.args.mode bytes given) c.args.setup.form r × AskedFor g.R.Read.remaining c.args.batch.now c.read_document.new.input bytes old new)) _ _ c.from_residual-in_err-text.ensures.1
     (bytes, c.in_ok-document.ensures.document, (so, asked-after (was bytes) bytes old new c.in_ok-document.ensures.whole asked))
 
 pub returns-clause-found : goal.returns-clause-found
@@ -41,6 +41,6 @@ returns-clause-found g c =
     let bytes = c.in_ok-document.document.items in
     let text = c.in_ok-text.text in
     let was = WasRead g.R.Read.remaining c.args.batch.now c.read_document.new.input in
-    let so = subst (λ bytes. Answers (RestsBy c.args.mode bytes given) bytes Done (string_bytes text)) c.deref.ensures.value c.in_ok-text.ensures.found in
+    let so = subst (λ bytes. Answers (RestsBy c.args.mode bytes given) bytes c.args.setup.form Done (string_bytes text)) c.deref.ensures.value (c.in_ok-text.ensures.found c.args.setup.form) in
     let asked = subst (λ bytes. (new ≡ old) ⊎ Accepts bytes (λ _. Unit {0})) c.deref.ensures.value c.in_ok-text.ensures.asked in
-    (bytes, c.in_ok-document.ensures.document, (ends-line (Answers (RestsBy c.args.mode bytes given) bytes) (string_bytes text) _ so c.in_ok-push_str.ensures.bytes, asked-after (was bytes) bytes old new c.in_ok-document.ensures.whole asked))
+    (bytes, c.in_ok-document.ensures.document, (ends-line (Answers (RestsBy c.args.mode bytes given) bytes) c.args.setup.form (string_bytes text) _ so c.in_ok-push_str.ensures.bytes, asked-after (was bytes) bytes old new c.in_ok-document.ensures.whole asked))

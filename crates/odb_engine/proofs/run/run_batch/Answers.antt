@@ -1,7 +1,6 @@
 use Rattle.std.proofs.Common.{◌⊎◌, IsTrue, subst}
 use Rattle.odb_engine.specs.Cascade.{Answers}
 use Rattle.odb_engine.specs.Engines.{Ends}
-use Rattle.odb_engine.specs.Forms.{InForm}
 use Rattle.odb_engine.specs.Runs.{Runs}
 use Rattle.odb_engine.proofs.run.run_batch.Goals as goal
 
@@ -13,7 +12,7 @@ returns-clause-ends g c =
       bytes,
       gives,
       (
-        subst (λ form. Ends g.W.Write.contents (InForm form (Answers (Runs c.args.policy left) bytes)) failed c.args.output.now c.answer_task.new.output c.answer_task.result) c.plain.ensures.form ends,
+        subst (λ form. Ends g.W.Write.contents (Answers (Runs c.args.policy left) bytes form) failed c.args.output.now c.answer_task.new.output c.answer_task.result) c.plain.ensures.form ends,
         asked,
       ),
     )

@@ -1,6 +1,7 @@
 -- What is to be sent of a batch, for C.
 use Rattle.std.proofs.Common.{refl}
 use Rattle.odb_engine.specs.Cascade.{IsLeast, Reports}
+use Rattle.odb_engine.specs.declared.form.Form.TheVariants.{Lines}
 use Rattle.odb_ffi.specs.Requests.GivesRequests.{Given, NotGiven}
 use Rattle.odb_ffi.proofs.AnswerLemmas.{answer-reported}
 use Rattle.odb_ffi.proofs.ReturnLemmas.{returned}
@@ -12,5 +13,5 @@ returns-in-Ok c = Given c.in-Ok.found c.in-Ok.ensures.requests c.give_requests.e
 pub returns-in-Err : goal.returns-in-Err
 returns-in-Err c =
     let Is = IsLeast c.args.batch.now in
-    NotGiven (returned (Reports Is) c.of.result c.give.result c.give.new.text_length c.args.text.now c.give.new.buffer
+    NotGiven (returned (Reports Is Lines) c.of.result c.give.result c.give.new.text_length c.args.text.now c.give.new.buffer
     (answer-reported Is c.in-Err.halt c.of.result c.in-Err.ensures.least c.of.ensures) c.give.ensures.ok c.give.ensures.err) refl refl

@@ -1,4 +1,4 @@
-use Rattle.odb_ffi.specs.Rests.{RestIn, RestLine}
+use Rattle.odb_ffi.specs.Rests.{RestLine}
 use Rattle.odb_ffi.specs.Returns.ReturnsBy.{Named}
 use Rattle.odb_ffi.proofs.AnswerLemmas.{answered-in}
 use Rattle.odb_ffi.proofs.ReturnLemmas.{returned}
@@ -8,7 +8,6 @@ pub returns-in-Some : goal.returns-in-Some
 returns-in-Some c =
     let form = c.in-Some.form in
     let line = RestLine c.args.mode c.args.batch.now c.args.responses.now in
-    let writes = RestIn c.args.mode c.args.batch.now c.args.responses.now form in
     Named form c.in-Some.ensures.some
-    (returned writes c.of.result c.give.result c.give.new.text_length c.args.buffer.now c.give.new.buffer
-    (answered-in form line c.rest_line-found.result c.of.result c.rest_line-found.ensures c.of.ensures) c.give.ensures.ok c.give.ensures.err)
+    (returned (line form) c.of.result c.give.result c.give.new.text_length c.args.buffer.now c.give.new.buffer
+    (answered-in form line c.rest_line-found.result c.of.result (c.rest_line-found.ensures form) c.of.ensures) c.give.ensures.ok c.give.ensures.err)

@@ -1,5 +1,6 @@
 use Rattle.std.proofs.Common.{refl}
 use Rattle.odb_engine.specs.Cascade.{Reports}
+use Rattle.odb_engine.specs.declared.form.Form.TheVariants.{Lines}
 use Rattle.odb_engine.specs.Live.{IsLeastOfOpening}
 use Rattle.odb_ffi.specs.Live.Opening.{Opened, NotOpened}
 use Rattle.odb_ffi.specs.Returns.ReturnsBy.{Named}
@@ -13,5 +14,5 @@ returns-in-Ok-clause-opened c = Named c.in-Some.policy c.in-Some.ensures.some (O
 pub returns-in-Err-clause-opened : goal.returns-in-Err-clause-opened
 returns-in-Err-clause-opened c =
     let Is = IsLeastOfOpening c.in-Some.policy c.args.batch.now c.args.events.now in
-    Named c.in-Some.policy c.in-Some.ensures.some (NotOpened (returned (Reports Is) c.of-in-Err.result c.give.result c.give.new.text_length c.args.text.now c.give.new.buffer
+    Named c.in-Some.policy c.in-Some.ensures.some (NotOpened (returned (Reports Is Lines) c.of-in-Err.result c.give.result c.give.new.text_length c.args.text.now c.give.new.buffer
     (answer-reported Is c.in-Err.halt c.of-in-Err.result c.in-Err.ensures.least c.of-in-Err.ensures) c.give.ensures.ok c.give.ensures.err))

@@ -6,9 +6,9 @@ use Rattle.odb_engine.proofs.lines.task.text_of_line.Goals as goal
 pub returns-then-takes_second-clause-found : goal.returns-then-takes_second-clause-found
 returns-then-takes_second-clause-found c =
     let two : takes_second c.args.task ≡ true = search rules in
-    subst (λ two. Found (InLine two (OfTask c.args.task c.args.setup.form) c.args.line.now) c.text_of_pair.result) (sym two) c.text_of_pair.ensures.found
+    subst (λ two. Found (InLine two (OfTask c.args.task) c.args.line.now) c.args.setup.form c.text_of_pair.result) (sym two) c.text_of_pair.ensures.found
 
 pub returns-clause-found : goal.returns-clause-found
 returns-clause-found c =
     let one : takes_second c.args.task ≡ false = search rules in
-    subst (λ two. Found (InLine two (OfTask c.args.task c.args.setup.form) c.args.line.now) c.text_of.result) (sym one) c.text_of.ensures.found.0
+    subst (λ two. Found (InLine two (OfTask c.args.task) c.args.line.now) c.args.setup.form c.text_of.result) (sym one) c.text_of.ensures.found.0

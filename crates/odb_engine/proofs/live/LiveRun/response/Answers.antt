@@ -7,7 +7,7 @@ use Rattle.odb_reply.specs.Readable.{HasShallowValues}
 use Rattle.odb_sched.specs.run.Answers.{answer}
 use Rattle.odb_sched.specs.run.Steps.{is_finished}
 use Rattle.odb_engine.specs.declared.ending.Ended.TheVariants.{Done, Refused}
-use Rattle.odb_engine.specs.Cascade.{line_of}
+use Rattle.odb_engine.specs.Forms.{fault_text}
 use Rattle.odb_engine.specs.Halts.{Found}
 use Rattle.odb_engine.specs.Live.{IsLeastOfLive, Live, Shows}
 use Rattle.odb_engine.specs.Live.IsLeastOfLive.{OfEnd}
@@ -19,21 +19,21 @@ use Rattle.odb_engine.proofs.live.LiveRun.response.Goals as goal
 
 pub returns-then-not-is_finished-clause-found : goal.returns-then-not-is_finished-clause-found
 returns-then-not-is_finished-clause-found c =
-    subst (λ (live : Live). Shows live Refused (line_of unfinished)) c.self.view_is (inl (record { refusal = unfinished; is = OfEnd (sym c.if-not-is_finished.ensures.value) refl; ends = refl; line = refl }))
+    λ form. subst (λ (live : Live). Shows live form Refused (fault_text form unfinished)) c.self.view_is (inl (record { refusal = unfinished; is = OfEnd (sym c.if-not-is_finished.ensures.value) refl; ends = refl; prints = refl }))
 
 pub returns-in_err-text-clause-found : goal.returns-in_err-text-clause-found
 returns-in_err-text-clause-found c =
     let live = live_of c.self.inside in
     let finished : is_finished live.run ≡ true = sym c.if-not-is_finished.ensures.value in
     let not_whole = rw c.deref.ensures.value at c.in_err-text.ensures.not_whole in
-    subst (λ (live : Live). Found (Shows live) c.from_residual.result) c.self.view_is (at-exit (Found (Shows live)) _ _ c.from_residual.ensures.1
-    (λ halt by. refused live halt (halted-by (IsLeastOfLive live) _ (not-whole live finished c.in_err-text.field-0.0 (λ at same. (not_whole at).0 (ap Err same))) halt by)))
+    λ form. subst (λ (live : Live). Found (Shows live) form c.from_residual.result) c.self.view_is (at-exit (Found (Shows live) form) _ _ c.from_residual.ensures.1
+    (λ halt by. refused live form halt (halted-by (IsLeastOfLive live) _ (not-whole live finished c.in_err-text.field-0.0 (λ at same. (not_whole at).0 (ap Err same))) halt by)))
 
 pub returns-clause-found : goal.returns-clause-found
 returns-clause-found c =
     let text = rw c.deref.ensures.value at c.in_ok-text.ensures.text in
     let line = c.in_ok-push.ensures.bytes ∙ ap (λ bs. string_bytes c.in_ok-text.text ++ bs) (c.in_ok-push.ensures.ascii (omega arith)) ∙ ap (λ bs. bs ++ newline ∷ []) text in
-    subst (λ (live : Live). Shows live Done (string_bytes c.push.new.self)) c.self.view_is (inr (sym c.if-not-is_finished.ensures.value, (refl, line)))
+    λ form. subst (λ (live : Live). Shows live form Done (string_bytes c.push.new.self)) c.self.view_is (inr (sym c.if-not-is_finished.ensures.value, (refl, line)))
 
 pub returns-clause-reads_back : goal.returns-clause-reads_back
 returns-clause-reads_back c =

@@ -12,4 +12,4 @@ pub returns-clause-found : goal.returns-clause-found
 returns-clause-found g c =
     let replay = c.args.self.now in
     let P = ReplaysValue ((goal.Chooser-dyn g replay.chooser.now).allows replay.chooser.now.1) replay.policy replay.traced (plan_records c.args.plan.now) in
-    given-found (g.S.Source.given c.args.second.now) Outcomes P (view c.in_ok-value.value) _ c.replayed_by.result c.in_ok-value.ensures.value c.replayed_by.ensures.found
+    given-found (g.S.Source.given c.args.second.now) Outcomes P (view c.in_ok-value.value) _ c.args.setup.form c.replayed_by.result c.in_ok-value.ensures.value (c.replayed_by.ensures.found c.args.setup.form)

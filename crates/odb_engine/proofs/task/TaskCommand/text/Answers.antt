@@ -19,25 +19,25 @@ pub returns-in-Plan-clause-found : goal.returns-in-Plan-clause-found
 returns-in-Plan-clause-found g c = rw c.in-Plan.is c.planned_text.ensures.found
 
 pub returns-in-Draw-clause-found : goal.returns-in-Draw-clause-found
-returns-in-Draw-clause-found g c = rw c.in-Draw.is c.drawn_text.ensures.found
+returns-in-Draw-clause-found g c = rw c.in-Draw.is (c.drawn_text.ensures.found c.args.setup.form)
 
 pub returns-in-Canon-clause-found : goal.returns-in-Canon-clause-found
 returns-in-Canon-clause-found g c =
     let given = g.S.Source.given c.args.second.now in
-    let here : Found (OfTask c.args.self.now c.args.setup.form given (records c.args.batch.now)) c.canonical_text.result = rw c.in-Canon.is c.canonical_text.ensures.found in
-    subst (λ requests. Found (OfTask c.args.self.now c.args.setup.form given requests) c.canonical_text.result) c.requires.batch here
+    let here : Found (OfTask c.args.self.now given (records c.args.batch.now)) c.args.setup.form c.canonical_text.result = rw c.in-Canon.is (c.canonical_text.ensures.found c.args.setup.form) in
+    subst (λ requests. Found (OfTask c.args.self.now given requests) c.args.setup.form c.canonical_text.result) c.requires.batch here
 
 pub returns-in_ok-responses-in-Match-clause-found : goal.returns-in_ok-responses-in-Match-clause-found
 returns-in_ok-responses-in-Match-clause-found g c =
-    let P = MatchesValue c.in-Match.mode c.args.setup.form (plan_records c.args.plan.now) in
-    rw c.in-Match.is (given-found (g.S.Source.given c.args.second.now) places.Responses P (view c.in_ok-responses-in-Match.responses) _ c.matched.result c.in_ok-responses-in-Match.ensures.value c.matched.ensures.found)
+    let P = MatchesValue c.in-Match.mode c.in-Match.strict (plan_records c.args.plan.now) in
+    rw c.in-Match.is (given-found (g.S.Source.given c.args.second.now) places.Responses P (view c.in_ok-responses-in-Match.responses) _ c.args.setup.form c.matched.result c.in_ok-responses-in-Match.ensures.value c.matched.ensures.found)
 
 pub returns-in_ok-outcomes-in-Replay-clause-found : goal.returns-in_ok-outcomes-in-Replay-clause-found
 returns-in_ok-outcomes-in-Replay-clause-found g c =
     let P = ReplaysValue (AllowsOrder c.in-Replay.order) c.in-Replay.policy c.in-Replay.traced (plan_records c.args.plan.now) in
-    rw c.in-Replay.is (given-found (g.S.Source.given c.args.second.now) places.Outcomes P (view c.in_ok-outcomes-in-Replay.outcomes) _ c.replayed.result c.in_ok-outcomes-in-Replay.ensures.value c.replayed.ensures.found)
+    rw c.in-Replay.is (given-found (g.S.Source.given c.args.second.now) places.Outcomes P (view c.in_ok-outcomes-in-Replay.outcomes) _ c.args.setup.form c.replayed.result c.in_ok-outcomes-in-Replay.ensures.value (c.replayed.ensures.found c.args.setup.form))
 
 pub returns-in_ok-events-in-Run-clause-found : goal.returns-in_ok-events-in-Run-clause-found
 returns-in_ok-events-in-Run-clause-found g c =
     let P = RunsValue c.in-Run.policy (plan_records c.args.plan.now) in
-    rw c.in-Run.is (given-found (g.S.Source.given c.args.second.now) places.Events P (view c.in_ok-events-in-Run.events) _ c.ran.result c.in_ok-events-in-Run.ensures.value c.ran.ensures.found)
+    rw c.in-Run.is (given-found (g.S.Source.given c.args.second.now) places.Events P (view c.in_ok-events-in-Run.events) _ c.args.setup.form c.ran.result c.in_ok-events-in-Run.ensures.value (c.ran.ensures.found c.args.setup.form))

@@ -1,0 +1,2 @@
+-- What contracts of the program cite.
+pub mod LineWorks

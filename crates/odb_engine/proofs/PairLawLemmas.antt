@@ -1,0 +1,113 @@
+-- What a task writes of a line with two documents is what it writes of the two documents.
+use Rattle.std.proofs.Common.{◌≡◌, true, ℕ, List, Some, inl, inr, refl, sym, subst}
+use Rattle.serde_json.specs.Data.{Data, array, item, no_items}
+use Rattle.odb_doc.specs.declared.fault.Place.{Place}
+use Rattle.odb_doc.specs.declared.fault.Place.TheVariants as places
+use Rattle.odb_doc.specs.Documents.{IsDocument}
+use Rattle.odb_doc.specs.batch.Records.{Record}
+use Rattle.odb_sched.specs.run.Choosing.{AllowsOrder}
+use Rattle.odb_engine.specs.declared.ending.Ended.{Ended}
+use Rattle.odb_engine.specs.declared.form.Form.{Form}
+use Rattle.odb_engine.specs.declared.task.Task.{Task}
+use Rattle.odb_engine.specs.declared.task.Task.TheVariants as tasks
+use Rattle.odb_engine.specs.Cascade.{Answers, AnswersValue, OfDocument, WritesIn}
+use Rattle.odb_engine.specs.Contents.Given.{ByReader, InHand, InMemory}
+use Rattle.odb_engine.specs.Inputs.{IsDocumentOf}
+use Rattle.odb_engine.specs.Matches.{MatchesValue}
+use Rattle.odb_engine.specs.Replays.{ReplaysValue}
+use Rattle.odb_engine.specs.Runs.{RunsValue}
+use Rattle.odb_engine.specs.Tasks.{AnswersPair, InLine, IsLineOf, OfLine, OfTask, takes_second}
+use Rattle.odb_engine.proofs.EngineLemmas.{of-value}
+use Rattle.odb_engine.proofs.LawLemmas.{refused_no_value}
+use Rattle.odb_engine.proofs.MemoryLemmas.{one_value, whole-document}
+use Rattle.odb_engine.proofs.SecondLemmas.{one_document}
+use Rattle.odb_engine.proofs.TaskLawLemmas.{first-one, second-one}
+
+-- what is written of a document is written of its value
+value-of : (place : Place) (P : Data → WritesIn) (bytes : List ℕ) (value : Data) → IsDocument bytes value → (form : Form) (ended : Ended) (text : List ℕ) → OfDocument place P bytes form ended text → P value form ended text
+value-of place P bytes value is form ended text (inl x) = absurd (refused_no_value place bytes x.refusal (λ _. Unit {0}) x.is (record { value = value; document = is; holds = tt }))
+value-of place P bytes value is form ended text (inr has) = subst (λ v. P v form ended text) (one_value bytes has.value value has.document is) has.holds
+
+-- what is written of some requests may be written in more cases
+answers-weaker : (P Q : List Record → WritesIn) (value : Data) (form : Form) (ended : Ended) (text : List ℕ) → ((batch : List Record) → P batch form ended text → Q batch form ended text) → AnswersValue P value form ended text → AnswersValue Q value form ended text
+answers-weaker P Q value form ended text to (inl x) = inl x
+answers-weaker P Q value form ended text to (inr x) = inr (record { batch = x.batch; plan_graph = x.plan_graph; is_batch = x.is_batch; holds = (x.holds.0, to x.batch x.holds.1) })
+
+module _ (second : List ℕ) (value : Data) (is : IsDocument second value) (form : Form) (ended : Ended) (text : List ℕ) (batch : List Record) where
+  -- by a second document in memory as by its value
+  in-memory : (task : Task) → OfTask task (InHand value) batch form ended text → OfTask task (InMemory second) batch form ended text
+  in-memory tasks.Check so = so
+  in-memory tasks.Plan so = so
+  in-memory tasks.Draw so = so
+  in-memory tasks.Canon so = so
+  in-memory (tasks.Match mode strict) so = of-value places.Responses (MatchesValue mode strict batch) second value is form ended text so
+  in-memory (tasks.Replay policy order traced) so = of-value places.Outcomes (ReplaysValue (AllowsOrder order) policy traced batch) second value is form ended text so
+  in-memory (tasks.Run policy) so = of-value places.Events (RunsValue policy batch) second value is form ended text so
+
+  in-hand : (task : Task) → OfTask task (InMemory second) batch form ended text → OfTask task (InHand value) batch form ended text
+  in-hand tasks.Check so = so
+  in-hand tasks.Plan so = so
+  in-hand tasks.Draw so = so
+  in-hand tasks.Canon so = so
+  in-hand (tasks.Match mode strict) so = value-of places.Responses (MatchesValue mode strict batch) second value is form ended text so
+  in-hand (tasks.Replay policy order traced) so = value-of places.Outcomes (ReplaysValue (AllowsOrder order) policy traced batch) second value is form ended text so
+  in-hand (tasks.Run policy) so = value-of places.Events (RunsValue policy batch) second value is form ended text so
+
+  -- and as by the document of a reader that has just this left
+  whole : IsDocumentOf second second
+  whole = whole-document second (λ _. Unit {0}) (record { value = value; document = is; holds = tt })
+
+  by-reader : (task : Task) → OfTask task (InMemory second) batch form ended text → OfTask task (ByReader (Some second)) batch form ended text
+  by-reader tasks.Check so = so
+  by-reader tasks.Plan so = so
+  by-reader tasks.Draw so = so
+  by-reader tasks.Canon so = so
+  by-reader (tasks.Match mode strict) so = (second, whole, so)
+  by-reader (tasks.Replay policy order traced) so = (second, whole, so)
+  by-reader (tasks.Run policy) so = (second, whole, so)
+
+  of-reader : (task : Task) → OfTask task (ByReader (Some second)) batch form ended text → OfTask task (InMemory second) batch form ended text
+  of-reader tasks.Check so = so
+  of-reader tasks.Plan so = so
+  of-reader tasks.Draw so = so
+  of-reader tasks.Canon so = so
+  of-reader (tasks.Match mode strict) (bytes, gives, so) = subst (λ b. OfDocument places.Responses (MatchesValue mode strict batch) b form ended text) (one_document second bytes second gives whole) so
+  of-reader (tasks.Replay policy order traced) (bytes, gives, so) =
+      subst (λ b. OfDocument places.Outcomes (ReplaysValue (AllowsOrder order) policy traced batch) b form ended text) (one_document second bytes second gives whole) so
+  of-reader (tasks.Run policy) (bytes, gives, so) = subst (λ b. OfDocument places.Events (RunsValue policy batch) b form ended text) (one_document second bytes second gives whole) so
+
+module _ (task : Task) (takes : takes_second task ≡ true) (batch second line : List ℕ) (is : IsLineOf batch second line) (form : Form) (ended : Ended) (text : List ℕ) where
+  abbrev OfPairs : List Record → Data → WritesIn
+  OfPairs requests value = OfTask task (InHand value) requests
+
+  abbrev pair : Data
+  pair = array (item is.batch_value (item is.second_value no_items))
+
+  pub pair-to : OfLine task line form ended text → Answers (OfTask task (InMemory second)) batch form ended text
+  pair-to so = at (value-of places.Batch (AnswersPair OfPairs) line pair is.line_is form ended text (subst (λ two. InLine two (OfTask task) line form ended text) takes so))
+    where
+      at : AnswersPair OfPairs pair form ended text → Answers (OfTask task (InMemory second)) batch form ended text
+      at (inl x) = absurd (x.is.none is.batch_value is.second_value refl)
+      at (inr y) =
+          let first = first-one is.batch_value is.second_value y.first y.second y.pair in
+          let other = second-one is.batch_value is.second_value y.first y.second y.pair in
+          let so = subst (λ v. AnswersValue (λ requests. OfPairs requests v) is.batch_value form ended text) (sym other) (subst (λ v. AnswersValue (λ requests. OfPairs requests y.second) v form ended text) (sym first) y.so) in
+          of-value places.Batch (AnswersValue (OfTask task (InMemory second))) batch is.batch_value is.batch_is form ended text
+          (answers-weaker (λ requests. OfPairs requests is.second_value) (OfTask task (InMemory second)) is.batch_value form ended text (λ requests. in-memory second is.second_value is.second_is form ended text requests task) so)
+
+  pub pair-from : Answers (OfTask task (InMemory second)) batch form ended text → OfLine task line form ended text
+  pair-from so =
+      let here = answers-weaker (OfTask task (InMemory second)) (λ requests. OfPairs requests is.second_value) is.batch_value form ended text (λ requests. in-hand second is.second_value is.second_is form ended text requests task)
+      (value-of places.Batch (AnswersValue (OfTask task (InMemory second))) batch is.batch_value is.batch_is form ended text so) in
+      subst (λ two. InLine two (OfTask task) line form ended text) (sym takes)
+      (of-value places.Batch (AnswersPair OfPairs) line pair is.line_is form ended text (inr (record { first = is.batch_value; second = is.second_value; pair = refl; so = here })))
+
+  pub readers-to : OfLine task line form ended text → Answers (OfTask task (ByReader (Some second))) batch form ended text
+  readers-to so = of-value places.Batch (AnswersValue (OfTask task (ByReader (Some second)))) batch is.batch_value is.batch_is form ended text
+      (answers-weaker (OfTask task (InMemory second)) (OfTask task (ByReader (Some second))) is.batch_value form ended text (λ requests. by-reader second is.second_value is.second_is form ended text requests task)
+      (value-of places.Batch (AnswersValue (OfTask task (InMemory second))) batch is.batch_value is.batch_is form ended text (pair-to so)))
+
+  pub readers-from : Answers (OfTask task (ByReader (Some second))) batch form ended text → OfLine task line form ended text
+  readers-from so = pair-from (of-value places.Batch (AnswersValue (OfTask task (InMemory second))) batch is.batch_value is.batch_is form ended text
+      (answers-weaker (OfTask task (ByReader (Some second))) (OfTask task (InMemory second)) is.batch_value form ended text (λ requests. of-reader second is.second_value is.second_is form ended text requests task)
+      (value-of places.Batch (AnswersValue (OfTask task (ByReader (Some second)))) batch is.batch_value is.batch_is form ended text so)))

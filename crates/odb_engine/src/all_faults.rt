@@ -1,0 +1,146 @@
+//! All faults of a batch document, as they are printed.
+
+ghost use Rattle.std.specs.Prelude.{◌≡◌, ◌∷◌, [], IfOk, map, string_bytes};
+ghost use Rattle.std.specs.List.{filter_map};
+ghost use Rattle.serde_json.specs.View.{view};
+ghost use Rattle.odb_doc.specs.Refusals.{printed};
+ghost use Rattle.odb_engine.specs.AllFaults.{AreFaultsIn, AreFaultsOf, ChecksAll, PrintsFaults, faults_text};
+
+use crate::answer::Answer;
+use crate::command::text_of;
+use crate::disposal::DropOrLeak;
+use crate::ending::Ended;
+use crate::form::Form;
+use crate::halt::Halt;
+use crate::input::value_in;
+use crate::setup::Setup;
+use crate::task::Task;
+use odb_check::name_faults;
+use odb_doc::{Batch, Fault, Place, Refusal, shape_faults};
+use odb_text::{fault_lines, faults_json};
+use serde_json::Value;
+use std::alloc::{AllocError, Global};
+
+/// Returns what is printed of faults.
+fn refusals_of<F: Fault>(alloc: Global, faults: &[F]) -> Result<Vec<Refusal>, AllocError>
+    ensures { IfOk result (λ found. map printed found.items ≡ filter_map F.Fault.row faults.now) }
+{
+    let mut found = Vec::with_capacity(alloc, faults.len())?;
+    for fault in faults {
+        if let Some(refusal) = fault.refusal() {
+            found.push(refusal)?;
+        }
+    }
+    Ok(found)
+}
+
+/// Returns the faults of the names of the batch in a value that has no fault of shape.
+fn faults_of_names(alloc: Global, value: &Value, setup: Setup) -> Result<Vec<Refusal>, AllocError>
+    ensures { IfOk result (λ found. AreFaultsOf (view value.now) (map printed found.items)) }
+{
+    let Ok(batch) = Batch::read(alloc, value) else {
+        return Err(AllocError);
+    };
+    let batch = DropOrLeak {
+        value: batch,
+        disposal: setup.disposal,
+    };
+    let faults = name_faults(alloc, setup.seed, &batch.value)?;
+    refusals_of(alloc, &faults)
+}
+
+/// Returns the faults of the value of a batch document.
+fn faults_of(alloc: Global, value: &Value, setup: Setup) -> Result<Vec<Refusal>, AllocError>
+    ensures { IfOk result (λ found. AreFaultsOf (view value.now) (map printed found.items)) }
+{
+    let faults = shape_faults(alloc, value)?;
+    if !faults.is_empty() {
+        return refusals_of(alloc, &faults);
+    }
+    faults_of_names(alloc, value, setup)
+}
+
+/// Returns a list of one fault.
+fn only(alloc: Global, refusal: Refusal) -> Result<Vec<Refusal>, AllocError>
+    ensures { IfOk result (λ found. found.items ≡ refusal ∷ []) }
+{
+    let mut found = Vec::with_capacity(alloc, 1)?;
+    found.push(refusal)?;
+    Ok(found)
+}
+
+/// Returns all faults of a batch document in memory: those of the first phase that has any, which are the
+/// document as a whole, its requests, ids and groups, and dependencies and references (OData JSON Format 4.01,
+/// section 19.1).
+///
+/// They come in the order of position and number, each once. There are none if and only if the check accepts
+/// the document; else the first of them is what the check reports.
+///
+/// Takes O(n log n) time and O(n) memory for a document of n bytes, and memory for the list.
+///
+/// # Errors
+///
+/// `AllocError` if an allocation fails.
+pub fn faults_in(alloc: Global, document: &[u8], setup: Setup) -> Result<Vec<Refusal>, AllocError>
+    ensures { IfOk result (λ found. AreFaultsIn document.now (map printed found.items)) }
+{
+    let value = match value_in(alloc, document, Place::Batch) {
+        Ok(value) => value,
+        Err(Halt::Refused(refusal)) => return only(alloc, refusal),
+        Err(_) => return Err(AllocError),
+    };
+    let value = DropOrLeak {
+        value,
+        disposal: setup.disposal,
+    };
+    faults_of(alloc, &value.value, setup)
+}
+
+/// Returns faults in a form.
+fn faults_text(alloc: Global, form: Form, refusals: &[Refusal]) -> Result<String, AllocError>
+    ensures { IfOk result (λ text. string_bytes text ≡ faults_text form (map printed refusals.now)) }
+{
+    match form {
+        Form::Lines => fault_lines(alloc, refusals),
+        Form::Json => faults_json(alloc, refusals),
+    }
+}
+
+/// Returns all faults of a batch document in memory, in the form of the setup.
+fn faults_answer(alloc: Global, document: &[u8], setup: Setup) -> Result<Answer, AllocError>
+    ensures { IfOk result (λ answer. PrintsFaults document.now setup.form answer.ended answer.text.items) }
+{
+    let faults = faults_in(alloc, document, setup)?;
+    let text = faults_text(alloc, setup.form, &faults)?;
+    Ok(Answer {
+        ended: Ended::Refused,
+        text: text.into_bytes(),
+    })
+}
+
+/// Checks a batch document in memory: returns what [`Task::Check`] writes if it is accepted, and else all its
+/// faults, as [`faults_in`] lists them, in the form of the setup.
+///
+/// An accepted document costs no more than the task does. One with a fault is read twice.
+///
+/// # Errors
+///
+/// `AllocError` if an allocation fails.
+pub fn check_all_in_memory(
+    alloc: Global,
+    document: &[u8],
+    setup: Setup,
+) -> Result<Answer, AllocError>
+    ensures { IfOk result (λ answer. ChecksAll document.now setup.form answer.ended answer.text.items) }
+{
+    let (mut first, mut none): (_, &[u8]) = (document, &[]);
+    let mut task = Task::Check;
+    match text_of(alloc, &mut first, &mut none, &mut task, setup) {
+        Ok(text) => Ok(Answer {
+            ended: Ended::Done,
+            text: text.into_bytes(),
+        }),
+        Err(Halt::Refused(_)) => faults_answer(alloc, document, setup),
+        Err(_) => Err(AllocError),
+    }
+}
