@@ -1,3 +1,4 @@
 mod LawLemmas
 mod MemoryLemmas
 mod LiveRunLemmas
+mod ReplayedLemmas

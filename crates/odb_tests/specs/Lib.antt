@@ -1,3 +1,5 @@
 pub mod Readings
 pub mod Lengths
 pub mod LiveRuns
+pub mod Replayed
+pub mod Texts

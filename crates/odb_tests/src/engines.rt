@@ -7,7 +7,6 @@ ghost use Rattle.odb_engine.specs.Contents.Given.{ByReader};
 ghost use Rattle.odb_engine.specs.Engines.{WritesText};
 ghost use Rattle.odb_engine.specs.Inputs.{IsFresh, SomeDocument};
 ghost use Rattle.odb_engine.specs.declared.form.Form.TheVariants.{Lines};
-ghost use Rattle.odb_engine.specs.declared.task.Task.TheVariants as tasks;
 ghost use Rattle.odb_engine.specs.Tasks.{OfTask};
 
 pub mod devices;
@@ -15,6 +14,7 @@ mod disposal;
 mod embedding;
 mod failures;
 mod full_plans;
+mod rests;
 
 use odb_check::Seed;
 use odb_engine::{
@@ -47,7 +47,7 @@ pub const FREE: Policy = Policy {
     width: 10_000,
 };
 
-pub const EXAMPLES: [Example; 8] = [
+pub const EXAMPLES: [Example; 9] = [
     (Task::Check, "", "ok 2 requests 0 groups\n"),
     (
         Task::Plan,
@@ -87,13 +87,25 @@ pub const EXAMPLES: [Example; 8] = [
     (
         Task::Match {
             mode: Mode::Continue,
+            strict: false,
         },
         r#"{"responses":[{"id":"2","status":204},{"id":"1","status":200,"body":["€"]}]}"#,
         "ok 2 responses\n1 200\n2 204\n",
     ),
     (
-        Task::Match { mode: Mode::Stop },
+        Task::Match {
+            mode: Mode::Stop,
+            strict: false,
+        },
         r#"{"responses":[{"id":"1","status":404}]}"#,
+        "ok 2 responses\n1 404\n2 424\n",
+    ),
+    (
+        Task::Match {
+            mode: Mode::Continue,
+            strict: true,
+        },
+        r#"{"responses":[{"id":"1","status":404},{"id":"2","status":424}]}"#,
         "ok 2 responses\n1 404\n2 424\n",
     ),
     (
@@ -104,30 +116,8 @@ pub const EXAMPLES: [Example; 8] = [
     ),
 ];
 
-/// Matches responses without a setup, by the function that is named after it where the service continues.
-fn matched_plainly<R: Read, S: Read, W: Write>(
-    alloc: Global,
-    mode: Mode,
-    batch: &mut Input<R>,
-    second: &mut Input<S>,
-    output: &mut Output<W>,
-) -> Result<Ended, EngineFault>
-    requires batch { IsFresh batch.old }
-    requires second { IsFresh second.old }
-    requires output { output.old.failed ≡ false }
-    ensures { IfOk result (λ ended. SomeDocument (R.remaining batch.old.reader) (λ bytes.
-        WritesText (W.contents output.old.writer) (W.contents output.new.writer)
-        (Answers (OfTask (tasks.Match mode) Lines (ByReader (S.remaining second.old.reader))) bytes ended))) }
-{
-    let task = Task::Match { mode };
-    match mode {
-        Mode::Continue => match_batch(alloc, batch, second, output),
-        Mode::Stop => answer_task(alloc, batch, second, output, task, Setup::plain()),
-    }
-}
-
-/// Does a task without a setup, by the function that is named after it where that takes no chooser; the second input is
-/// read by some.
+/// Does a task without a setup, by the function that is named after it where that takes every option of the task; the
+/// second input is read by some.
 pub fn called_plainly<R: Read, S: Read, W: Write>(
     alloc: Global,
     task: Task,
@@ -140,16 +130,14 @@ pub fn called_plainly<R: Read, S: Read, W: Write>(
     requires output { output.old.failed ≡ false }
     ensures { IfOk result (λ ended. SomeDocument (R.remaining batch.old.reader) (λ bytes.
         WritesText (W.contents output.old.writer) (W.contents output.new.writer)
-        (Answers (OfTask task Lines (ByReader (S.remaining second.old.reader))) bytes ended))) }
+        (Answers (OfTask task (ByReader (S.remaining second.old.reader))) bytes Lines ended))) }
 {
     match task {
         Task::Check => check_batch(alloc, batch, output),
         Task::Plan => plan_batch(alloc, batch, output),
-        Task::Draw => answer_task(alloc, batch, second, output, task, Setup::plain()),
         Task::Canon => canon_batch(alloc, batch, output),
-        Task::Match { mode } => matched_plainly(alloc, mode, batch, second, output),
         Task::Run { policy } => run_batch(alloc, batch, second, output, policy),
-        Task::Replay { .. } => answer_task(alloc, batch, second, output, task, Setup::plain()),
+        _ => answer_task(alloc, batch, second, output, task, Setup::plain()),
     }
 }
 
@@ -173,6 +161,10 @@ fn called<R: Read, S: Read, W: Write>(
                 mut order,
                 traced,
             } => replay_batch(alloc, batch, second, output, policy, &mut order, traced),
+            Task::Match {
+                mode: Mode::Continue,
+                strict: false,
+            } => match_batch(alloc, batch, second, output),
             _ => called_plainly(alloc, task, batch, second, output),
         };
     }

@@ -6,8 +6,12 @@ mod driven;
 pub mod engines;
 mod live;
 mod orders;
+mod pairs;
+mod replays;
 mod replies;
+mod rests;
 mod runs;
+mod texts;
 
 /// What two calls found, or `None` of one that ran out of memory.
 pub type Two<X> = (Option<X>, Option<X>);

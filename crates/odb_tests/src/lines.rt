@@ -3,9 +3,7 @@
 ghost use Rattle.std.specs.Prelude.{◌≡◌, IfSome};
 ghost use Rattle.odb_engine.specs.lines.Answers.{AnswersEach, OfAnyLine};
 ghost use Rattle.odb_engine.specs.lines.Lines.{lines_of};
-ghost use Rattle.odb_engine.specs.declared.form.Form.TheVariants.{Lines};
 ghost use Rattle.odb_engine.specs.declared.lines.work.Work.TheVariants as works;
-ghost use Rattle.odb_engine.specs.Tasks.{OfLine};
 ghost use Rattle.odb_tests.specs.Readings.{AreOne};
 
 use crate::engines::devices::{ENOUGH, Narrow, Pace, Slow, TURNS};
@@ -13,9 +11,11 @@ use crate::laws::Two;
 use crate::laws::engines::Written;
 use odb_engine::lines::laws::one_text;
 use odb_engine::{
-    EachLine, Ended, EngineFault, LineCommand, LineInput, Setup, Task, Work, answer_lines, laws,
+    EachLine, Ended, EngineFault, Form, LineCommand, LineInput, Setup, Task, Work, answer_lines,
+    laws,
 };
 use odb_io::Output;
+use odb_sched::Mode;
 use std::alloc::{AllocError, Global};
 use std::cell::Cell;
 use std::io::{self, Read, Write, repeat};
@@ -102,47 +102,66 @@ const LOG: &str = r#"{"requests":[{"id":"1","method":"get","url":"A"}]}
 {"requests":[{"method":"get","url":"A"}]}
 "#;
 
-/// Returns the task on each line, whose answers are lines of words.
-fn on_each_line(task: Task) -> EachLine
+/// Returns the task on each line, whose answers have this form.
+fn on_each_line(task: Task, form: Form) -> EachLine
     ensures work { result.work ≡ works.Task task }
-    ensures form { result.setup.form ≡ Lines }
+    ensures form { result.setup.form ≡ form }
 {
     EachLine {
         work: Work::Task(task),
-        setup: Setup::plain(),
+        setup: Setup {
+            form,
+            ..Setup::plain()
+        },
     }
 }
 
-fn written(alloc: Global, log: &[u8], task: Task) -> Option<Written>
-    ensures { IfSome result (λ it.
-        AnswersEach (OfAnyLine (OfLine task Lines)) (lines_of log.now) it.0 it.1.items) }
+fn written<C: LineCommand>(alloc: Global, log: &[u8], command: &C) -> Option<Written>
+    ensures { IfSome result (λ it. AnswersEach (OfAnyLine (C.writes command.now)) (lines_of log.now)
+        it.0 it.1.items) }
 {
     let mut input = LineInput::new(alloc, log).ok()?;
     let mut output = Output::new(Vec::new(alloc));
-    match answer_lines(alloc, &mut input, &mut output, &on_each_line(task), false) {
+    match answer_lines(alloc, &mut input, &mut output, command, false) {
         Ok(ended) => Some((ended, output.into_inner())),
         Err(_) => None,
     }
 }
 
-fn written_twice(alloc: Global, log: &[u8], task: Task) -> Two<Written>
+fn written_twice(alloc: Global, log: &[u8], task: Task, form: Form) -> Two<Written>
     ensures { AreOne result.0 result.1 }
 {
+    let command = on_each_line(task, form);
     laws::one_text();
-    one_text(&on_each_line(task));
-    (written(alloc, log, task), written(alloc, log, task))
+    one_text(&command);
+    (written(alloc, log, &command), written(alloc, log, &command))
 }
 
-fn is_written_again(alloc: Global, log: &[u8], task: Task) -> bool {
-    match &written_twice(alloc, log, task) {
+fn is_written_again(alloc: Global, log: &[u8], task: Task, form: Form) -> bool {
+    match &written_twice(alloc, log, task, form) {
         (Some(one), Some(other)) => one == other,
         _ => false,
     }
 }
 
+/// The tasks of which a log is written in each form.
+const TASKS: [Task; 3] = [
+    Task::Check,
+    Task::Plan,
+    Task::Match {
+        mode: Mode::Continue,
+        strict: false,
+    },
+];
+
 #[test]
 fn the_same_text_is_written_again(rt: HostRuntime) {
-    assert!(rt; is_written_again(rt.alloc(), LOG.as_bytes(), Task::Check));
+    for task in &TASKS {
+        assert!(rt;
+            is_written_again(rt.alloc(), LOG.as_bytes(), *task, Form::Lines)
+                && is_written_again(rt.alloc(), LOG.as_bytes(), *task, Form::Json)
+        );
+    }
 }
 
 /// How many bytes are read of `ab`, an empty line, `c` and `de`, and what is written of them.

@@ -1,18 +1,22 @@
 //! Checks of batches: two checks of one batch find the same, and what holds of every plan.
 
-ghost use Rattle.std.specs.Prelude.{◌≡◌, IfSome, IsTrue, IsSome};
+ghost use Rattle.std.specs.Prelude.{◌≡◌, List, IfSome, IsTrue, IsSome};
+ghost use Rattle.serde_json.specs.View.{view};
 ghost use Rattle.odb_doc.specs.batch.Batches.{records};
+ghost use Rattle.odb_doc.specs.batch.Records.{IsBatchOf, Record};
 ghost use Rattle.odb_check.specs.FaultTable.{check_row};
 ghost use Rattle.odb_check.specs.Laws.{HasPositions, HasUnits, NeedsGroups};
 ghost use Rattle.odb_check.specs.LeastNameFault.{HasGoodNames, RefusesNames};
 ghost use Rattle.odb_check.specs.Levels.{HasLevels};
-ghost use Rattle.odb_check.specs.Plans.{plan_records};
+ghost use Rattle.odb_check.specs.PlanGraph.{HasNamesAsNeeds, IsPlan};
+ghost use Rattle.odb_check.specs.Plans.{batch_plan_graph, plan_records};
 ghost use Rattle.odb_tests.specs.Readings.{IsReading, IsSame};
 
 use crate::laws::Two;
-use odb_check::laws::{every_plan, one_fault};
+use odb_check::laws::{every_batch, every_plan, one_fault};
 use odb_check::{CheckFault, Plan, check};
 use odb_doc::{Batch, Fault, parse};
+use serde_json::Value;
 use std::alloc::Global;
 use std::test::Fail;
 
@@ -51,6 +55,18 @@ fn is_planned(alloc: Global, batch: &Batch<'_>) -> bool
         }
         Err(_) => false,
     }
+}
+
+/// Returns whether the check accepts the batch in a value. If it does, its requests have units and needs as each plan has.
+fn is_accepted(alloc: Global, value: &Value) -> bool
+    ensures { IsTrue result → (requests : List Record) × IsBatchOf (view value.now) requests
+        × IsPlan (batch_plan_graph requests) × HasNamesAsNeeds requests (batch_plan_graph requests) }
+{
+    every_batch();
+    let Ok(batch) = Batch::read(alloc, value) else {
+        return false;
+    };
+    check(alloc, &batch).is_ok()
 }
 
 /// Returns what a check found, without the plan. To run out of memory is a fault.
@@ -102,7 +118,8 @@ const DOCUMENTS: &[(&str, &str)] = &[
 fn is_found(alloc: Global, document: &str, code: &str) -> Result<bool, Fail> {
     let value = parse(alloc, document.as_bytes())?;
     let batch = Batch::read(alloc, &value)?;
-    Ok(is_one(alloc, &batch, code))
+    let accepted = is_accepted(alloc, &value);
+    Ok(is_one(alloc, &batch, code) && accepted == code.is_empty())
 }
 
 #[test]

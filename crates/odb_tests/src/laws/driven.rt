@@ -9,6 +9,7 @@ ghost use Rattle.odb_tests.specs.LiveRuns.{IsKept, IsLiveState};
 
 use crate::runs::{OnPlan, PASSED_ON, holds_of, outcome, policy};
 use odb_check::Plan;
+use odb_check::laws::every_plan;
 use odb_doc::Outcome;
 use odb_sched::Mode::{self, Continue, Stop};
 use odb_sched::laws::every_live_run;
@@ -36,7 +37,7 @@ fn starts(plan: &Plan<'_>, run: &mut OwnedRun, i: u32) -> bool
     ensures { (policy : policies.Policy) → IsLiveState (plan_records plan.now) policy run.old
         → IsLiveState (plan_records plan.now) policy run.new }
 {
-    every_live_run(plan);
+    every_live_run();
     run.start(i).is_ok()
 }
 
@@ -46,7 +47,7 @@ fn sends(plan: &Plan<'_>, run: &mut OwnedRun, u: u32) -> bool
     ensures { (policy : policies.Policy) → IsLiveState (plan_records plan.now) policy run.old
         → IsLiveState (plan_records plan.now) policy run.new }
 {
-    every_live_run(plan);
+    every_live_run();
     run.start_unit(u).is_ok()
 }
 
@@ -56,7 +57,7 @@ fn reports(plan: &Plan<'_>, run: &mut OwnedRun, i: u32, outcome: Outcome) -> boo
     ensures { (policy : policies.Policy) → IsLiveState (plan_records plan.now) policy run.old
         → IsLiveState (plan_records plan.now) policy run.new }
 {
-    every_live_run(plan);
+    every_live_run();
     run.report(i, outcome).is_ok()
 }
 
@@ -65,7 +66,7 @@ fn stops(plan: &Plan<'_>, run: &mut OwnedRun) -> bool
     ensures { (policy : policies.Policy) → IsLiveState (plan_records plan.now) policy run.old
         → IsLiveState (plan_records plan.now) policy run.new }
 {
-    every_live_run(plan);
+    every_live_run();
     run.stop();
     true
 }
@@ -113,7 +114,8 @@ fn driven(
 ) -> Option<(OwnedRun, u32)>
     ensures { IfSome result (λ both. IsKept (plan_records plan.now) policy both.0) }
 {
-    every_live_run(plan);
+    every_plan(plan);
+    every_live_run();
     let Ok(mut run) = OwnedRun::new(alloc, plan, policy) else {
         return None;
     };

@@ -15,7 +15,7 @@ ghost use Rattle.odb_tests.specs.Readings.{AreOne};
 use crate::engines::{EVENTS, EXAMPLES, Example, FREE, OUTCOMES, PAIR, called_plainly};
 use crate::laws::Two;
 use odb_engine::laws::{one_document, one_text, read_again};
-use odb_engine::{Ended, Setup, Task, Work, answer_in_memory, answer_line};
+use odb_engine::{Ended, Form, Setup, Task, Work, answer_in_memory, answer_line};
 use odb_io::{Input, Output};
 use odb_sched::{Mode, Order, Policy};
 use std::alloc::{AllocError, Global};
@@ -26,7 +26,7 @@ pub type Written = (Ended, Vec<u8>);
 /// Does a task on the documents of two readers.
 pub fn written(alloc: Global, batch: &[u8], second: &[u8], task: Task) -> Option<Written>
     ensures { IfSome result (λ it. SomeDocument (Some batch.now) (λ bytes.
-        Answers (OfTask task Lines (ByReader (Some second.now))) bytes it.0 it.1.items)) }
+        Answers (OfTask task (ByReader (Some second.now))) bytes Lines it.0 it.1.items)) }
 {
     let mut output = Output::new(Vec::new(alloc));
     match called_plainly(
@@ -52,44 +52,66 @@ fn written_twice(alloc: Global, batch: &[u8], second: &[u8], task: Task) -> Two<
     )
 }
 
+/// Returns the setup of this form.
+fn in_form(form: Form) -> Setup
+    ensures { result.form ≡ form }
+{
+    Setup {
+        form,
+        ..Setup::plain()
+    }
+}
+
 /// Does a task on the documents in memory.
-fn answered(alloc: Global, batch: &[u8], second: &[u8], task: Task) -> Option<Written>
-    ensures { IfSome result (λ it. Answers (OfTask task Lines (InMemory second.now)) batch.now
+pub fn answered(
+    alloc: Global,
+    batch: &[u8],
+    second: &[u8],
+    task: Task,
+    form: Form,
+) -> Option<Written>
+    ensures { IfSome result (λ it. Answers (OfTask task (InMemory second.now)) batch.now form
         it.0 it.1.items) }
 {
-    match answer_in_memory(alloc, batch, second, task, Setup::plain()) {
+    match answer_in_memory(alloc, batch, second, task, in_form(form)) {
         Ok(answer) => Some((answer.ended, answer.text)),
         Err(_) => None,
     }
 }
 
-fn answered_twice(alloc: Global, batch: &[u8], second: &[u8], task: Task) -> Two<Written>
+fn answered_twice(
+    alloc: Global,
+    batch: &[u8],
+    second: &[u8],
+    task: Task,
+    form: Form,
+) -> Two<Written>
     ensures { AreOne result.0 result.1 }
 {
     one_text();
     (
-        answered(alloc, batch, second, task),
-        answered(alloc, batch, second, task),
+        answered(alloc, batch, second, task, form),
+        answered(alloc, batch, second, task, form),
     )
 }
 
 /// Does a task on a line.
-fn line_answered(alloc: Global, line: &[u8], task: Task) -> Option<Written>
-    ensures { IfSome result (λ it. OfLine task Lines line.now it.0 it.1.items) }
+pub fn line_answered(alloc: Global, line: &[u8], task: Task, form: Form) -> Option<Written>
+    ensures { IfSome result (λ it. OfLine task line.now form it.0 it.1.items) }
 {
-    match answer_line(alloc, line, Work::Task(task), Setup::plain()) {
+    match answer_line(alloc, line, Work::Task(task), in_form(form)) {
         Ok(answer) => Some((answer.ended, answer.text)),
         Err(_) => None,
     }
 }
 
-fn line_answered_twice(alloc: Global, line: &[u8], task: Task) -> Two<Written>
+fn line_answered_twice(alloc: Global, line: &[u8], task: Task, form: Form) -> Two<Written>
     ensures { AreOne result.0 result.1 }
 {
     one_text();
     (
-        line_answered(alloc, line, task),
-        line_answered(alloc, line, task),
+        line_answered(alloc, line, task, form),
+        line_answered(alloc, line, task, form),
     )
 }
 
@@ -143,7 +165,10 @@ fn line_of(alloc: Global, task: Task, second: &str) -> Result<String, AllocError
 /// Whether two calls on a line are done, and wrote this text.
 fn is_one_of_line(alloc: Global, task: Task, second: &str, text: &str) -> bool {
     match line_of(alloc, task, second) {
-        Ok(line) => are(&line_answered_twice(alloc, line.as_bytes(), task), text),
+        Ok(line) => are(
+            &line_answered_twice(alloc, line.as_bytes(), task, Form::Lines),
+            text,
+        ),
         Err(_) => false,
     }
 }
@@ -152,8 +177,21 @@ fn is_one_of_line(alloc: Global, task: Task, second: &str, text: &str) -> bool {
 fn is_one(alloc: Global, (task, second, text): Example) -> bool {
     let (batch, bytes) = (PAIR.as_bytes(), second.as_bytes());
     are(&written_twice(alloc, batch, bytes, task), text)
-        && are(&answered_twice(alloc, batch, bytes, task), text)
+        && are(
+            &answered_twice(alloc, batch, bytes, task, Form::Lines),
+            text,
+        )
         && is_one_of_line(alloc, task, second, text)
+}
+
+/// Whether both calls refused a document, and wrote this line.
+fn are_refused(both: &Two<Written>, line: &str) -> bool {
+    match both {
+        (Some((Ended::Refused, one)), Some((Ended::Refused, other))) => {
+            one == other && one.as_slice() == line.as_bytes()
+        }
+        _ => false,
+    }
 }
 
 #[test]
@@ -163,12 +201,35 @@ fn tasks_write_one_text_of_the_same_bytes(rt: HostRuntime) {
     }
 }
 
+/// The documents that are refused by this line of JSON, as documents in memory.
+const REFUSED: [(&str, &str); 2] = [
+    (
+        "{",
+        "{\"fault\":{\"code\":\"F02\",\"name\":\"NotJson\",\"place\":\"batch\"}}\n",
+    ),
+    (
+        "{\"requests\":[{}]}",
+        "{\"fault\":{\"code\":\"F13\",\"name\":\"BadId\",\"place\":\"/requests/0\"}}\n",
+    ),
+];
+
+#[test]
+fn tasks_write_one_line_of_json_of_a_fault(rt: HostRuntime) {
+    for (batch, line) in &REFUSED {
+        let twice = answered_twice(rt.alloc(), batch.as_bytes(), &[], Task::Check, Form::Json);
+        assert!(rt; are_refused(&twice, line));
+        let twice = line_answered_twice(rt.alloc(), batch.as_bytes(), Task::Plan, Form::Json);
+        assert!(rt; are_refused(&twice, line));
+    }
+}
+
 /// Whether a run or a replay wrote a response, which a match finds to fit the batch.
 fn fits(alloc: Global, response: Option<Written>) -> bool {
     match &response {
         Some((Ended::Done, text)) => {
             let task = Task::Match {
                 mode: Mode::Continue,
+                strict: false,
             };
             let found = written(alloc, PAIR.as_bytes(), text, task);
             found.is_some_and(|it| it.0 == Ended::Done)

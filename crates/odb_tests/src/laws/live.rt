@@ -7,6 +7,7 @@ ghost use Rattle.odb_check.specs.Positions.{id_at};
 ghost use Rattle.odb_doc.specs.recorded.EventLists.{entries};
 ghost use Rattle.odb_doc.specs.recorded.Events as named;
 ghost use Rattle.odb_engine.specs.declared.ending.Ended.TheVariants.{Done};
+ghost use Rattle.odb_engine.specs.declared.form.Form.TheVariants.{Lines};
 ghost use Rattle.odb_engine.specs.Cascade.{Accepts};
 ghost use Rattle.odb_engine.specs.Live.{Live, Opens, RecordsOneMore, Shows};
 ghost use Rattle.odb_engine.specs.Runs.{AreEventsIn};
@@ -25,7 +26,7 @@ use std::alloc::Global;
 /// Opens a live run after recorded events, and returns its response.
 fn live(alloc: Global, batch: &[u8], events: &[u8], policy: Policy) -> Option<String>
     ensures { IfSome result (λ text. (live : Live) × Opens policy batch.now events.now live
-        × Shows live Done (string_bytes text)) }
+        × Shows live Lines Done (string_bytes text)) }
 {
     let Ok(live) = open_run(alloc, batch, events, policy, Seed::none()) else {
         return None;

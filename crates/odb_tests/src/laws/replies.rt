@@ -1,6 +1,6 @@
 //! Responses: what two readings of them find, and what a finished run answers.
 
-ghost use Rattle.std.specs.Prelude.{◌≡◌, ℕ, List, true, length, IfSome, IsSome};
+ghost use Rattle.std.specs.Prelude.{◌≡◌, ℕ, List, true, length, IfSome, IsSome, OnOk};
 ghost use Rattle.std.specs.List.{AllZip};
 ghost use Rattle.serde_json.specs.View.{view};
 ghost use Rattle.odb_check.specs.Plans.{plan_records};
@@ -11,16 +11,22 @@ ghost use Rattle.odb_reply.specs.OnePerId.{HasOnePerId};
 ghost use Rattle.odb_reply.specs.ResponseDocuments.{IsResponseDocument, RefusesResponses, ReadsAs, entries, responses_in};
 ghost use Rattle.odb_reply.specs.ResponseDocuments as response_documents;
 ghost use Rattle.odb_reply.specs.Responses.{response_value, value_of};
+ghost use Rattle.odb_reply.specs.StatusFaults.{status_at, status_row};
 ghost use Rattle.odb_sched.specs.run.Answers.{answer};
+ghost use Rattle.odb_sched.specs.run.Possible.{HasRun};
 ghost use Rattle.odb_sched.specs.run.State.{size};
 ghost use Rattle.odb_sched.specs.run.Steps.{is_finished};
 ghost use Rattle.odb_tests.specs.Readings.{IsReading, IsSame};
 
 use crate::laws::Two;
 use odb_check::Plan;
-use odb_reply::laws::{every_labeled, every_response, one_document, one_match};
-use odb_reply::{Labels, MatchFault, ResponseFault, Responses, Table, match_responses};
-use odb_sched::{Done, OwnedRun};
+use odb_reply::laws::{every_labeled, every_response, one_document, one_match, one_status};
+use odb_reply::{
+    Labels, MatchFault, ResponseFault, Responses, StatusFault, Table, check_statuses,
+    match_responses,
+};
+use odb_sched::laws::every_possible;
+use odb_sched::{Done, Mode, OwnedRun};
 use serde_json::Value;
 use std::alloc::Global;
 
@@ -79,6 +85,43 @@ fn matched_twice(
         matched(alloc, plan, responses),
         matched(alloc, plan, responses),
     )
+}
+
+/// Checks the statuses of a table, unless memory runs out. Some finished run in this mode answers those that pass.
+fn answered_by_run(
+    alloc: Global,
+    plan: &Plan<'_>,
+    table: &Table,
+    mode: Mode,
+) -> Option<Result<(), StatusFault>>
+    requires { length (statuses table.now) ≡ length (plan_records plan.now) }
+    ensures { IfSome result (λ found. OnOk found (HasRun plan.now mode (status_at (statuses table.now)))) }
+{
+    every_possible(plan);
+    match check_statuses(alloc, plan, table) {
+        Err(StatusFault::OutOfMemory) => None,
+        found => Some(found),
+    }
+}
+
+/// Checks the statuses of a table twice, and returns both faults.
+fn refused_twice(
+    alloc: Global,
+    plan: &Plan<'_>,
+    table: &Table,
+) -> Option<(StatusFault, StatusFault)>
+    requires { length (statuses table.now) ≡ length (plan_records plan.now) }
+    ensures { IfSome result (λ both. IsSome (status_row both.0) → IsSome (status_row both.1)
+        → both.0 ≡ both.1) }
+{
+    one_status();
+    let Err(fault) = check_statuses(alloc, plan, table) else {
+        return None;
+    };
+    let Err(other) = check_statuses(alloc, plan, table) else {
+        return None;
+    };
+    Some((fault, other))
 }
 
 /// Returns how many requests a finished run has. What it answers is a response document that fits the

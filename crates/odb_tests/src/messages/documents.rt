@@ -5,7 +5,7 @@ use odb_check::{CheckFault, NameRule};
 use odb_doc::{
     DocFault, DocumentRule, EventFault, EventRule, OutcomeFault, OutcomeRule, RequestRule,
 };
-use odb_reply::{MatchFault, MatchRule, ResponseFault};
+use odb_reply::{MatchFault, MatchRule, ResponseFault, StatusFault, StatusRule};
 use odb_sched::ResolveFault;
 use std::alloc::Global;
 use std::test::Fail;
@@ -253,6 +253,34 @@ const MATCHES: &[(MatchRule, &str)] = &[
     ),
 ];
 
+/// F76 to F78.
+const STATUSES: &[(StatusRule, &str)] = &[
+    (
+        StatusRule::NotFinal,
+        "the status of the response is not from 200 to 599",
+    ),
+    (
+        StatusRule::PartialGroup,
+        "the response is a success, though another request of its group has none",
+    ),
+    (
+        StatusRule::NotStarted,
+        "the response is not 424, though the request cannot have started",
+    ),
+];
+
+/// A rule of statuses at its position.
+const IMPOSSIBLE: &[(StatusFault, &str)] = &[
+    (
+        StatusFault::Impossible {
+            at: 18,
+            rule: StatusRule::NotFinal,
+        },
+        "request 18: the status of the response is not from 200 to 599",
+    ),
+    (StatusFault::OutOfMemory, "out of memory"),
+];
+
 /// A rule of responses at its position.
 const MISFITS: &[(MatchFault, &str)] = &[
     (
@@ -283,7 +311,9 @@ fn compare_records(alloc: Global) -> Result<(), Fail> {
     compare(alloc, RESOLVED)?;
     compare(alloc, RESPONSES)?;
     compare(alloc, MATCHES)?;
-    compare(alloc, MISFITS)
+    compare(alloc, MISFITS)?;
+    compare(alloc, STATUSES)?;
+    compare(alloc, IMPOSSIBLE)
 }
 
 #[test]

@@ -5,4 +5,4 @@ use Rattle.odb_tests.proofs.LiveRunLemmas.{by_result}
 use Rattle.odb_tests.proofs.laws.driven.reports.Goals as goal
 
 pub returns : goal.returns
-returns c = λ policy. by_result c.report.result (plan_records c.args.plan.now) policy c.args.run.now c.report.new.self (Single (Report c.args.i c.args.outcome)) c.every_live_run.ensures.goes_on c.requires c.report.ensures.allowed c.report.ensures.ok c.report.ensures.err
+returns c = λ policy. by_result c.report.result (plan_records c.args.plan.now) policy c.args.run.now c.report.new.self (Single (Report c.args.i c.args.outcome)) (c.every_live_run.ensures.goes_on (plan_records c.args.plan.now)) c.requires c.report.ensures.allowed c.report.ensures.ok c.report.ensures.err

@@ -10,7 +10,7 @@ use Rattle.odb_tests.proofs.laws.engines.written.Goals as goal
 pub returns-in-Ok : goal.returns-in-Ok
 returns-in-Ok c =
     let e = c.in-Ok.ensures in
-    let Is : Reading (Bor (List ℕ)) → List ℕ → Type 0 = λ r. Answers (OfTask c.args.task Lines (ByReader (Some r.reader.now))) e.0 c.in-Ok.ended in (
+    let Is : Reading (Bor (List ℕ)) → List ℕ → Type 0 = λ r. Answers (OfTask c.args.task (ByReader (Some r.reader.now))) e.0 Lines c.in-Ok.ended in (
       e.0,
       document-of c.args.batch c.new-2.result e.0 c.new-2.ensures e.1,
       subst (λ (r : Reading (Bor (List ℕ))). Is r c.into_inner.result.items) c.new-3.ensures
