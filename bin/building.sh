@@ -1,6 +1,6 @@
-# What bin/odb_batch, bin/odb_library and bin/odb_wasm do alike: each proves and builds a crate and all crates below it if
-# what they make is missing or older than its sources. Sourced by them, after they have set `root`, the top of the
-# repository; `tool`, their own name; `top`, the crate; and `made`, the file that is made.
+# What bin/odb_batch, bin/odb_library, bin/odb_program and bin/odb_wasm do alike: each proves and builds a crate and all
+# crates below it if what they make is missing or older than its sources. Sourced by them, after they have set `root`, the
+# top of the repository; `tool`, their own name; `top`, the crate; and `made`, the file that is made.
 
 say() { echo "$tool: $*" >&2; }
 
@@ -52,14 +52,15 @@ is_left_by_ci() {
     done
 }
 
-# Proves and compiles the crate, a static library, over what is proved of the crates below it and kept of itself, by a
-# toolchain: build_over_proofs TOOLCHAIN OUT [FLAG..]
+# Proves and compiles the crate, the program or a static library, over what is proved of the crates below it and kept of
+# itself, by a toolchain: build_over_proofs TOOLCHAIN OUT [FLAG..]
 build_over_proofs() {
-    local kit name toolchain=$1 out=$2 words
+    local kit name toolchain=$1 out=$2 words=(src/main.rt)
     shift 2
     kit=$(dirname "$(rt doc)")
-    words=(--crate-name "$top" --crate-type staticlib src/lib.rt --extern "std=$kit/rlibs/std.rlib" -L "dependency=$kit/rlibs")
-    for name in $(sed -n "s/^$top staticlib://p" "$root/crates.txt"); do
+    if [ ! -f "$root/crates/$top/src/main.rt" ]; then words=(--crate-type staticlib src/lib.rt); fi
+    words+=(--crate-name "$top" --extern "std=$kit/rlibs/std.rlib" -L "dependency=$kit/rlibs")
+    for name in $(sed -n "s/^$top\( staticlib\)\?://p" "$root/crates.txt"); do
         if [ -d "$root/crates/$name" ]; then
             words+=(--extern "$name=$root/crates/$name/out/rlib/$name.rlib")
         else
@@ -73,6 +74,81 @@ build_over_proofs() {
     mkdir -p "$root/crates/$top/out/incremental"
     (cd "$root/crates/$top" &&
         "$kit/bin/rattle" build "${words[@]}" --jobs 2 --incremental out/incremental --toolchain "$toolchain" -o "$out" "$@")
+}
+
+# Compiles the crate for aarch64 Linux, with the C library of Debian's cross compiler: compile_for_aarch64 OUT
+compile_for_aarch64() {
+    local toolchain status=0
+    toolchain=$(mktemp -d)
+    ln -s "$(dirname "$(rt doc)")/toolchain/bin" "$toolchain/bin"
+    ln -s /usr/aarch64-linux-gnu/lib "$toolchain/lib"
+    build_over_proofs "$toolchain" "$1" --target aarch64-unknown-linux-gnu || status=1
+    rm -r "$toolchain"
+    return $status
+}
+
+# Compiles the crate, for the least processor of x86-64, by a toolchain whose clang keeps the LLVM module: keep_module OUT
+keep_module() {
+    local kit toolchain status=0
+    kit=$(dirname "$(rt doc)")
+    toolchain=$(mktemp -d)
+    mkdir "$toolchain/bin"
+    ln -s "$kit/toolchain/lib" "$toolchain/lib"
+    ln -s "$kit"/toolchain/bin/{ld.lld,llvm-ar,rattle-x64} "$toolchain/bin/"
+    cp "$root/wasm/clang" "$toolchain/bin/clang"
+    build_over_proofs "$toolchain" "$toolchain/unused" --cpu x86-64 && mv "$toolchain/module.bc" "$1" || status=1
+    rm -r "$toolchain"
+    return $status
+}
+
+clang_of_kit() { echo "$(dirname "$(rt doc)")/toolchain/bin/clang"; }
+
+# Writes an LLVM module as text for another system: with its data layout, which has the same sizes and alignments for what
+# the crates use, its triple, and no attribute of a processor of x86-64: retarget MODULE TRIPLE
+retarget() {
+    local clang layout
+    clang=$(clang_of_kit)
+    layout=$("$clang" --no-default-config --target="$2" -S -emit-llvm -x c /dev/null -o - | grep '^target ')
+    "$clang" --no-default-config --target=x86_64-unknown-linux-gnu -S -emit-llvm -Xclang -disable-llvm-passes -x ir "$1" -o - |
+        sed -e "s/^target datalayout = .*/$(grep datalayout <<<"$layout")/" \
+            -e "s/^target triple = .*/$(grep triple <<<"$layout")/" \
+            -e '/^attributes/s/"\(probe-stack\|stack-probe-size\|target-cpu\)"="[^"]*"//g'
+}
+
+# Compiles an LLVM module for another system than Linux: compile_module MODULE TRIPLE OUT. For Windows the allocator is
+# called as on Linux, with answers in two registers.
+compile_module() {
+    local text status=0
+    text=$(mktemp --suffix=.ll)
+    retarget "$1" "$2" |
+        case $2 in
+            *windows*) sed 's/\(declare\|call\) \([^@]*@rattle_\(alloc\|realloc\|dealloc\)(\)/\1 x86_64_sysvcc \2/' ;;
+            *) cat ;;
+        esac >"$text"
+    "$(clang_of_kit)" --no-default-config --target="$2" -O2 -fno-addrsig -c -x ir "$text" -o "$3" || status=1
+    rm "$text"
+    return $status
+}
+
+# Proves the crates below and then builds the crate by a command, over what rt ci has left, if it has.
+build_by() {
+    if is_left_by_ci; then
+        say "proving $top over what rt ci has proved"
+        if "$@" >/dev/null 2>&1; then return; fi
+    fi
+    say "proving and building $top, once; on four processors this takes 6 to 35 minutes, and one if it was only copied"
+    prove_crates
+}
+
+# Ends with status 70 if a tool is not on the PATH.
+need() {
+    local it
+    for it in "$@"; do
+        if ! command -v "$it" >/dev/null; then
+            say "$it is not on the PATH"
+            exit 70
+        fi
+    done
 }
 
 # Builds what is made, by `build`, unless it is current.

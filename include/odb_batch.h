@@ -42,6 +42,11 @@
 extern "C" {
 #endif
 
+#if defined(_WIN32)
+/* RtlGenRandom of advapi32, under its name in that library. */
+unsigned char __stdcall SystemFunction036(void *buffer, unsigned long size);
+#endif
+
 #define ODB_VERSION_MAJOR 0
 #define ODB_VERSION_MINOR 2
 #define ODB_VERSION_PATCH 0
@@ -153,10 +158,11 @@ uint32_t odb_replay_as(const uint8_t *batch, size_t batch_size, const uint8_t *o
                        uint8_t *text, size_t text_size, size_t *text_length, uint64_t seed);
 
 /* Matches as `odb_match_as` does, by the mode of the service. In the mode ODB_STOP, if a response has a status from 400 to
- * 599, each request without a response is read as answered 424; in ODB_CONTINUE each has to have one. `mode` is one of
- * these, and `form` is ODB_LINES or ODB_JSON: else returns ODB_WRONG_OPTION. Otherwise returns what `odb_check` does. */
+ * 599, each request without a response is read as answered 424; in ODB_CONTINUE each has to have one. If `strict` is 1,
+ * some finished run has to answer these statuses (F76 to F78). `mode` is one of these two, `strict` is 0 or 1, and `form` is
+ * ODB_LINES or ODB_JSON: else returns ODB_WRONG_OPTION. Otherwise returns what `odb_check` does. */
 uint32_t odb_match_with(const uint8_t *batch, size_t batch_size, const uint8_t *responses, size_t responses_size,
-                        uint32_t mode, uint32_t form,
+                        uint32_t mode, uint32_t strict, uint32_t form,
                         uint8_t *text, size_t text_size, size_t *text_length, uint64_t seed);
 
 /* Writes the rest of a batch by the response document of a service: what may be sent again, as a batch of its own (OData
@@ -222,7 +228,9 @@ typedef struct odb_live_run {
  * Returns ODB_DONE, and `*run` is a handle, with no text; what was there before is forgotten. Otherwise `*run` is as
  * it was: returns ODB_REFUSED if a document is refused, or if an event names no request or may not come, and the text
  * is the line of the fault; ODB_SMALL_BUFFER if the line does not fit; ODB_WRONG_OPTION unless `mode` and `width` are
- * as in `odb_run`; or ODB_OUT_OF_MEMORY. Takes O(n log n) time for n bytes of documents. */
+ * as in `odb_run`; or ODB_OUT_OF_MEMORY. Takes O(n log n) time for n bytes of documents.
+ * A document of events has at most 16,777,216 bytes, and only whole numbers. To continue a run whose reports do not fit
+ * into one, open it without events and make the recorded calls again, one by one in their order: the run is the same. */
 uint32_t odb_run_open(const uint8_t *batch, size_t batch_size,
                       const uint8_t *events, size_t events_size,
                       uint32_t mode, uint32_t width, odb_live_run *run,
@@ -298,7 +306,8 @@ uint32_t odb_run_state(odb_live_run *run, uint32_t position, uint32_t *state, ui
 /* Takes the outcome of a running request: an HTTP status, headers and a body. The headers are a JSON object of strings
  * whose names differ in lower case. The body is JSON that nests at most 124 deep, so that `odb_match` can read the
  * response, which repeats the bytes of the body, whatever numbers it has. Headers and body may each be empty, NULL or
- * the JSON null, for none. Each has at most 16,777,216 bytes.
+ * the JSON null, for none. Each has at most 16,777,216 bytes. All reports of a run together may have more, and other
+ * numbers, than a document of events can hold: `odb_run_open` says how such a run continues after a failure.
  * Returns ODB_DONE; or, with the run as it was, ODB_WRONG_OPTION if there is no such position,
  * ODB_REFUSED if the headers or the body are not of this form, ODB_OUT_OF_MEMORY, or the cause, ODB_NOT_RUNNING or
  * ODB_BAD_STATUS. A handle as above. All reports of a run take O(requests + dependencies) time together, beside
@@ -324,6 +333,9 @@ static inline uint64_t odb_seed(void)
 #if defined(__linux__)
     uint64_t seed = 0;
     return getentropy(&seed, sizeof seed) == 0 ? seed : 0;
+#elif defined(_WIN32)
+    uint64_t seed = 0;
+    return SystemFunction036(&seed, sizeof seed) ? seed : 0;
 #else
     return 0;
 #endif
@@ -404,11 +416,11 @@ static inline uint32_t odb_inline_match_as(ODB_INLINE_IN(batch), ODB_INLINE_IN(r
 }
 
 static inline uint32_t odb_inline_match_with(ODB_INLINE_IN(batch), ODB_INLINE_IN(responses), uint32_t mode,
-                                             uint32_t form, ODB_INLINE_TEXT, uint64_t seed)
+                                             uint32_t strict, uint32_t form, ODB_INLINE_TEXT, uint64_t seed)
 {
     uint8_t none = 0;
-    return odb_match_with(ODB_INLINE_SLICE(batch), ODB_INLINE_SLICE(responses), mode, form, ODB_INLINE_SLICE(text),
-                          text_length, seed);
+    return odb_match_with(ODB_INLINE_SLICE(batch), ODB_INLINE_SLICE(responses), mode, strict, form,
+                          ODB_INLINE_SLICE(text), text_length, seed);
 }
 
 static inline uint32_t odb_inline_rest(ODB_INLINE_IN(batch), ODB_INLINE_IN(responses), uint32_t mode, uint32_t form,

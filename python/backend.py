@@ -1,7 +1,8 @@
 """Builds the wheel of odb_batch by the standard library alone (PEP 517 and 660).
 
-If libodb_batch.so.0 is beside the package's modules, it goes into the wheel, which is then one for this
-system, or for the one that the setting `plat-name` names; else the library is found as the package says.
+If the library, under its name on Linux, Windows or macOS, is beside the package's modules, it goes into the wheel, which
+is then one for this system, or for the one that the setting `plat-name` names; else the library is found as the package says.
+So does the page that bin/odb_page writes, if it is there.
 The same files give the same bytes: all have the time SOURCE_DATE_EPOCH, or the first that a wheel can have.
 """
 
@@ -16,7 +17,8 @@ import zipfile
 
 HERE = os.path.dirname(os.path.abspath(__file__))
 PACKAGE = os.path.join(HERE, "odb_batch")
-LIBRARY = "libodb_batch.so.0"
+LIBRARIES = ("libodb_batch.so.0", "odb_batch.dll", "libodb_batch.dylib")
+PAGE = "odb_batch.html"
 NAME = "odb_batch"
 FIRST_TIME = 315532800  # 1980-01-01, in seconds since 1970
 
@@ -36,12 +38,12 @@ def _extras():
 def _files():
     """The files of the package, by their paths in a wheel."""
     places = (os.path.join(folder, name) for folder, _, names in os.walk(PACKAGE) for name in names)
-    found = sorted(it for it in places if it.endswith(".py") or os.path.basename(it) in ("py.typed", LIBRARY))
+    found = sorted(it for it in places if it.endswith(".py") or os.path.basename(it) in ("py.typed", PAGE, *LIBRARIES))
     return {os.path.relpath(it, HERE).replace(os.sep, "/"): it for it in found}
 
 
 def _tag(settings):
-    if not os.path.exists(os.path.join(PACKAGE, LIBRARY)):
+    if not any(os.path.exists(os.path.join(PACKAGE, it)) for it in LIBRARIES):
         return "py3-none-any"
     system = (settings or {}).get("plat-name") or re.sub(r"[-.]", "_", sysconfig.get_platform())
     return f"py3-none-{system}"

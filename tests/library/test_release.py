@@ -1,5 +1,5 @@
 """The archive of a release as its users have it: unpacked in an empty folder, with an empty environment, and by another
-user if this one is root.
+user if this one is root. Of the archives for other systems, what is in them, and that their programs and wheels are right.
 """
 
 import fcntl
@@ -21,6 +21,7 @@ from pathlib import Path
 import pytest
 
 import declarations
+from support import targets
 from support.commands import run
 from support.embedding import IN_NODE, IN_PYTHON, ONE, STRICT, block, text_of
 from support.program import ROOT
@@ -28,6 +29,13 @@ from support.program import ROOT
 VERSION = text_of("VERSION").strip()
 TOP = f"odb_batch-{VERSION}-linux-x86_64"
 ARCHIVE = f"{TOP}.tar.gz"
+
+# The archives for other systems, each with what runs its program, and the tag of its wheel.
+OTHERS = {
+    f"odb_batch-{VERSION}-linux-aarch64.tar.gz": ("aarch64-linux", "manylinux_2_17_aarch64.manylinux2014_aarch64"),
+    f"odb_batch-{VERSION}-windows-x86_64.zip": ("x86_64-windows", "win_amd64"),
+}
+MACOS = f"odb_batch-{VERSION}-macos.tar.gz"
 DOCS = "share/doc/odb_batch"
 SHARED = "lib/libodb_batch.so.0"
 LARGEST = 5_000_000
@@ -65,6 +73,13 @@ def archive(tmp_path_factory):
     with open(folder / "lock", "wb") as lock:
         fcntl.flock(lock, fcntl.LOCK_EX)
         return folder / ARCHIVE if (folder / ARCHIVE).exists() else build(folder)
+
+
+def made(archive, name):
+    """The path of another file of the release; skips the test where its tools are missing."""
+    if not archive.with_name(name).exists():
+        pytest.skip(f"the compiler for {name} is not installed")
+    return archive.with_name(name)
 
 
 class Unpacked:
@@ -150,31 +165,39 @@ def python(unpacked):
     return inside
 
 
-def test_it_has_a_checksum_and_is_small(archive):
-    digest, size = hashlib.sha256(archive.read_bytes()).hexdigest(), archive.stat().st_size
-    assert archive.with_name("SHA256SUMS").read_text() == f"{digest}  {ARCHIVE}\n"
-    print(f"{size:,} bytes")
-    assert size < LARGEST
+def sums_of(folder):
+    """The checksums of the files of a release, by their names."""
+    names = sorted(set(os.listdir(folder)) - {"SHA256SUMS", "lock"})
+    return {name: hashlib.sha256((folder / name).read_bytes()).hexdigest() for name in names}
+
+
+def test_its_files_have_checksums_and_are_small(archive):
+    found = sums_of(archive.parent)
+    assert (archive.parent / "SHA256SUMS").read_text() == "".join(f"{it}  {name}\n" for name, it in found.items())
+    for name in found:
+        size = (archive.parent / name).stat().st_size
+        print(f"{name}: {size:,} bytes")
+        assert size < LARGEST
 
 
 def test_two_builds_are_the_same(archive, tmp_path):
     """Builds again in another time zone, by another mode of files: the same bytes."""
     before = os.umask(0o077)
     try:
-        again = build(tmp_path, TZ="Asia/Tokyo", LC_ALL="C", TMPDIR=str(tmp_path))
+        build(tmp_path / "again", TZ="Asia/Tokyo", LC_ALL="C", TMPDIR=str(tmp_path))
     finally:
         os.umask(before)
-    is_same = again.read_bytes() == archive.read_bytes()
-    assert is_same
+    assert sums_of(tmp_path / "again") == sums_of(archive.parent)
 
 
-def test_its_members(archive):
+@pytest.mark.parametrize("name", [ARCHIVE, f"odb_batch-{VERSION}-linux-aarch64.tar.gz", MACOS])
+def test_its_members(name, archive):
     """Members are sorted, with one owner and the time of the commit, and name no folder of this machine."""
     moment = int(run("git", "-C", ROOT, "log", "-1", "--format=%ct"))
-    with tarfile.open(archive) as file:
+    with tarfile.open(made(archive, name)) as file:
         found = file.getmembers()
         names = [it.name for it in found]
-        assert names == sorted(names) and names[0] == TOP
+        assert names == sorted(names) and names[0] == name.removesuffix(".tar.gz")
         assert {(it.mtime, it.uid, it.gid) for it in found} == {(moment, 0, 0)}
         for it in filter(tarfile.TarInfo.isfile, found):
             assert it.mode == (0o755 if "/bin/" in it.name else 0o644), it.name
@@ -188,6 +211,45 @@ def test_it_unpacks_to_one_folder_and_is_deleted_with_it(archive):
         assert os.listdir(found.home) == [TOP]
         found.run("rm", "-r", found.top)
         assert os.listdir(found.home) == []
+
+
+def unpack(path, folder):
+    """Unpacks an archive; returns the folder that it has."""
+    shutil.unpack_archive(path, folder)
+    (found,) = folder.iterdir()
+    assert path.name.startswith(f"{found.name}.")
+    return found
+
+
+@pytest.mark.parametrize("name", OTHERS)
+def test_an_archive_for_another_system(name, archive, need, tmp_path):
+    """Its program runs, its wheel has its library and its tag and is a file of the release, too, and its page says how it was run."""
+    kind, tag = OTHERS[name]
+    target = targets.TARGETS[kind]
+    need(target.runner[0])
+    top = unpack(made(archive, name), tmp_path / "unpacked")
+    (wheel,) = (top / "python").iterdir()
+    assert wheel.name.endswith(f"-py3-none-{tag}.whl")
+    assert wheel.read_bytes() == archive.with_name(wheel.name).read_bytes()
+    with zipfile.ZipFile(wheel) as package:
+        assert package.read(f"odb_batch/{target.shared}") == (top / "lib" / target.shared).read_bytes()
+    assert "were run under" in (top / DOCS / "PROVED.md").read_text()
+    words = [*target.runner, top / "bin" / target.program, "check", top / DOCS / "examples/usual.json"]
+    with targets.running(target, tmp_path) as variables:
+        run(*words, env=variables, wanted="ok 4 requests 1 groups\n")
+
+
+def test_the_archive_for_macos(archive, tmp_path):
+    top = unpack(made(archive, MACOS), tmp_path)
+    assert sorted(os.listdir(top / "lib")) == ["allocator.c", "odb_batch-arm64.o", "odb_batch-x86_64.o"]
+    assert os.listdir(top / "include") == ["odb_batch.h"]
+    assert "nothing of them was run" in (top / DOCS / "PROVED.md").read_text().replace("\n", " ")
+
+
+def test_the_packages_are_files_of_the_release(unpacked, archive):
+    for kind in ("python", "node"):
+        package = unpacked.package(kind)
+        assert package.read_bytes() == archive.with_name(package.name).read_bytes()
 
 
 def test_versions(unpacked):
@@ -403,3 +465,9 @@ def test_the_page_of_the_package_for_node(unpacked, node):
     assert len(programs) == len(shown) > 0
     for program, wanted in zip(programs, shown):
         unpacked.run("node", unpacked.write("node/readme.js", program), wanted=wanted, cwd=node)
+
+
+def test_the_page_is_beside_the_pages_and_in_the_package(unpacked):
+    with zipfile.ZipFile(unpacked.package("python")) as package:
+        assert package.read("odb_batch/odb_batch.html") == (unpacked.docs / "odb_batch.html").read_bytes()
+    assert (unpacked.docs / "docs/pictures/page-finished.png").read_bytes()[1:4] == b"PNG"

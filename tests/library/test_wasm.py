@@ -1,28 +1,28 @@
-"""The WebAssembly modules: in Node and in a browser they answer as the library does, byte for byte, and give memory back; with
+"""The WebAssembly modules: in Node and in browsers they answer as the library does, byte for byte, and give memory back; with
 too little memory or stack a call ends, and the next one works."""
 
 import gzip
 import json
 import os
-import struct
 
 import instructions
 import pytest
 
-from support.chromium import PROGRAM, page_of
+from support.browsers import BROWSERS, page_of
 from support.commands import run
 from support.program import MODULE, MODULE32
+from support.answers import RUNS
 from support.worked import CALLS
 
 HERE = os.path.join(os.path.dirname(os.path.abspath(__file__)), "wasm")
-COMMANDS = ["check", "plan", "canon", "match", "run", "replay", "rest"]
-ORDERS = ["first", "last", "wide"]
-RUNS = 400
 MOST_BYTES, MOST_PACKED_BYTES = 600_000, 200_000
 MOST_TIMES = 2.5
 LITTLE_STACK = 24_576
 MORE_PAGES = 24  # of a module with too little memory
 IMPORTS, GLOBALS, MEMORY = 2, 6, 5  # sections
+
+# A test in each browser.
+IN_BROWSERS = pytest.mark.parametrize("browser", [pytest.param(it, marks=pytest.mark.needs(it)) for it in BROWSERS])
 
 WITH_LITTLE = """\
 many objects 0
@@ -49,41 +49,17 @@ changed 0
 """
 
 
-def call_bytes(call):
-    """A call of a worked case as answers.mjs reads it; none if it has an option that a call does not take."""
-    options = call.options
-    width, order = options.get("width", 10_000), options.get("order", "first")
-    if not isinstance(width, int) or order not in ORDERS:
-        return b""
-    first, second = [*call.documents, b""][:2]
-    flags = [options.get("mode") == "stop", width, ORDERS.index(order), options.get("trace", False)]
-    return struct.pack("<7I", COMMANDS.index(call.command), *flags, len(first), len(second)) + first + second
-
-
-@pytest.fixture(scope="module")
-def calls(tmp_path_factory):
-    """A file of the worked cases as calls."""
-    path = tmp_path_factory.mktemp("calls") / "calls"
-    with open(path, "wb") as file:
-        for call in CALLS:
-            file.write(call_bytes(call))
-    return path
-
-
-@pytest.fixture(scope="module")
-def wanted(module, calls):
-    """The lines of answers.mjs by the library itself, in the addon for Node."""
-    return run("node", os.path.join(HERE, "in_node.mjs"), module, calls, str(RUNS)).splitlines()
-
-
 def read(*names):
     with open(os.path.join(*names), "rb") as file:
         return file.read()
 
 
 @pytest.mark.slow
-def test_node_answers_the_same(wanted, portable, calls):
-    found = run("node", os.path.join(HERE, "in_node.mjs"), portable, calls, str(RUNS)).splitlines()
+@pytest.mark.parametrize("form", ["module", "portable"])
+def test_node_answers_the_same(form, wanted, calls, request):
+    """By the addon, and by the WebAssembly module."""
+    folder = request.getfixturevalue(form)
+    found = run("node", os.path.join(HERE, "in_node.mjs"), folder, calls, str(RUNS)).splitlines()
     assert len(found) > 3 * len(CALLS) * 0.9 + RUNS
     assert found == wanted
 
@@ -94,8 +70,8 @@ def as_module(text, name):
 
 
 @pytest.mark.slow
-@pytest.mark.needs(PROGRAM)
-def test_a_browser_answers_the_same(wanted, portable, wasm, calls, tmp_path):
+@IN_BROWSERS
+def test_a_browser_answers_the_same(browser, wanted, portable, wasm, calls, tmp_path):
     files = {
         "/module.mjs": as_module(read(portable, "module.js"), "libraryOf"),
         "/bytes.mjs": as_module(read(portable, "bytes.js"), "Bytes"),
@@ -103,7 +79,7 @@ def test_a_browser_answers_the_same(wanted, portable, wasm, calls, tmp_path):
         "/calls": calls.read_bytes(),
         **{f"/{name}": read(wasm, name) for name in (MODULE, MODULE32)},
     }
-    with page_of(files, tmp_path) as page:
+    with page_of(browser, files, tmp_path) as page:
         for name in (MODULE, MODULE32):
             found = page.value(f"""
                 globalThis.Buffer = (await import('/bytes.mjs')).Bytes
@@ -144,10 +120,10 @@ WORKER = b"import { check } from '/odb_batch.mjs'\npostMessage(check('{\"request
 PNG = '{"body":"AQL_","headers":{"content-type":"image/png","location":"X(1)"},"id":'
 
 
-@pytest.mark.needs(PROGRAM)
-def test_the_package_in_a_browser(portable, tmp_path):
+@IN_BROWSERS
+def test_the_package_in_a_browser(browser, portable, tmp_path):
     files = {f"/{name}": read(portable, name) for name in ("odb_batch.mjs", MODULE32)}
-    with page_of({**files, "/worker.mjs": WORKER}, tmp_path) as page:
+    with page_of(browser, {**files, "/worker.mjs": WORKER}, tmp_path) as page:
         version, counts, response, sent, performed, counted, value = page.value(IN_PAGE)
     assert version == json.loads(read(portable, "package.json"))["version"]
     assert counts == {"requests": 2, "groups": 0} and counted == {"requests": 0, "groups": 0} and value == 7
@@ -177,14 +153,14 @@ for (let i = 0; i < 40; i++) {
 
 
 @pytest.mark.slow
-@pytest.mark.needs(PROGRAM)
+@pytest.mark.needs("chromium")
 def test_a_check_in_a_browser_takes_at_most_some_times_as_long(module, portable, tmp_path):
     (tmp_path / "batch").write_bytes(great_batch())
     given = f"const batch = require('fs').readFileSync({json.dumps(str(tmp_path / 'batch'))})"
     code = f"const {{ check }} = require({json.dumps(str(module))}); {given}; {LEAST_TIME}; console.log(least)"
     native = float(run("node", "-e", code))
     files = {f"/{name}": read(portable, name) for name in ("odb_batch.mjs", MODULE32)}
-    with page_of({**files, "/batch": great_batch()}, tmp_path / "profile") as page:
+    with page_of("chromium", {**files, "/batch": great_batch()}, tmp_path / "profile") as page:
         found = page.value(f"""
             const {{ check }} = await import('/odb_batch.mjs')
             const batch = new Uint8Array(await (await fetch('/batch')).arrayBuffer())

@@ -1,8 +1,8 @@
 // What a library answers to the calls of a file, and what live runs return that one pseudo-random source drives: lines that have
-// to be the same for each form of the library. For Node and for browsers.
+// to be the same for each form of the library, and those of ../answers.c. For Node and for browsers.
 
 const FORMS = [0, 1]
-const NUMBERS = 7 // before the documents of a call, each of 32 bits
+const NUMBERS = 8 // before the documents of a call, each of 32 bits
 const MOST_REQUESTS = 10000
 const MOST_STEPS = 60
 const LONGEST_BATCH = 100000 // of a live run
@@ -26,10 +26,15 @@ function* callsOf(file) {
   }
 }
 
-/** The line of an answer: its numbers, and the length and the hash of its bytes. */
-async function lineOf(numbers, bytes) {
-  const hash = new Uint8Array(await crypto.subtle.digest('SHA-256', bytes))
-  return [...numbers, bytes.length, Array.from(hash, (it) => it.toString(16).padStart(2, '0')).join('')].join(' ')
+/** The line of an answer: its numbers, and the length and a hash of its bytes. */
+function lineOf(numbers, bytes) {
+  let [first, second] = [2166136261, 40503]
+  for (const byte of bytes) {
+    first = Math.imul(first ^ byte, 16777619)
+    second = Math.imul(second ^ byte, 2654435761)
+  }
+  const hash = [first, second].map((it) => (it >>> 0).toString(16).padStart(8, '0')).join('')
+  return [...numbers, bytes.length, hash].join(' ')
 }
 
 /** The instances of a module that were made, in order. */
@@ -49,7 +54,7 @@ function expectFreed() {
 }
 
 /** The lines of the answers to the calls, in both forms, and of the requests of their batches. */
-async function* answers(library, file) {
+function* answers(library, file) {
   for (const { numbers: [command, ...options], batch, second } of callsOf(file)) {
     for (const form of FORMS) {
       const [status, text] = library.call(command, batch, second, ...options, form)
@@ -104,9 +109,9 @@ function drive(library, run, next, note) {
 }
 
 /** The lines of live runs of the batches of the calls. */
-async function* lives(library, file, count) {
+function* lives(library, file, count) {
   const batches = [...callsOf(file)].map(({ batch }) => batch).filter((it) => it.length < LONGEST_BATCH)
-  const accepted = batches.filter((it) => library.call(0, it, new Uint8Array(), 0, 1, 0, 0, 0)[0] === 0)
+  const accepted = batches.filter((it) => library.call(0, it, new Uint8Array(), 0, 1, 0, 0, 0, 0)[0] === 0)
   for (let i = 0; i < count; i++) {
     const [next, numbers] = [sourceOf(i), []]
     const note = (...them) => them.forEach((it) => numbers.push(it))
@@ -121,8 +126,6 @@ async function* lives(library, file, count) {
 }
 
 /** All lines. */
-export async function linesOf(library, file, runs) {
-  const found = []
-  for (const source of [answers(library, file), lives(library, file, runs)]) for await (const line of source) found.push(line)
-  return found
+export function linesOf(library, file, runs) {
+  return [...answers(library, file), ...lives(library, file, runs)]
 }
