@@ -9,6 +9,7 @@ from typing import Sequence
 COMMANDS = {
     "gateway": ("odb_batch.gateway._tool", "answers $batch for services that have none"),
     "conformance": ("odb_batch.conformance._tool", "judges whether a service keeps what a batch promises"),
+    "page": ("odb_batch._page", "opens a page in the browser in which a batch is checked, drawn and run"),
 }
 
 

@@ -1,11 +1,9 @@
 """A headless Chromium that tests drive over the pipe of its DevTools, with the standard library alone."""
 
 import contextlib
-import http.server
 import json
 import os
 import subprocess
-import threading
 
 PROGRAM = "chromium"
 FLAGS = (
@@ -15,7 +13,6 @@ FLAGS = (
 LOADED = """while (document.readyState !== 'complete' || location.protocol === 'about:') {
     await new Promise((it) => setTimeout(it, 20))
 }"""
-KINDS = {".mjs": "text/javascript", ".wasm": "application/wasm"}
 
 
 class Failed(Exception):
@@ -89,43 +86,3 @@ class Chromium:
             self.process.wait()
         os.close(self.commands)
         os.close(self.answers)
-
-
-@contextlib.contextmanager
-def served(files):
-    """The address of a server, in this process, of bytes by their paths. A page without a path is empty."""
-
-    class Handler(http.server.BaseHTTPRequestHandler):
-        protocol_version = "HTTP/1.1"
-
-        def log_message(self, *_):
-            pass
-
-        def do_GET(self):
-            data = files.get(self.path, b"<!doctype html>" if self.path == "/" else None)
-            self.send_response(404 if data is None else 200)
-            self.send_header("Content-Type", KINDS.get(os.path.splitext(self.path)[1], "text/html"))
-            self.send_header("Content-Length", str(len(data or b"")))
-            self.end_headers()
-            self.wfile.write(data or b"")
-
-    server = http.server.ThreadingHTTPServer(("127.0.0.1", 0), Handler)
-    thread = threading.Thread(target=server.serve_forever, daemon=True)
-    thread.start()
-    try:
-        yield f"http://127.0.0.1:{server.server_port}/"
-    finally:
-        server.shutdown()
-        server.server_close()
-
-
-@contextlib.contextmanager
-def page_of(files, profile):
-    """A page at a server of files."""
-    with served(files) as address:
-        browser = Chromium(profile)
-        try:
-            browser.open(address)
-            yield browser
-        finally:
-            browser.close()

@@ -1,0 +1,228 @@
+'use strict'
+
+// What the page asks of the library. It runs in a worker: it keeps the batch and its run, and does one job after another.
+
+const { bytesOf } = require('../node/documents.js')
+const commands = require('../node/commands.js')
+const { requests } = require('../node/requests.js')
+const { Course } = require('./course.js')
+const { elementsAt, membersAt, skipSpace } = require('./json.js')
+const { Places } = require('./places.js')
+const { verdictOf } = require('./verdict.js')
+
+// How much of a document the page shows if it is too long to be edited, and how much of it before a place.
+const EXCERPT = 20_000
+const BEFORE = 2_000
+// How many characters of a URL, and how many names of dependencies of all requests, go to the page.
+const MOST_OF_URL = 400
+const MOST_NAMES = 1_000_000
+const KINDS = ['events', 'outcomes', 'responses']
+const decoder = new TextDecoder('utf-8', { ignoreBOM: true })
+
+/** The requests of a batch that is accepted, as the page shows them. */
+function shownRequests(batch) {
+  const sent = requests(batch)
+  let names = 0
+  return commands.plan(batch).map(({ position, id, level, group, needs }) => {
+    const { method, url, reference } = sent[position]
+    names += needs.length
+    const listed = names > MOST_NAMES ? [] : needs
+    return { position, id, level, group, needs: listed, method, url: url.slice(0, MOST_OF_URL), reference }
+  })
+}
+
+/** A document: its bytes, its text, and the places of its faults. */
+class Document {
+  #text
+
+  /** `given` is a text, or bytes. */
+  constructor(given) {
+    this.bytes = bytesOf(given)
+    this.#text = typeof given === 'string' ? given : undefined
+  }
+
+  get text() {
+    this.#text ??= decoder.decode(this.bytes)
+    return this.#text
+  }
+
+  get places() {
+    this.found ??= new Places(this.text)
+    return this.found
+  }
+
+  /** Where faults are, found only once there is one. */
+  get lazyPlaces() {
+    return { of: (fault) => this.places.of(fault) }
+  }
+
+  /** Some text around a place. */
+  excerpt(at) {
+    const { text, places: { lines } } = this
+    let begin = Math.max(0, at - BEFORE)
+    const next = text.indexOf('\n', begin)
+    if (begin > 0 && next >= 0 && next < at) begin = next + 1
+    return { text: text.slice(begin, begin + EXCERPT), begin, line: lines.lineOf(begin), length: text.length }
+  }
+}
+
+/** The events of a document of events, or the answers of one of outcomes: `id`, and headers and body as JSON texts. */
+function elementsOf(text, kind) {
+  const list = membersAt(text, skipSpace(text, 0)).get(kind)
+  return Array.from(elementsAt(text, list.value.start), ({ start }) => {
+    const members = membersAt(text, start)
+    const raw = (name) => {
+      const value = members.get(name)?.value
+      const found = value && text.slice(value.start, value.end)
+      return found === 'null' ? undefined : found
+    }
+    const id = JSON.parse(raw('start') ?? raw('report') ?? raw('id'))
+    const status = raw('status')
+    if (status === undefined) return { id }
+    return { id, status: Number(status), ...present({ headers: raw('headers'), body: raw('body') }) }
+  })
+}
+
+function present(values) {
+  return Object.fromEntries(Object.entries(values).filter(([, value]) => value !== undefined))
+}
+
+/** What a text is by its member: events, outcomes or responses. */
+function kindOf(text) {
+  try {
+    const members = membersAt(text, skipSpace(text, 0))
+    return KINDS.find((it) => members.has(it))
+  } catch {
+    return undefined // It is not JSON.
+  }
+}
+
+class Engine {
+  #batch
+  #requests = []
+  #course
+
+  /** Checks a batch, which is a text or bytes, and begins a run of it. */
+  check({ batch, options }) {
+    const begun = performance.now()
+    this.#batch = new Document(batch)
+    this.#course?.close()
+    this.#course = undefined
+    const { bytes, lazyPlaces } = this.#batch
+    const verdict = verdictOf('check', [bytes], lazyPlaces)
+    const took = performance.now() - begun
+    this.#requests = verdict.accepted ? shownRequests(bytes) : []
+    const run = verdict.accepted ? this.open(options) : undefined
+    return { ...verdict, size: bytes.length, took, requests: this.#requests, run }
+  }
+
+  /** A part of the batch around a place. */
+  excerpt({ at }) {
+    return this.#batch.excerpt(at)
+  }
+
+  /** Begins a run with a mode and a width. */
+  open({ mode, width }) {
+    this.#course?.close()
+    this.#course = new Course(this.#batch.bytes, this.#requests, { mode, width })
+    return this.#state()
+  }
+
+  /** Has events come until one is refused. */
+  add({ events }) {
+    for (const event of events) {
+      const refusal = this.#course.add(event)
+      if (refusal) return { ...this.#state(), refusal }
+    }
+    return this.#state()
+  }
+
+  /** Has so many events come by themselves, in an order. */
+  play({ order, answers, count }) {
+    for (let i = 0; i < count; i++) {
+      const event = this.#course.next(order, answers)
+      if (event === undefined) break
+      const refusal = this.#course.add(event)
+      if (refusal) return { ...this.#state(), refusal }
+    }
+    return this.#state()
+  }
+
+  undo() {
+    this.#course.undo()
+    return this.#state()
+  }
+
+  restart() {
+    this.#course.restart()
+    return this.#state()
+  }
+
+  /** The events of the run as a document. */
+  document() {
+    return this.#course.document
+  }
+
+  /** The run as the page shows it, with its response and what `match` says of it once it is finished. */
+  #state() {
+    const course = this.#course
+    const found = { ...course.snapshot(), events: course.events }
+    if (!found.finished) return found
+    const response = this.#response(course)
+    return { ...found, response, match: this.#match(response) }
+  }
+
+  /** The response that `run` prints of the events, or that of the live run if `run` refuses a body, as one with 1.5 in it. */
+  #response({ document, options, response }) {
+    const given = new Document(document)
+    const { accepted, text } = verdictOf('run', [this.#batch.bytes, given.bytes], this.#placesOf(given), options)
+    return accepted ? text : response
+  }
+
+  /** What `match` makes of responses, and the status of each by its id. */
+  #match(responses, options) {
+    const document = new Document(responses)
+    const verdict = verdictOf('match', [this.#batch.bytes, document.bytes], this.#placesOf(document), options)
+    return { ...verdict, statuses: verdict.accepted ? linesOf(verdict.text) : [] }
+  }
+
+  /** The places of a second document; a fault may also be about a request of the batch. */
+  #placesOf(document) {
+    return {
+      of: (fault) => {
+        const inBatch = fault.place.startsWith('/requests/')
+        return { ...(inBatch ? this.#batch : document).places.of(fault), inBatch }
+      },
+    }
+  }
+
+  /** Reads events, outcomes or responses, and does with them what the program does. */
+  read({ document: given, kind, mode, width, order }) {
+    const document = new Document(given)
+    const found = kindOf(document.text) ?? kind
+    if (found === 'responses') return { kind: found, ...this.#match(given, { mode }) }
+    const options = found === 'events' ? { mode, width } : { mode, width, order, trace: true }
+    const command = found === 'events' ? 'run' : 'replay'
+    const verdict = verdictOf(command, [this.#batch.bytes, document.bytes], this.#placesOf(document), options)
+    const isWhole = verdict.accepted || verdict.faults[0]?.code === 'F66'
+    if (!isWhole) return { kind: found, ...verdict }
+    const events = found === 'events' ? elementsOf(document.text, found) : this.#replayed(document, options)
+    this.#course.close()
+    this.#course = new Course(this.#batch.bytes, this.#requests, { mode, width })
+    return { kind: found, ...verdict, run: this.add({ events }) }
+  }
+
+  /** The events of a replay, with headers and bodies of the outcomes. */
+  #replayed({ text, bytes }, options) {
+    const outcomes = new Map(elementsOf(text, 'outcomes').map((it) => [it.id, it]))
+    const { steps } = commands.replay(this.#batch.bytes, bytes, options)
+    return steps.map(({ step, id }) => (step === 'start' ? { id } : outcomes.get(id)))
+  }
+}
+
+/** The pairs of id and status in the lines of a match. */
+function linesOf(text) {
+  return text.split('\n').slice(1).map((line) => line.split(' ')).map(([id, status]) => [id, Number(status)])
+}
+
+module.exports = { Engine }

@@ -1,0 +1,63 @@
+'use strict'
+
+// The response of a finished run, what `match` says of it, and a comparison with the response of a service.
+
+const { copy, count, element } = require('./dom.js')
+const { listed } = require('./words.js')
+
+const MOST_SHOWN = 100_000 // characters
+const MOST_ROWS = 200
+
+/** Shows the response, or that there is none yet. */
+function showResponse(place, { finished, response, match, undone }) {
+  if (!finished) {
+    place.replaceChildren(element('p', { class: 'empty' }, 'There is a response once the run is finished.'))
+    return
+  }
+  const note = element('span', { class: 'note', role: 'status' })
+  const button = element('button', { type: 'button', onclick: () => copy(response, note) }, 'Copy the response')
+  const bar = element('div', { class: 'bar' }, button, note)
+  const shown = response.length > MOST_SHOWN ? `${response.slice(0, MOST_SHOWN)}…` : response
+  const verdict = match.accepted ? 'The response fits the batch' : 'The response does not fit the batch'
+  place.replaceChildren(
+    bar,
+    element('pre', { class: 'text', tabindex: '0', 'aria-label': 'The response document', id: 'response-text' }, shown),
+    element('p', { class: 'note' }, `${verdict}: match prints `, element('code', {}, match.text.split('\n', 1)[0]), '.'),
+    undone.length > 0 ? element('p', {}, `To be undone, in this order: ${listed(undone)}.`) : '',
+  )
+}
+
+/** What a comparison has found. */
+function found(differing, isFinished) {
+  if (!isFinished) return 'Finish the run to compare the statuses with it.'
+  if (differing.length === 0) return 'The run and the service answered every request with the same status.'
+  const verb = differing.length === 1 ? 'was' : 'were'
+  return `${count(differing.length, 'request')} ${verb} answered otherwise: ${listed(differing.map(({ id }) => id))}.`
+}
+
+/** Compares the statuses of a service with those of the run, by the ids of the requests. */
+function showComparison(place, statuses, requests, run) {
+  if (statuses.length === 0) {
+    place.replaceChildren()
+    return
+  }
+  const positions = new Map(requests.map(({ id, position }) => [id, position]))
+  const rows = statuses.map(([id, status]) => {
+    const own = run.finished ? run.statuses[positions.get(id)] : 0
+    return { id, status, own, differs: run.finished && own !== status }
+  })
+  const differing = rows.filter(({ differs }) => differs)
+  const shown = [...differing, ...rows.filter(({ differs }) => !differs)].slice(0, MOST_ROWS)
+  const heads = ['Request', 'The service', 'The run'].map((it) => element('th', { scope: 'col' }, it))
+  const cells = shown.map(({ id, status, own, differs }) => element(
+    'tr', {}, element('th', { scope: 'row' }, element('b', {}, id)),
+    element('td', { class: differs ? 'differs' : undefined }, String(status)),
+    element('td', {}, own ? String(own) : '–', differs ? ' (differs)' : ''),
+  ))
+  const label = 'The statuses of the service and of the run'
+  const head = element('thead', {}, element('tr', {}, ...heads))
+  const table = element('table', { 'aria-label': label }, head, element('tbody', {}, ...cells))
+  place.replaceChildren(element('p', {}, found(differing, run.finished)), element('div', { class: 'table' }, table))
+}
+
+module.exports = { showComparison, showResponse }

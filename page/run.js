@@ -1,0 +1,224 @@
+'use strict'
+
+// The run of a batch: its buttons and options, the table of its requests, and what is shown of it elsewhere.
+
+const { byId, count } = require('./dom.js')
+const { showComparison, showResponse } = require('./response.js')
+const { Table } = require('./table.js')
+const { showTimeline } = require('./timeline.js')
+const { Reasons, listed } = require('./words.js')
+
+const MOST_WIDTH = 10_000
+const OF_FRAME = 16 // milliseconds
+const AT_ONCE = 1000 // the speed at which so many events come at a time
+const MANY = 500
+
+class RunView {
+  #link
+  #picture
+  #table
+  #requests = []
+  #reasons
+  #run
+  #statuses = []
+  #isPlaying = false
+
+  constructor(link, picture) {
+    this.#link = link
+    this.#picture = picture
+    this.#table = new Table(byId('requests'), {
+      start: (request) => this.#add(request, undefined),
+      report: (request) => this.#add(request, this.#table.answerOf(request)),
+      focused: (request) => this.#picture.choose(request.position),
+    })
+    byId('play').addEventListener('click', () => this.#play())
+    byId('step').addEventListener('click', () => this.#step())
+    byId('undo').addEventListener('click', () => this.#undo())
+    byId('restart').addEventListener('click', () => this.#restart())
+    for (const id of ['width', 'stop']) byId(id).addEventListener('change', () => this.#reopen())
+  }
+
+  /** The mode and the width. */
+  get options() {
+    const width = Number(byId('width').value.replaceAll(',', ''))
+    const isWidth = Number.isInteger(width) && width >= 1 && width <= MOST_WIDTH
+    byId('width').setAttribute('aria-invalid', String(!isWidth))
+    return { mode: byId('stop').checked ? 'stop' : 'continue', width: isWidth ? width : MOST_WIDTH }
+  }
+
+  get order() {
+    return byId('order').value
+  }
+
+  /** Shows the requests of a batch that was accepted, and its run, in which nothing has happened. */
+  show(requests, run) {
+    this.#isPlaying = false
+    this.#requests = requests
+    this.#reasons = new Reasons(requests)
+    this.#reasons.run = run
+    this.#run = run
+    this.#statuses = []
+    this.#picture.show(requests, this.#reasons)
+    this.#table.show(requests, this.#reasons)
+    this.#shown(run)
+    this.#say(this.#happened(''))
+  }
+
+  /** Shows that there is no batch to run. */
+  empty() {
+    this.#isPlaying = false
+    this.#run = undefined
+    this.#requests = []
+    this.#reasons = new Reasons([])
+    this.#table.show([], this.#reasons)
+    this.#say('There is no run: the batch is not accepted.')
+    showTimeline(byId('timeline'), { events: [], undone: [] })
+    showResponse(byId('response'), { finished: false })
+    showComparison(byId('comparison'), [], [], {})
+    this.#buttons()
+  }
+
+  /** Shows a run that was read from a document. */
+  replace(run) {
+    this.#isPlaying = false
+    this.#shown(run)
+    this.#say(this.#happened('Read. '))
+  }
+
+  /** Shows the statuses that a service has answered. */
+  compare(statuses) {
+    this.#statuses = statuses
+    if (this.#run) showComparison(byId('comparison'), statuses, this.#requests, this.#run)
+  }
+
+  /** Goes to a request in the table. */
+  goTo(position) {
+    this.#table.goTo(this.#requests[position])
+  }
+
+  /** Has a job done, and shows the run after it; returns undefined if there is none, or no longer. */
+  async #ask(job, values) {
+    if (!this.#run) return undefined
+    const of = this.#requests
+    try {
+      const run = await this.#link.ask(job, values)
+      if (of !== this.#requests) return undefined
+      this.#shown(run)
+      return run
+    } catch (error) {
+      if (of === this.#requests) this.#say(`The library has ended: ${error.message}`, true)
+      return undefined
+    }
+  }
+
+  async #add({ id }, answer) {
+    this.#isPlaying = false
+    const run = await this.#ask('add', { events: [{ id, ...answer }] })
+    if (!run) return
+    if (run.refusal) this.#refused(run.refusal, answer)
+    else this.#say(this.#happened(answer ? `Reported ${id}: ${answer.status}. ` : `Started ${id}. `))
+  }
+
+  #refused({ code, name, id, explanation }, answer) {
+    this.#say(`${answer ? 'The report' : 'The start'} of ${id} is refused: ${code} ${name}. ${explanation}`, true)
+  }
+
+  /** The last event, and what may come now. */
+  #happened(begin) {
+    const ready = this.#requests.filter((it) => this.#reasons.kind(it) === 'ready').map(({ id }) => id)
+    const running = this.#requests.filter((it) => this.#reasons.kind(it) === 'running').map(({ id }) => id)
+    if (this.#run.finished) return `${begin}The run is finished. ${this.#end()}`
+    const parts = [['May start', ready], ['Running', running]].filter(([, ids]) => ids.length > 0)
+    return `${begin}${parts.map(([title, ids]) => `${title}: ${listed(ids)}.`).join(' ')}`
+  }
+
+  /** How the run has ended. */
+  #end() {
+    const kinds = this.#requests.map((it) => this.#reasons.kind(it))
+    const number = (kind) => kinds.filter((it) => it === kind).length
+    const parts = [['success', 'succeeded'], ['failure', 'failed'], ['skipped', 'not started and answered 424']]
+    const counted = parts.map(([kind, word]) => [number(kind), word]).filter(([found]) => found > 0)
+    const words = counted.map(([found, word]) => `${count(found, 'request')} ${word}`)
+    const { undone } = this.#run
+    if (undone.length > 0) words.push(`${count(undone.length, 'request')} to be undone: ${listed(undone)}`)
+    return words.length > 0 ? `${words.join(', ')}.` : ''
+  }
+
+  #lastEvent({ events }) {
+    const { id, status } = events.at(-1) ?? {}
+    if (id === undefined) return ''
+    return status === undefined ? `Started ${id}. ` : `Reported ${id}: ${status}. `
+  }
+
+  async #step() {
+    this.#isPlaying = false
+    await this.#next(1)
+  }
+
+  /** Has so many events come; returns whether more may come. */
+  async #next(number) {
+    const run = await this.#ask('play', { order: this.order, answers: this.#table.answers, count: number })
+    if (!run) return false
+    if (run.refusal) this.#refused(run.refusal, {})
+    else this.#say(this.#happened(this.#lastEvent(run)))
+    return !run.refusal && !run.finished
+  }
+
+  /** Plays until the run is finished, or stops playing. */
+  async #play() {
+    this.#isPlaying = !this.#isPlaying
+    this.#buttons()
+    if (this.#isPlaying && this.#run?.finished) await this.#ask('restart')
+    while (this.#isPlaying) {
+      const speed = Number(byId('speed').value)
+      const wait = Math.max(1000 / speed, OF_FRAME)
+      // At once is many events at a time, so that the page can be used meanwhile.
+      if (!(await this.#next(speed >= AT_ONCE ? MANY : 1))) this.#isPlaying = false
+      else await new Promise((resolve) => setTimeout(resolve, wait))
+    }
+    this.#buttons()
+  }
+
+  async #undo() {
+    this.#isPlaying = false
+    if (!this.#run || this.#run.events.length === 0) return
+    const { id, status } = this.#run.events.at(-1)
+    const what = status === undefined ? 'the start' : 'the report'
+    if (await this.#ask('undo')) this.#say(this.#happened(`Took back ${what} of ${id}. `))
+  }
+
+  async #restart() {
+    this.#isPlaying = false
+    if (await this.#ask('restart')) this.#say(this.#happened('The run begins anew. '))
+  }
+
+  async #reopen() {
+    this.#isPlaying = false
+    if (await this.#ask('open', this.options)) this.#say(this.#happened('The run begins anew with these options. '))
+  }
+
+  #shown(run) {
+    this.#run = run
+    this.#reasons.run = run
+    this.#picture.paint()
+    this.#table.paint()
+    showTimeline(byId('timeline'), run, (id) => this.#reasons.kind(this.#reasons.membersOf(id)[0]))
+    showResponse(byId('response'), run)
+    showComparison(byId('comparison'), this.#statuses, this.#requests, run)
+    this.#buttons()
+  }
+
+  #buttons() {
+    byId('play').textContent = this.#isPlaying ? 'Pause' : 'Play'
+    const begun = (this.#run?.events.length ?? 0) > 0
+    for (const id of ['undo', 'restart']) byId(id).setAttribute('aria-disabled', String(!begun))
+    for (const id of ['play', 'step']) byId(id).setAttribute('aria-disabled', String(!this.#run))
+  }
+
+  #say(words, isRefused = false) {
+    byId('said').className = isRefused ? 'said refused' : 'said'
+    byId('said').textContent = words
+  }
+}
+
+module.exports = { RunView }

@@ -1,0 +1,126 @@
+"""A batch is typed, pasted, opened and linked; each fault is marked in the text, and is gone once it is mended."""
+
+import pytest
+
+from support.keys import CONTROL
+from support.page import write
+
+# What is marked: the text of each strong mark in the field of the batch.
+MARKED = "return Array.from(document.querySelectorAll('#batch-editor mark.part'), (it) => it.textContent)"
+
+
+def verdict(page):
+    return page.text("verdict")
+
+
+def test_a_fault_is_typed_and_mended(page):
+    assert verdict(page).startswith("Accepted: ok 4 requests 1 groups.")
+    # After "id": "book" the cursor is in the first request.
+    page.value("""const field = document.getElementById('text')
+        field.focus()
+        const at = field.value.indexOf('"method"')
+        field.setSelectionRange(at, at)""")
+    word = '"dependsOn": ["list"], '
+    page.type(word)
+    page.until("return document.getElementById('verdict').textContent.includes('F41')")
+    assert verdict(page).startswith("Refused: fault F41 ForwardName /requests/0. Line 2, column 3.")
+    assert page.value(MARKED) == ['"dependsOn": ["list"]']
+    assert "remove a dependency of the cycle" in page.text("faults")
+    assert page.value("return document.querySelector('#batch-editor .has-fault').textContent") == "2"
+    assert "There is no plan" in page.text("picture")
+    page.press("Backspace", times=len(word))
+    page.until("return document.getElementById('verdict').textContent.includes('Accepted')")
+    assert page.value(MARKED) == [] and page.text("faults") == ""
+
+
+def test_a_click_leads_to_the_place(page, example):
+    write(page, example("too_early.json") + "\n" * 200)
+    page.value("document.getElementById('text').scrollTop = 3000; document.querySelector('#faults .link').click()")
+    found = page.value("""const { selectionStart, selectionEnd, scrollTop, value } = document.getElementById('text')
+        return [value.slice(selectionStart, selectionEnd), scrollTop, document.activeElement.id]""")
+    assert found == ['"dependsOn": ["order"]', 0, "text"]
+
+
+# A text that is not JSON, and the character that cannot be there; the empty text is the end.
+BROKEN = [
+    ('{"requests": [],}', "}"),
+    ('{"requests": [}', "}"),
+    ('{"requests": []', " "),
+    ('{"requests": [{"id": "a" "url": "b"}]}', '"'),
+    ('{"requests": [], "@a": 1e999}', "1e999"),
+    ('{"requests": [], "@a": 01}', "1"),
+    ('{"requests": [], "@a": 1.e5}', "e"),
+    ('{"requests": [], "@a": "\\x"}', "x"),
+    ('{"requests": [], "@a": "\\u00g"}', "g"),
+    ('{"requests": [], "@a": "\\ud800"}', "\\ud800"),
+    ('{"requests": [], "@ä𝄞": tru}', "}"),
+    ('{"requests": []} 𝄞', "𝄞"),
+]
+
+
+@pytest.mark.parametrize("text, marked", BROKEN)
+def test_the_character_that_is_not_json_is_marked(page, text, marked):
+    write(page, text)
+    assert "fault F02 NotJson batch" in verdict(page)
+    assert page.value(MARKED) == [marked]
+
+
+def test_lines_and_columns_count_characters(page):
+    write(page, '{"requests": [\n  {"id": "a", "method": "get", "url": "𝄞ä"}, {"id": 7, "method": "get", "url": ""}]}')
+    assert "Line 2, column 46." in verdict(page)
+
+
+def test_examples_are_chosen_by_keys(page):
+    page.value("document.getElementById('examples').focus()")
+    page.press("ArrowDown", times=2)
+    page.until("return document.getElementById('verdict').textContent.includes('F41')")
+    page.press("ArrowUp")
+    page.until("return document.getElementById('verdict').textContent.includes('ok 3 requests')")
+
+
+def test_a_file_is_opened(page, tmp_path, example):
+    path = tmp_path / "batch.json"
+    for data, wanted in [
+        (example("references.json").encode(), "ok 3 requests 0 groups"),
+        (b'\xef\xbb\xbf{"requests":[]}', "fault F02 NotJson batch"),
+        (b'{"requests":[],"@a":"\xff"}', "fault F02 NotJson batch"),
+        (b'{"requests":\r\n[]}', "ok 0 requests 0 groups"),
+    ]:
+        path.write_bytes(data)
+        before = page.value("return (await page).count")
+        page.open_file("file", path)
+        page.until(f"return (await page).count > {before}")
+        assert wanted in verdict(page)
+
+
+def test_a_link_carries_a_batch(page, page_file, example):
+    write(page, example("references.json"))
+    page.value("document.getElementById('share').click()")
+    link = page.until("return location.hash && location.href")
+    assert len(link) < 400
+    page.call("Page.navigate", url="about:blank")
+    page.open(link)
+    page.until("return (await page).count > 0")
+    assert page.value("return document.getElementById('text').value") == example("references.json")
+    assert "ok 3 requests" in verdict(page)
+
+
+def test_a_damaged_link_says_so(page):
+    page.value("location.hash = '#batch=AAAA'")
+    page.until("return document.getElementById('shared').textContent.includes('The link is damaged')")
+    assert "ok 4 requests" in verdict(page)
+
+
+def test_the_page_can_send_nothing(page):
+    assert page.value("""return fetch('http://127.0.0.1:9/').then(() => 'sent', (error) => error.name)""") == "TypeError"
+    found = page.value("return document.querySelector('meta[http-equiv=Content-Security-Policy]').content")
+    assert "default-src 'none'" in found and "connect-src 'none'" in found
+
+
+def test_undo_in_the_text_works(page):
+    page.value("const field = document.getElementById('text'); field.focus(); field.setSelectionRange(0, 0)")
+    page.type("x")
+    page.until("return document.getElementById('verdict').textContent.includes('F02')")
+    page.press("z", modifiers=CONTROL)
+    page.value("document.execCommand('undo')")
+    page.until("return document.getElementById('verdict').textContent.includes('Accepted')")

@@ -1,0 +1,205 @@
+"""Runs in the page: by keys alone, by itself, by documents; its responses are those that the program prints."""
+
+import json
+
+import pytest
+
+from support.commands import run
+from support.page import answer, choose, play, read, write
+
+SAID = "return document.getElementById('said').textContent"
+
+
+def response(page):
+    return page.until("return document.getElementById('response-text')?.textContent")
+
+
+def events(page):
+    """The events of the run, by the button that copies them."""
+    page.value("document.getElementById('second-text').value = ''; document.getElementById('copy-events').click()")
+    return page.until("return document.getElementById('second-text').value")
+
+
+def printed(program, tmp_path, batch, second, *words, command="run"):
+    """What the program prints of the same documents."""
+    for name, text in [("batch.json", batch), ("second.json", second)]:
+        (tmp_path / name).write_text(text)
+    return run(program, command, tmp_path / "batch.json", tmp_path / "second.json", *words).rstrip("\n")
+
+
+def press_until(page, key, name):
+    """Presses a key until the focus is on something of this name."""
+    for _ in range(60):
+        if page.focused() == name:
+            return
+        page.press(key)
+    raise AssertionError(f"{name} is not reached by {key}: {page.focused()}")
+
+
+def happens(page, key, wanted):
+    page.press(key)
+    page.until(f"return document.getElementById('said').textContent.includes({json.dumps(wanted)})")
+
+
+def test_a_run_by_keys_alone(page, program, example, tmp_path):
+    """The loan is refused, so the mark of its group is undone and the list is not started."""
+    page.value("document.getElementById('text').focus()")
+    press_until(page, "Tab", "Start book")
+    happens(page, "Enter", "Started book. Running: book.")
+    page.press("ArrowRight")
+    happens(page, "Enter", "Reported book: 200. May start: mark and loan.")
+    page.press("ArrowLeft")
+    page.press("ArrowDown")
+    happens(page, "Enter", "Started mark.")
+    page.press("ArrowDown")
+    happens(page, " ", "Started loan. Running: mark and loan.")
+    page.press("ArrowUp")
+    page.press("ArrowRight")
+    assert page.focused() == "Report mark"
+    happens(page, "Enter", "Reported mark: 204.")
+    press_until(page, "Tab", "The status that loan is answered")
+    page.press("a", modifiers=2)
+    page.type("409")
+    press_until(page, "Tab", "Report loan")
+    happens(page, "Enter", "The run is finished.")
+    assert page.value(SAID) == (
+        "Reported loan: 409. The run is finished. 1 request succeeded, 1 request failed, 1 request not started and answered 424, "
+        "1 request to be undone: mark."
+    )
+    rows = page.value("return Array.from(document.querySelectorAll('#requests tbody tr[data-position]'), (it) => it.cells[1].textContent)")
+    assert rows == [
+        "✓answered 200",
+        "↶to be undone, answered 424loan was answered 409, and the group lend is applied as a whole or not at all",
+        "✕answered 409",
+        "–not started, answered 424it needs the group lend, and loan was answered 409",
+    ]
+    assert response(page) == printed(program, tmp_path, example("usual.json"), events(page))
+    assert "match prints ok 4 responses" in page.text("response")
+    assert "To be undone, in this order: mark" in page.text("timeline")
+
+
+def test_a_refused_event_says_its_cause(page):
+    for button, wanted in [
+        ("Start list", "The start of list is refused: S4 Waiting."),
+        ("Report book", "The report of book is refused: P1 NotRunning."),
+    ]:
+        page.value(f"""document.querySelector('[aria-label="{button}"]').click()""")
+        found = page.until(f"{SAID}.startsWith({wanted!r}) && document.querySelector('.said.refused').textContent")
+        assert len(found) > len(wanted) + 40
+    answer(page, "book", 99)
+    page.value("""document.querySelector('[aria-label="Start book"]').click()""")
+    page.until("return document.getElementById('said').textContent.includes('Started book')")
+    page.value("""document.querySelector('[aria-label="Report book"]').click()""")
+    page.until("return document.getElementById('said').textContent.includes('P2 BadStatus')")
+    assert len(json.loads(events(page))["events"]) == 1
+
+
+@pytest.mark.parametrize("order", ["wide", "first", "last"])
+@pytest.mark.parametrize("words", [[], ["--stop"], ["--width", "1"]])
+def test_it_plays_by_itself(page, program, example, tmp_path, order, words):
+    choose(page, "order", order)
+    if "--stop" in words:
+        choose(page, "stop", True)
+    if "--width" in words:
+        choose(page, "width", 1)
+    answer(page, "mark", 500)
+    play(page)
+    batch, document = example("usual.json"), events(page)
+    assert response(page) == printed(program, tmp_path, batch, document, *words)
+    # The order is that of the program.
+    statuses = {"book": 200, "mark": 500, "loan": 201, "list": 200}
+    outcomes = json.dumps({"outcomes": [{"id": id, "status": status} for id, status in statuses.items()]})
+    trace = printed(program, tmp_path, batch, outcomes, "--trace", "--order", order, *words, command="replay").splitlines()
+    steps = [f"start {it['start']}" if "start" in it else f"report {it['report']} {it['status']}" for it in json.loads(document)["events"]]
+    assert steps == [it for it in trace[:-1] if not it.startswith("undo")]
+
+
+def test_steps_are_undone(page):
+    for _ in range(3):
+        page.value("document.getElementById('step').click(); await new Promise((it) => setTimeout(it, 50))")
+    page.until("return document.getElementById('said').textContent.includes('Started mark')")
+    page.value("document.getElementById('undo').click()")
+    page.until("return document.getElementById('said').textContent.includes('Took back the start of mark. May start: mark and loan.')")
+    page.value("document.getElementById('undo').click()")
+    page.until("return document.getElementById('said').textContent.includes('Took back the report of book. Running: book.')")
+    assert json.loads(events(page)) == {"events": [{"start": "book"}]}
+    page.value("document.getElementById('restart').click()")
+    page.until("return document.getElementById('said').textContent.includes('May start: book')")
+
+
+def test_headers_and_bodies_are_repeated(page, program, example, tmp_path):
+    page.value("""document.querySelector('[aria-label="Headers and body that loan is answered with"]').click()
+        const write = (label, text) => {
+          const field = document.querySelector(`[aria-label="${label} of the answer to loan"]`)
+          field.value = text
+          field.dispatchEvent(new Event('input'))
+        }
+        write('Headers', '{"Location": "Loans(1)"}')
+        write('Body', '{"Due": "2026-12-01", "n": 18446744073709551615}')""")
+    play(page)
+    found = response(page)
+    assert '"body":{"Due":"2026-12-01","n":18446744073709551615},"headers":{"location":"Loans(1)"},"id":"loan"' in found
+    assert found == printed(program, tmp_path, example("usual.json"), events(page))
+
+
+def test_headers_that_are_none_are_refused(page):
+    page.value("""const field = document.querySelector('[aria-label="Headers of the answer to book"]')
+        field.value = '[1]'
+        field.dispatchEvent(new Event('input'))""")
+    for _ in range(2):
+        page.value("document.getElementById('step').click(); await new Promise((it) => setTimeout(it, 50))")
+    assert "Headers must be a JSON object of strings." in page.value(SAID)
+
+
+def test_events_are_read(page, example):
+    read(page, example("recorded.json"))
+    assert "Accepted: a document of events" in page.text("second-verdict")
+    assert response(page).startswith('{"responses":[{"id":"book","status":200}')
+    assert page.value("return document.querySelectorAll('#timeline rect').length") == 4
+    read(page, '{"events": [{"start": "book"}]}')
+    assert "fault F66 Unfinished events" in page.text("second-verdict")
+    assert "Running: book." in page.value(SAID)
+
+
+def test_a_fault_of_events_is_marked(page, example):
+    read(page, example("too_soon.json"))
+    assert "fault S4 Waiting /events/3" in page.text("second-verdict")
+    marked = page.value("return document.querySelector('#second-editor mark.part').textContent")
+    assert marked == '{"start": "list"}'
+
+
+@pytest.mark.parametrize("text, marked", [('{"events', " "), ('{"outcomes": [}', "}"), ("", " "), ('{"events": [1]}', "1")])
+def test_what_is_no_document_is_refused(page, text, marked):
+    read(page, text)
+    assert page.text("second-verdict").startswith(f"Refused: fault {'F64' if '[1]' in text else 'F02'} ")
+    assert page.value("return document.querySelector('#second-editor mark.part').textContent") == marked
+
+
+def test_outcomes_are_replayed(page, program, example, tmp_path):
+    for name in ("lent.json", "not_lent.json"):
+        read(page, example(name))
+        assert response(page) == printed(program, tmp_path, example("usual.json"), example(name), command="replay")
+
+
+def test_responses_are_compared(page, example):
+    answer(page, "loan", 409)
+    play(page)
+    read(page, example("served.json"))
+    assert "Accepted: ok 4 responses" in page.text("second-verdict")
+    assert "3 requests were answered otherwise: mark, loan and list." in page.text("comparison")
+    read(page, example("unsound.json"))
+    assert "fault F75 UnsoundSuccess /requests/3" in page.text("second-verdict")
+    page.value("document.querySelector('#second-faults .link').click()")
+    assert page.value("""const { value, selectionStart, selectionEnd } = document.activeElement
+        return value.slice(selectionStart, selectionEnd)""").startswith('{"id": "list"')
+
+
+def test_numbers_of_bodies_stay_as_they_are(page):
+    write(page, '{"requests": [{"id": "a", "method": "get", "url": "A"}]}')
+    page.value("""const field = document.querySelector('[aria-label="Body of the answer to a"]')
+        field.value = '{"n": 1.50}'
+        field.dispatchEvent(new Event('input'))""")
+    play(page)
+    assert response(page) == '{"responses":[{"body":{"n": 1.50},"id":"a","status":200}]}'
+    page.value("document.getElementById('undo').click()")
+    page.until("return document.getElementById('said').textContent.includes('Took back the report')")

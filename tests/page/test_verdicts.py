@@ -1,0 +1,131 @@
+"""The page says of every document of the worked cases what the program says, and its scanner of JSON agrees on what is JSON."""
+
+import json
+import subprocess
+
+import pytest
+
+from support import pages
+from support.page import choose
+from support.program import ROOT
+from support.worked import CALLS
+
+MOST_SHORT = 100_000  # bytes of documents that are not slow
+
+OPEN = """const page = await window.page
+while (page.count <= BEFORE) await new Promise((it) => setTimeout(it, 1))
+return [page.count, page.SAID, document.getElementById('response-text')?.textContent]"""
+
+
+class Reader:
+    """Opens documents in the page, and returns what it says of them."""
+
+    def __init__(self, page, folder):
+        self.page, self.path = page, folder / "document.json"
+        self.count = page.value("return (await page).count")
+        self.batch = None
+
+    def open(self, field, data, said):
+        self.path.write_bytes(data)
+        self.page.open_file(field, self.path)
+        self.count, found, response = self.page.value(OPEN.replace("BEFORE", str(self.count)).replace("SAID", said))
+        return found, response
+
+    def check(self, data):
+        """The verdict on a batch."""
+        if data != self.batch:
+            self.batch = data
+            self.said, _ = self.open("file", data, "found.text")
+        return self.said
+
+    def read(self, data):
+        return self.open("second-file", data, "second.text")
+
+
+def output(program, folder, command, documents, *words):
+    """What the program prints of documents."""
+    names = []
+    for at, data in enumerate(documents):
+        names.append(folder / f"{at}.json")
+        names[-1].write_bytes(data)
+    done = subprocess.run([program, command, *names, *words], stdout=subprocess.PIPE, check=False)
+    assert done.returncode in (0, 1)
+    return done.stdout.decode().rstrip("\n")
+
+
+def short(data):
+    return len(data) <= MOST_SHORT
+
+
+@pytest.mark.parametrize("are_short", [True, pytest.param(False, marks=pytest.mark.slow)])
+def test_every_batch(page, program, tmp_path, are_short):
+    batches = list({it.documents[0]: None for it in CALLS if short(it.documents[0]) == are_short})
+    reader = Reader(page, tmp_path)
+    for data in batches:
+        assert reader.check(data) == output(program, tmp_path, "check", [data]), data[:200]
+    print(f"{len(batches)} batches")
+
+
+def test_every_second_document(page, program, tmp_path):
+    reader, count = Reader(page, tmp_path), 0
+    for call in CALLS:
+        width = call.options.get("width", 10_000)
+        if call.command not in ("match", "run", "replay") or not isinstance(width, int):
+            continue
+        batch, second = call.documents
+        if not (short(batch) and short(second)) or not reader.check(batch).startswith("ok "):
+            continue
+        choose(page, "stop", call.options.get("mode") == "stop")
+        choose(page, "order", call.options.get("order", "first"))
+        page.value(f"document.getElementById('width').value = '{width}'")
+        words = [*(["--stop"] if call.options.get("mode") == "stop" else []), *([] if call.command == "match" else ["--width", str(width)])]
+        if call.command == "replay":
+            words += ["--order", call.options.get("order", "first")]
+        wanted = output(program, tmp_path, call.command, [batch, second], *words)
+        found, response = reader.read(second)
+        about = (call.case.name, wanted, found)
+        if call.command == "match" or wanted.startswith("fault "):
+            # The page reads a document by what it is: one that names no kind is read as events.
+            assert found == wanted or not is_of(call.command, second), about
+        else:
+            assert response == wanted, about
+        count += 1
+    print(f"{count} second documents")
+
+
+def is_of(command, data):
+    """Whether a document is an object that names the kind that a command reads."""
+    try:
+        found = json.loads(data)
+    except ValueError:
+        return False
+    return isinstance(found, dict) and {"match": "responses", "run": "events", "replay": "outcomes"}[command] in found
+
+
+@pytest.mark.needs("node")
+def test_the_scanner_agrees_on_what_is_json(program, tmp_path):
+    """Of all batches it finds a place exactly if the program says F02, and the elements of the others are those of the JSON."""
+    documents = [it for it in {call.documents[0]: None for call in CALLS} if short(it)]
+    cases = []
+    for data in documents:
+        try:
+            text = data.decode()
+        except UnicodeDecodeError:
+            continue
+        verdict = output(program, tmp_path, "check", [data])
+        cases.append({"text": text, "isJson": "F02" not in verdict, "place": verdict.rpartition(" ")[2]})
+    (tmp_path / "cases.json").write_text(json.dumps(cases))
+    script = """
+        const { firstError } = require(process.argv[1] + '/page/json.js')
+        const { Places } = require(process.argv[1] + '/page/places.js')
+        const { isDeepStrictEqual } = require('node:util')
+        for (const { text, isJson, place } of JSON.parse(require('fs').readFileSync(process.argv[2]))) {
+          if ((firstError(text) === undefined) !== isJson) console.log('JSON', text.slice(0, 100))
+          const [, at] = /^.requests.(\\d+)$/.exec(place) ?? []
+          if (at === undefined || !isJson) continue
+          const { start, end } = new Places(text).of({ code: 'F10', place }).whole
+          if (!isDeepStrictEqual(JSON.parse(text.slice(start, end)), JSON.parse(text).requests[at])) console.log('place', text)
+        }"""
+    done = subprocess.run(["node", "-e", script, ROOT, tmp_path / "cases.json"], capture_output=True, text=True)
+    assert (done.stdout, done.stderr) == ("", "")
+    assert len(cases) > 200
