@@ -1,6 +1,6 @@
-"""Compares the options that the help of each command lists with README.md, the worked cases and the sources.
+"""Compares the options that the help of each command lists with docs/command-line.md, the worked cases and the sources.
 
-The table of commands of README has each command and each option, and no other option. For each option of
+The table of commands of that page has each command and each option, and no other option. For each option of
 each command there is a call in tests/cases/. `help` takes the commands that the program lists. And each
 name of names.rt is in the table of the commands and is read from the command line, which has no name
 of its own. The last line counts what was compared and what is missing.
@@ -20,14 +20,14 @@ from support.cases import CASES
 from support.helps import Texts, read_helps
 from support.program import add_program, ready
 
-README = os.path.join(ROOT, "README.md")
+PAGE = "docs/command-line.md"
 SOURCES = os.path.join(ROOT, "crates", "odb_batch", "src")
 HEAD = "| command or option | what it prints or does |"
 
 
 def table():
     """The lines of the table of commands."""
-    with open(README, encoding="utf-8") as file:
+    with open(os.path.join(ROOT, PAGE), encoding="utf-8") as file:
         _, _, rest = file.read().partition(HEAD + "\n")
     return rest.partition("\n\n")[0].splitlines()[1:]
 
@@ -38,16 +38,16 @@ def words_of(line):
     return [word for quoted in re.findall("`([^`]*)`", first) for word in quoted.split()]
 
 
-def readme_faults(program, commands):
+def page_faults(program, commands):
     """The commands and options that the table leaves out, and those that it has alone."""
     shown = {word for line in table() for word in words_of(line)}
     of_all = [program, *commands.values()]
     listed = {name for help_ in of_all for option in help_.options for name in option.names} | set(commands)
     long = {option.long for help_ in of_all for option in help_.options} | set(commands)
     for name in sorted(long - shown):
-        yield f"README.md: the table of commands has no {name}"
+        yield f"{PAGE}: the table of commands has no {name}"
     for name in sorted(word for word in shown - listed if word.startswith("-")):
-        yield f"README.md: {name} is not an option of any command"
+        yield f"{PAGE}: {name} is not an option of any command"
 
 
 def given(command):
@@ -94,10 +94,10 @@ def source_faults():
 
 
 def main():
-    parser = argparse.ArgumentParser(description="Compares the options of the help with README.md and the cases.")
+    parser = argparse.ArgumentParser(description="Compares the options of the help with docs/command-line.md and the cases.")
     add_program(parser.add_argument)
     program, commands = read_helps(Texts(ready(parser.parse_args().program)))
-    found = [*readme_faults(program, commands), *case_faults(commands), *name_faults(commands), *source_faults()]
+    found = [*page_faults(program, commands), *case_faults(commands), *name_faults(commands), *source_faults()]
     print(*found, sep="\n", end="\n" if found else "")
     count = sum(len(it.options) for it in commands.values())
     print(f"{len(commands)} commands, {count} options, {len(found)} missing")

@@ -2,22 +2,35 @@
 
 In a block that begins ```console, a line that begins with `$ ` is a command, and the lines up to the
 next command or the end of the block are what it prints, on standard output and standard error.
-Commands run by bash at the top of the repository; where one calls bin/odb_batch, the program has to be
-built, since that would build it in silence here. Where one calls python3, that is this Python, it finds
+Commands run by bash at the top of the repository; one that ends with ` &` is a server, which runs until
+the end of its page, and the next command waits until it answers. Where one calls bin/odb_batch, the program
+has to be built, since that would build it in silence here. Where one calls python3, that is this Python, it finds
 the package, and the library has to be built, or named by ODB_BATCH_LIBRARY. A block that begins ```rust
 or ```python begins with a comment that names a file, as `// crates/NAME/src/tests.rt` or
 `# examples/NAME.py`, and shows lines of that file: what follows the comment has to appear there word for
 word, but for an indent that all its lines have there. Without an argument it reads PAGES.
 """
 
+import contextlib
+import importlib.util
 import os
 import re
+import socket
 import subprocess
 import sys
 import textwrap
+import time
 
 ROOT = os.path.dirname(os.path.dirname(os.path.realpath(__file__)))
-PAGES = ("README.md", "docs/client.md", "docs/library.md", "docs/testing.md", "examples/README.md")
+PAGES = (
+    "README.md",
+    "docs/client.md",
+    "docs/command-line.md",
+    "docs/library.md",
+    "docs/testing.md",
+    "docs/tutorial.md",
+    "examples/README.md",
+)
 # The comments that name a file, by the kind of their block.
 NAMED = {"rust": r"// (\S+/\S+\.rt)", "python": r"# (\S+/\S+\.py)"}
 sys.dont_write_bytecode = True
@@ -91,29 +104,59 @@ def surroundings(commands):
     }
 
 
+def run_server(command, page, environment):
+    """Starts a server in the background, and waits until it answers at the port of localhost that the page names."""
+    server = subprocess.Popen(["bash", "-c", "exec " + command[:-2]], cwd=ROOT, env=environment, start_new_session=True)
+    port, end = int(re.search(r"localhost:(\d+)", page)[1]), time.monotonic() + 30
+    while server.poll() is None and time.monotonic() < end:
+        with contextlib.suppress(OSError), socket.create_connection(("localhost", port), timeout=1):
+            break
+        time.sleep(0.1)
+    return server
+
+
+def printed(command, environment):
+    """The lines that a command prints."""
+    run = subprocess.run(
+        ["bash", "-c", command],
+        cwd=ROOT,
+        env=environment,
+        stdin=subprocess.DEVNULL,
+        stdout=subprocess.PIPE,
+        stderr=subprocess.STDOUT,
+        text=True,
+    )
+    return run.stdout.splitlines()
+
+
+def count_differences(path, page, cases):
+    """How many commands of a page print something else than it shows."""
+    environment, failed = surroundings([command for _, command, _ in cases]), 0
+    with contextlib.ExitStack() as servers:
+        for number, command, wanted in cases:
+            if command.endswith(" &"):
+                servers.callback(run_server(command, page, environment).kill)
+                continue
+            found = printed(command, environment)
+            if found != wanted:
+                failed += 1
+                print(f"{path}:{number}: {command}")
+                print("  shown:   " + "\n           ".join(wanted))
+                print("  printed: " + "\n           ".join(found))
+    return failed
+
+
 def differences(path):
     """Compares one page; returns how many of its commands and excerpts differ, of how many."""
     with open(os.path.join(ROOT, path), encoding="utf-8") as file:
         page = file.read()
     cases, shown = examples(page), excerpts(page)
+    if any(command.endswith(" &") for _, command, _ in cases) and importlib.util.find_spec("flask") is None:
+        print(f"{path}: skipped: flask is not installed")
+        return 0, len(cases)
     if any("bin/odb_batch" in command for _, command, _ in cases):
         ready(PROGRAM)
-    environment, failed = surroundings(command for _, command, _ in cases), 0
-    for number, command, wanted in cases:
-        run = subprocess.run(
-            ["bash", "-c", command],
-            cwd=ROOT,
-            env=environment,
-            stdin=subprocess.DEVNULL,
-            stdout=subprocess.PIPE,
-            stderr=subprocess.STDOUT,
-            text=True,
-        )
-        if run.stdout.splitlines() != wanted:
-            failed += 1
-            print(f"{path}:{number}: {command}")
-            print("  shown:   " + "\n           ".join(wanted))
-            print("  printed: " + "\n           ".join(run.stdout.splitlines()))
+    failed = count_differences(path, page, cases)
     print(f"{path}: {len(cases) - failed} commands as shown, {failed} not")
     differ = [it for it in shown if not stands_in(it[1], it[2])]
     for number, source, _ in differ:

@@ -1,4 +1,4 @@
-"""What README.md and docs/service.md show: their commands, run, and their excerpts, compared."""
+"""What docs/service.md shows: its commands, run, and its excerpts, compared."""
 
 import json
 import os
@@ -26,15 +26,9 @@ def free_port():
         return str(listening.getsockname()[1])
 
 
-def commands_of_readme():
-    """The commands of the paragraph on the service; one may be broken at the end of a line."""
-    paragraph = next(it for it in page("README.md").split("\n\n") if "docs/service.md" in it)
-    return [" ".join(it.split()) for it in re.findall("`([^`]+)`", paragraph) if " " in it.strip()]
-
-
-def test_the_pages_have_the_same_commands():
-    shown = re.search("```sh\n(bin/odb_library .*?)```", page("docs", "service.md"), re.DOTALL)[1]
-    assert commands_of_readme() == shown.splitlines()
+def commands_of_page():
+    """The commands by which a clone starts the service and asks it."""
+    return re.search("```sh\n(bin/odb_library .*?)```", page("docs", "service.md"), re.DOTALL)[1].splitlines()
 
 
 def answers(words, until, ask, **variables):
@@ -60,8 +54,8 @@ GOOD = {"book": 200, "mark": 204, "loan": 201, "list": 200}
 
 
 @pytest.mark.needs("curl")
-def test_the_commands_of_the_readme_answer_the_batch():
-    build, start, ask = commands_of_readme()
+def test_the_commands_of_the_page_answer_the_batch():
+    build, start, ask = commands_of_page()
     assert build == "bin/odb_library python/odb_batch"  # the library of the tests is in another folder
     assert start.startswith("PYTHONPATH=python ")
     port = free_port()
@@ -74,7 +68,7 @@ def test_gunicorn_by_the_command_of_the_page_answers_the_batch(tmp_path):
     start = re.search("```sh\nPYTHONPATH=python (gunicorn .*?)\n```", page("docs", "service.md"))[1]
     port = free_port()
     words = [*start.split(), "--bind", f"127.0.0.1:{port}", "--workers", "1"]
-    ask = commands_of_readme()[2].replace("localhost:8080", f"127.0.0.1:{port}")
+    ask = commands_of_page()[2].replace("localhost:8080", f"127.0.0.1:{port}")
     assert answers(words, " answers", ask, LIBRARY=str(tmp_path / "library.sqlite")) == GOOD
 
 
