@@ -80,6 +80,14 @@ def pytest_testnodedown(node):
     node.config.unbuilt = getattr(node, "workeroutput", {}).get(UNBUILT)
 
 
+@pytest.hookimpl(optionalhook=True)
+def pytest_xdist_make_scheduler(config, log):
+    """Shares the tests among the workers of `-n` so that few services are started."""
+    from support.sharing import BySharing
+
+    return BySharing(config, log) if config.getvalue("dist") == "load" else None
+
+
 def pytest_sessionfinish(session):
     if getattr(session.config, UNBUILT, None):
         session.exitstatus = pytest.ExitCode.USAGE_ERROR

@@ -17,10 +17,11 @@ const NEWLINE = 10
 const NONE = ''
 
 // The names of the options of a call.
-const OF_MATCH = ['mode']
-const OF_RUN = [...OF_MATCH, 'width']
+const OF_REST = ['mode']
+const OF_MATCH = [...OF_REST, 'strict']
+const OF_RUN = ['mode', 'width']
 const OF_REPLAY = [...OF_RUN, 'order', 'trace']
-const OF_OUTPUT = [...OF_REPLAY, 'form']
+const OF_OUTPUT = [...OF_REPLAY, 'strict', 'form']
 
 /** The number of a named option. */
 function numberOf(names, what, value) {
@@ -38,11 +39,13 @@ function optionsOf(options, names) {
 }
 
 /** The numbers of the options. */
-function numbersOf({ mode = 'continue', width = MAX_WIDTH, order = 'first', trace = false, form = 'lines' }) {
+function numbersOf(options) {
+  const { mode = 'continue', width = MAX_WIDTH, order = 'first', trace = false, strict = false, form = 'lines' } = options
   if (!Number.isInteger(width) || width < 1 || width > MAX_WIDTH) {
     throw new RangeError(`width must be a whole number from 1 to ${MAX_WIDTH}, not ${String(width)}`)
   }
-  return [numberOf(MODES, 'mode', mode), width, numberOf(ORDERS, 'order', order), trace ? 1 : 0, numberOf(FORMS, 'form', form)]
+  const flags = [trace, strict].map((it) => (it ? 1 : 0))
+  return [numberOf(MODES, 'mode', mode), width, numberOf(ORDERS, 'order', order), ...flags, numberOf(FORMS, 'form', form)]
 }
 
 /** The pair of the status and the text of a command. */
@@ -91,7 +94,7 @@ function match(batch, responses, options = {}) {
 }
 
 function rest(batch, responses, options = {}) {
-  return answer('rest', batch, responses, optionsOf(options, OF_MATCH)).subarray(0, -1)
+  return answer('rest', batch, responses, optionsOf(options, OF_REST)).subarray(0, -1)
 }
 
 function run(batch, events, options = {}) {
@@ -116,13 +119,13 @@ function replay(batch, outcomes, options = {}) {
 }
 
 function output(command, batch, second, options = {}) {
-  const { mode, width, order, trace, form = 'json' } = optionsOf(options, OF_OUTPUT)
+  const { mode, width, order, trace, strict, form = 'json' } = optionsOf(options, OF_OUTPUT)
   const takesTwo = numberOf(COMMANDS, 'command', command) > 2
   if (takesTwo !== (second !== undefined && second !== null)) {
     throw new TypeError(`${command} takes ${takesTwo ? 'a' : 'no'} second document`)
   }
   const given = takesTwo ? eventsOf(second) : NONE
-  const [status, text] = call(command, batch, given, { mode, width, order, trace, form })
+  const [status, text] = call(command, batch, given, { mode, width, order, trace, strict, form })
   if (status !== REFUSED) settle(command, status, text)
   return { accepted: status === DONE, text }
 }

@@ -35,13 +35,19 @@ export interface PlannedRequest {
   needs: string[]
 }
 
-/** Options of a match, and of the rest of a batch. In each call an option with another name throws a `TypeError`. */
-export interface MatchOptions {
+/** Options of the rest of a batch, and of a match. In each call an option with another name throws a `TypeError`. */
+export interface RestOptions {
   /**
    * `stop` is for a service that stops at its first error: if a response has a status from 400 to 599, each request
    * without a response is read as answered 424; `continue` is the default.
    */
   mode?: 'continue' | 'stop'
+}
+
+/** Options of a match. */
+export interface MatchOptions extends RestOptions {
+  /** Whether some finished run has to answer the statuses of the responses, too (F76 to F78). */
+  strict?: boolean
 }
 
 /** Options of a run. */
@@ -155,7 +161,7 @@ export function match(batch: Document, responses: Document, options?: MatchOptio
  * Throws a {@link Fault} also if what a URL refers to was answered without a `Location` that the URL of a request may have
  * (F90), and a `RangeError` for a mode that is none of its values.
  */
-export function rest(batch: Document, responses: Document, options?: MatchOptions): Bytes
+export function rest(batch: Document, responses: Document, options?: RestOptions): Bytes
 
 /**
  * Runs a batch by recorded events, and returns the response document, as JSON without a newline. Throws a
@@ -205,7 +211,7 @@ export interface Output {
   text: Bytes
 }
 
-export interface OutputOptions extends ReplayOptions {
+export interface OutputOptions extends ReplayOptions, MatchOptions {
   /** `json`, the default, for one line of JSON, as `odb_batch --json` prints, or `lines`. */
   form?: 'json' | 'lines'
 }
@@ -233,7 +239,8 @@ export function output(
 export interface LiveOptions extends RunOptions {
   /**
    * What has happened already, in order; nothing is the default. A gateway that keeps its events goes on
-   * from there after it was stopped.
+   * from there after it was stopped. They are at most 16,777,216 bytes as a document, with only whole
+   * numbers. For more, open the run without events and make the calls again, in their order.
    */
   events?: Events
 }

@@ -12,7 +12,7 @@ const COMMANDS = [
   ['odb_check_as', 'form'],
   ['odb_plan_as', 'form'],
   ['odb_canon_as', 'form'],
-  ['odb_match_with', 'mode', 'form'],
+  ['odb_match_with', 'mode', 'strict', 'form'],
   ['odb_run_as', 'mode', 'width', 'form'],
   ['odb_replay_as', 'mode', 'width', 'order', 'trace', 'form'],
   ['odb_rest', 'mode', 'form'],
@@ -140,9 +140,9 @@ function numbersOf(it, at, count) {
 /** The calls that keep nothing. `use` does work with an instance; `seed` is that of the tables of names. */
 function commandsOf(use, seed) {
   return {
-    call(command, batch, second, mode, width, order, trace, form) {
+    call(command, batch, second, mode, width, order, trace, strict, form) {
       const [name, ...taken] = COMMANDS[command]
-      const numbers = taken.map((it) => ({ mode, width, order, trace, form })[it])
+      const numbers = taken.map((it) => ({ mode, width, order, trace, strict, form })[it])
       const documents = command < TAKES_ONE ? [batch] : [batch, second]
       const answer = use((it) => it.with((take) => {
         const given = it.put(take, documents)

@@ -1,7 +1,7 @@
 /* The addon of odb_batch for Node, by Node-API: the commands as one function, what is to be sent (requests.c), and
  * live runs (runs.c).
  *
- *   call(command, batch, second, mode, width, order, trace, form) -> [status, text]
+ *   call(command, batch, second, mode, width, order, trace, strict, form) -> [status, text]
  *
  * `command` is the place of a command in `commands`, `batch` and `second` are Uint8Arrays, and the other
  * arguments numbers; what a command does not take is ignored. commands.js makes the calls of it. */
@@ -10,13 +10,13 @@
 
 #include "addon.h"
 
-#define ARGUMENTS 8
+#define ARGUMENTS 9
 
 #define MORE 256 /* how much longer than its documents a text is thought to be */
 
 /* What the function is passed. */
 struct given {
-    uint32_t command, mode, width, order, trace, form;
+    uint32_t command, mode, width, order, trace, strict, form;
     struct bytes batch, second;
     uint64_t seed;
 };
@@ -34,7 +34,8 @@ static uint32_t make(void *given, struct bytes text, size_t *length)
     case 2:
         return odb_canon_as(a.at, a.size, it->form, text.at, text.size, length, it->seed);
     case 3:
-        return odb_match_with(a.at, a.size, b.at, b.size, it->mode, it->form, text.at, text.size, length, it->seed);
+        return odb_match_with(a.at, a.size, b.at, b.size, it->mode, it->strict, it->form,
+                              text.at, text.size, length, it->seed);
     case 4:
         return odb_run_as(a.at, a.size, b.at, b.size, it->mode, it->width, it->form,
                           text.at, text.size, length, it->seed);
@@ -126,7 +127,8 @@ static napi_value call(napi_env env, napi_callback_info info)
         || napi_get_value_uint32(env, it[4], &given.width) != napi_ok
         || napi_get_value_uint32(env, it[5], &given.order) != napi_ok
         || napi_get_value_uint32(env, it[6], &given.trace) != napi_ok
-        || napi_get_value_uint32(env, it[7], &given.form) != napi_ok)
+        || napi_get_value_uint32(env, it[7], &given.strict) != napi_ok
+        || napi_get_value_uint32(env, it[8], &given.form) != napi_ok)
         return wrong_arguments(env);
     given.seed = instance_of(env)->seed;
     return written(env, make, &given, given.batch.size + given.second.size + MORE);

@@ -50,8 +50,9 @@ PLACES = {
     "PATH": ("alone/audit.py", "tools/odb_batch"),
 }
 
+BY_PARALLEL = [pytest.mark.needs("parallel"), pytest.mark.slow]
 each_way = pytest.mark.parametrize(
-    "way", [pytest.param(["--own"], id="own"), pytest.param([], id="parallel", marks=pytest.mark.needs("parallel"))]
+    "way", [pytest.param(["--own"], id="own"), pytest.param([], id="parallel", marks=BY_PARALLEL)]
 )
 
 

@@ -28,6 +28,7 @@ def follows_rules(program, trial):
 @given(trial=trials("check"))
 @example(trial=Trial("check", {"json": True}, [b'{"requests":[]}\xff'], by_input=True))
 @example(trial=Trial("check", {}, [b""]))
+@example(trial=Trial("check", {"all": True}, [b'{"requests":[{"id":"a"},7]}']))
 def test_check(program, trial):
     follows_rules(program, trial)
 

@@ -19,7 +19,10 @@ LONG_BYTES = 16_777_216
 BATCH = b'{"requests":[{"id":"1","method":"get","url":"A"}]}'
 ACCEPTED = b"ok 1 requests 0 groups\n"
 TOO_LONG = b"fault F01 TooLong batch\n"
-OPTIONS = {"plan": ("json", "full"), "replay": ("json", "stop", "width", "order"), "run": ("json", "stop", "width")}
+OPTIONS = {
+    "check": ("json", "all"), "plan": ("json", "full"), "replay": ("json", "stop", "width", "order"),
+    "run": ("json", "stop", "width"),
+}  # fmt: skip
 
 
 @st.composite
@@ -35,7 +38,7 @@ def lines(draw, command, options):
 def logs(draw, command):
     """The words of the options, and the lines of a log."""
     options = draw(options_of(*OPTIONS.get(command, ["json"])))
-    if command in ("plan", "match"):
+    if command in ("plan", "match") or options.get("all"):
         options["json"] = True  # as their lines are
     return words_of(options), draw(st.lists(lines(command, options), min_size=1, max_size=25))
 
@@ -45,7 +48,8 @@ def wanted(program, command, words, line):
     try:
         return call(program, [command, *words], rules_of_runs.documents_of(command, line))
     except rules.Fault as fault:
-        return fault.text("--json" in words).encode(), 1
+        text = rules.faults_text([fault], True) if "--all" in words else fault.text("--json" in words)
+        return text.encode(), 1
 
 
 def numbered(part, status, number, words):

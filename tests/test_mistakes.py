@@ -7,6 +7,9 @@ from hypothesis import strategies as st
 from support.calls import trials
 from support.mistakes import MISTAKES, planted
 
+# Each rule is asked by the quick tests; these ask whether those would find it broken.
+pytestmark = pytest.mark.slow
+
 # The first example found is enough: it is not made smaller.
 EXAMPLES = settings(settings.get_profile("gate"), phases=[Phase.generate])
 

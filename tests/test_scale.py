@@ -90,7 +90,7 @@ def by_dask(folder):
 WAYS = [
     pytest.param(by_one, 1, id="one-process"),
     pytest.param(by_parallel, 0, id="parallel", marks=pytest.mark.needs("parallel")),
-    pytest.param(by_dask, 0, id="dask"),
+    pytest.param(by_dask, 0, id="dask", marks=pytest.mark.slow),
 ]
 
 

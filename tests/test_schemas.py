@@ -52,7 +52,8 @@ def look_at_result(program, name, command, *documents):
     """Checks what a command prints as JSON: a result, or the fault of a document."""
     text, status = call(program, [*command.split(), "--json"], documents)
     assert status in (0, 1), text
-    look("fault" if status else name, json.loads(text))
+    refused = "faults" if "--all" in command else "fault"
+    look(refused if status else name, json.loads(text))
 
 
 @share(40)
@@ -75,6 +76,7 @@ def test_results_and_second_documents(program, recorded):
 @given(batch=batches(75))
 def test_results_of_damaged_batches(program, batch):
     look_at_result(program, "counts", "check", batch)
+    look_at_result(program, "counts", "check --all", batch)
     look_at_result(program, "plan", "plan", batch)
     look_at_result(program, "full_plan", "plan --full", batch)
 
@@ -87,6 +89,7 @@ def bytes_of(name):
 @pytest.mark.parametrize("name", sorted(it for it in os.listdir(EXAMPLES) if it.endswith(".json")))
 def test_examples(program, name):
     look_at_result(program, "counts", "check", bytes_of(name))
+    look_at_result(program, "counts", "check --all", bytes_of(name))
     look_at_result(program, "full_plan", "plan --full", bytes_of(name))
     for command, form in SECONDS.items():
         look_at_result(program, form, command, bytes_of("usual.json"), bytes_of(name))

@@ -109,7 +109,7 @@ def command_for(fault, document):
     if second == "outcomes":
         return ["replay", "batch", "document"]
     if second == "responses":
-        return ["match", "batch", "document"]
+        return ["match", "batch", "document", *(["--strict"] if fault.code in ("F76", "F77", "F78") else [])]
     if second == "events":
         return ["run", "batch", "document", *(["--stop"] if fault.code == "S2" else [])]
     return ["canon" if fault.code == "F50" else "check", "document"]

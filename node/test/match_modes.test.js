@@ -1,10 +1,10 @@
 'use strict'
 
-// The modes of a match: a service that stops at its first error may leave out responses.
+// The options of a match: a service that stops at its first error may leave out responses, and a strict match asks for a run.
 
 const assert = require('node:assert/strict')
 const { test } = require('node:test')
-const { match, output } = require('..')
+const { match, output, rest } = require('..')
 
 const BATCH = {
   requests: [
@@ -46,4 +46,25 @@ test('prints the match of a service that stops', () => {
   const { accepted, text } = output('match', BATCH, responses({ book: 404 }), { mode: 'stop', form: 'lines' })
   assert.deepEqual([accepted, text.toString()], [true, 'ok 3 responses\nbook 404\nloan 424\nlist 424\n'])
   assert.equal(output('match', BATCH, responses({ book: 404 })).accepted, false)
+})
+
+test('asks for a run if it is strict', () => {
+  const two = { requests: [BATCH.requests[0], { id: 'list', dependsOn: ['book'], method: 'get', url: 'Loans' }] }
+  const group = { requests: ['a', 'b'].map((id) => ({ id, atomicityGroup: 'g', method: 'post', url: 'Loans' })) }
+  const parted = { responses: [['a', 409], ['b', 201]].map(([id, status]) => ({ id, atomicityGroup: 'g', status })) }
+  const early = responses({ book: 102, list: 424 })
+  const unstarted = responses({ book: 404, list: 404 })
+  for (const [batch, document, message] of [
+    [two, early, 'F76 NotFinal /requests/0'],
+    [group, parted, 'F77 PartialGroup /requests/1'],
+    [two, unstarted, 'F78 NotStarted /requests/1'],
+  ]) {
+    assert.equal(match(batch, document).size, 2)
+    assert.deepEqual(match(batch, document, { strict: false }), match(batch, document))
+    assert.throws(() => match(batch, document, { strict: true }), { name: 'Fault', message })
+    assert.equal(output('match', batch, document, { strict: true }).accepted, false)
+  }
+  const left = match(two, responses({ book: 404 }), { mode: 'stop', strict: true })
+  assert.deepEqual([...left], [['book', 404], ['list', 424]])
+  assert.throws(() => rest(two, unstarted, { strict: true }), TypeError)
 })

@@ -307,11 +307,11 @@ test('forgotten runs are closed in the turn of the event loop that opens others'
     const { Run } = require(${JSON.stringify(require.resolve('..'))})
     const requests = Array.from({ length: 2000 }, (_, i) => ({ id: 'r' + i, method: 'get', url: 'X' }))
     const batch = Buffer.from(JSON.stringify({ requests }))
-    for (let i = 0; i < 1500; i++) new Run(batch)
+    for (let i = 0; i < 400; i++) new Run(batch)
     console.log(process.memoryUsage().rss)`
   const most = Number(execFileSync(process.execPath, ['-e', code]))
-  // All of them hold more than 900 MB.
-  assert.ok(most < 450e6, `${most} bytes`)
+  // All of them hold more than 350 MB.
+  assert.ok(most < 200e6, `${most} bytes`)
 })
 
 test('a forgotten run is closed when it is collected', () => {

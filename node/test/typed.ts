@@ -13,7 +13,7 @@ const events: RunEvent[] = [{ step: 'start', id: 'a' }, { step: 'report', id: 'a
 const counts: Counts = check(documents[0])
 const planned: PlannedRequest[] = plan(batch)
 const statuses: Map<string, number> = match(batch, run(batch, events, { mode: 'stop', width: 2 }))
-const stopped: Map<string, number> = match(batch, '', { mode: 'stop' })
+const stopped: Map<string, number> = match(batch, '', { mode: 'stop', strict: true })
 const left: Uint8Array = rest(batch, '', { mode: 'stop' })
 const sent: Request[] = [...requests(batch), new Run(batch).request('a')]
 const lengths: number[] = sent.map(({ body, rest, reference }) => (body?.length ?? 0) + rest.length + (reference ?? '').length)

@@ -205,7 +205,7 @@ def canon(batch: Document) -> bytes:
     return answer("odb_canon", batch)[:-1]
 
 
-def match(batch: Document, responses: Document, *, mode: Mode = "continue") -> Dict[str, int]:
+def match(batch: Document, responses: Document, *, mode: Mode = "continue", strict: bool = False) -> Dict[str, int]:
     """Matches the response document of a service against a batch.
 
     Args:
@@ -213,6 +213,8 @@ def match(batch: Document, responses: Document, *, mode: Mode = "continue") -> D
         responses: The response document of the service.
         mode: ``"continue"``, or ``"stop"`` for a service that stops at its first error: if a response has a
             status from 400 to 599, each request without a response is read as answered 424.
+        strict: Whether some finished run has to answer the statuses, too (F76 to F78): each is from 200 to 599; of
+            a group all are from 200 to 299 or none is; and any but 424 is of a request that can have started.
 
     Returns:
         The status of the response to each request, by its id, in the order of the batch.
@@ -222,7 +224,7 @@ def match(batch: Document, responses: Document, *, mode: Mode = "continue") -> D
         ValueError: The mode is not one of its values.
         MemoryError: An allocation failed.
     """
-    options = (_mode_number(mode), FORMS.index("lines"))
+    options = (_mode_number(mode), int(bool(strict)), FORMS.index("lines"))
     lines = answer("odb_match_with", batch, responses, options=options).decode().splitlines()[1:]
     return {id: int(status) for id, status in (line.split(" ") for line in lines)}
 
@@ -328,6 +330,7 @@ def output(
     mode: Mode = "continue",
     width: int = MAX_WIDTH,
     trace: bool = False,
+    strict: bool = False,
 ) -> Output:
     """Returns the text that a command prints, to be passed on: a fault is a text, too, and is not raised.
 
@@ -339,6 +342,7 @@ def output(
             text, a response, a trace and a rest are the same in both.
         order, mode, width, trace: The options of :func:`replay`, of which ``run`` takes mode and width, and
             ``match`` and ``rest`` the mode.
+        strict: That of :func:`match`.
 
     Raises:
         ValueError: The command, or an option that it takes, has a value that it may not have.
@@ -350,6 +354,8 @@ def output(
     numbers: Tuple[int, ...] = policy(mode, width) if command in ("run", "replay") else ()
     if command in _OF_MODE:
         numbers = (_mode_number(mode),)
+    if command == "match":
+        numbers = (*numbers, int(bool(strict)))
     if command == "replay":
         numbers = (*numbers, _number(ORDERS, "order", order), int(bool(trace)))
     given = (bytes_of(batch),) if second is None else (bytes_of(batch), events_of(second))

@@ -209,6 +209,21 @@ EXPLANATIONS = {
         "request must not be performed (OData Protocol 4.01, section 11.7). The service ignored dependsOn;\n"
         "it has to answer 424."
     ),
+    "F76": (
+        "With --strict: the status of the response is below 200. A run ends each request with a final status, from 200 to 599, and 100\n"
+        "to 199 only say that more will come (OData JSON Format 4.01, section 19.5). The service answered too early."
+    ),
+    "F77": (
+        "With --strict: the response is 2xx, and the response to another request of its group is not. A group succeeds or is undone as a\n"
+        "whole (OData JSON Format 4.01, section 19.1), and what is undone is answered 424. The service did not undo the request, or\n"
+        "answered the success that it had before."
+    ),
+    "F78": (
+        "With --strict: the response is not 424, and the request cannot have started. Something outside of its group that it depends on\n"
+        "has a response that is not 2xx; or something in its group has one that is neither 2xx nor 424, or cannot have started itself.\n"
+        "Such a request must not be performed (OData Protocol 4.01, section 11.7): it is answered 424. The service performed it anyway,\n"
+        "or answers another status than 424 for what it skipped."
+    ),
     "F80": (
         "The request was started, and the service has no outcome for it; in replay, the record has none with\n"
         "its id. Requests that are never started need none. Add the outcome to the record."

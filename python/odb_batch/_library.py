@@ -3,9 +3,12 @@
 import ctypes
 import os
 import secrets
+import sys
 from typing import Any, Callable, Dict, List, Tuple
 
-NAME = "libodb_batch.so.0"
+# Its name where it is not that of Linux.
+_NAMES = {"win32": "odb_batch.dll", "darwin": "libodb_batch.dylib"}
+NAME = _NAMES.get(sys.platform, "libodb_batch.so.0")
 VARIABLE = "ODB_BATCH_LIBRARY"
 
 DONE, REFUSED, WRONG_OPTION, OUT_OF_MEMORY, SMALL_BUFFER = 0, 1, 2, 4, 5
@@ -47,7 +50,7 @@ _PARAMETERS: Dict[str, List[Any]] = {
     "odb_plan_as": [*_BYTES, *_NUMBER, *_SEEDED],
     "odb_canon_as": [*_BYTES, *_NUMBER, *_SEEDED],
     "odb_match_as": [*_BYTES, *_BYTES, *_NUMBER, *_SEEDED],
-    "odb_match_with": [*_BYTES, *_BYTES, *_NUMBER * 2, *_SEEDED],
+    "odb_match_with": [*_BYTES, *_BYTES, *_NUMBER * 3, *_SEEDED],
     "odb_rest": [*_BYTES, *_BYTES, *_NUMBER * 2, *_SEEDED],
     "odb_run_as": [*_BYTES, *_BYTES, *_NUMBER * 3, *_SEEDED],
     "odb_replay_as": [*_BYTES, *_BYTES, *_NUMBER * 5, *_SEEDED],

@@ -76,7 +76,8 @@ class Run:
         mode: ``"continue"``, or ``"stop"`` to start nothing more after a status from 400 to 599.
         width: How many requests may run at once, from 1 to 10,000.
         events: What has happened already, in order: a document, or starts and reports. A gateway that
-            keeps them goes on from there after it was stopped.
+            keeps them goes on from there after it was stopped. They are at most 16,777,216 bytes as a document, with
+            only whole numbers. For more, open the run without events and make the calls again, in their order.
 
     Raises:
         Fault: A document is refused, or an event may not come.

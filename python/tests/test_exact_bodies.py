@@ -86,6 +86,19 @@ class ExactBodies(unittest.TestCase):
             Run(BATCH, events=[Start("a"), Report("a", 200, None, 9.99)])
         self.assertEqual(raised.exception.code, "F63")
 
+    def test_takes_more_than_a_document_of_events_can_hold(self):
+        batch = {"requests": [{"id": id, "method": "get", "url": "X"} for id in "ab"]}
+        text = b'"' + b"x" * 9_000_000 + b'"'
+        events = [b'{"start":"%s"},{"report":"%s","status":200,"body":%s}' % (id, id, text) for id in (b"a", b"b")]
+        with self.assertRaises(Fault) as raised:
+            Run(batch, events=b'{"events":[' + b",".join(events) + b"]}")
+        self.assertEqual(raised.exception.code, "F01")
+        with Run(batch) as live:
+            for id in "ab":
+                live.start(id)
+                live.report(id, 200, None, text)
+            self.assertEqual(live.response().count(text), 2)
+
 
 if __name__ == "__main__":
     unittest.main()

@@ -1,4 +1,4 @@
-"""The modes of a match: a service that stops at its first error may leave out responses."""
+"""The options of a match: a service that stops at its first error may leave out responses, and a strict match asks for a run."""
 
 import json
 
@@ -62,3 +62,34 @@ def test_prints_the_match_of_a_service_that_stops(form):
     else:
         assert [it["status"] for it in json.loads(text)["responses"]] == [404, 424, 424]
     assert not output("match", BATCH, responses(book=404), form=form).accepted
+
+
+@pytest.mark.parametrize(
+    "document, fault",
+    [
+        (responses(book=102, loan=424, list=424), "F76 NotFinal /requests/0"),
+        (responses(book=404, loan=424, list=404), "F78 NotStarted /requests/2"),
+        (responses(book=404, loan=409, list=424), "F78 NotStarted /requests/1"),
+    ],
+)
+def test_asks_for_a_run_if_it_is_strict(document, fault):
+    grouped = {"responses": [dict(it, atomicityGroup="lend") if it["id"] == "loan" else it for it in document["responses"]]}
+    assert match(BATCH, grouped) == match(BATCH, grouped, strict=False)
+    with pytest.raises(Fault) as raised:
+        match(BATCH, grouped, strict=True)
+    assert str(raised.value) == fault
+    assert [output("match", BATCH, grouped, strict=strict).accepted for strict in (False, True)] == [True, False]
+
+
+def test_asks_for_all_or_none_of_a_group_if_it_is_strict():
+    batch = {"requests": [{"id": id, "atomicityGroup": "g", "method": "post", "url": "Loans"} for id in "ab"]}
+    parted = {"responses": [{"id": id, "atomicityGroup": "g", "status": status} for id, status in (("a", 409), ("b", 201))]}
+    assert match(batch, parted) == {"a": 409, "b": 201}
+    with pytest.raises(Fault) as raised:
+        match(batch, parted, strict=True)
+    assert raised.value.code == "F77"
+
+
+def test_accepts_what_a_run_answers_if_it_is_strict():
+    left = responses(book=404)
+    assert match(BATCH, left, mode="stop", strict=True) == {"book": 404, "loan": 424, "list": 424}

@@ -12,6 +12,12 @@ long live_blocks;
 static long left;
 static int refuses, refuses_rest, has_refused;
 
+/* What the C library has allocated before main is not counted. */
+__attribute__((constructor)) static void begin(void)
+{
+    live_blocks = 0;
+}
+
 void refuse_after(long count, int rest)
 {
     left = count;

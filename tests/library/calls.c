@@ -22,7 +22,7 @@ struct document {
 /* What a call is passed: its documents, its options and its seed. */
 struct arguments {
     struct document batch, second;
-    uint32_t mode, width, order, trace, form;
+    uint32_t mode, width, order, flag, form;
     uint64_t seed;
 };
 
@@ -33,7 +33,7 @@ struct trial {
     const char *title;
     call *made;
     const char *batch, *second;
-    uint32_t mode, width, order, trace, form;
+    uint32_t mode, width, order, flag, form;
     uint32_t status;
     const char *text;
 };
@@ -68,7 +68,7 @@ static uint32_t run(const struct arguments *it, uint8_t *text, size_t size, size
 static uint32_t replay(const struct arguments *it, uint8_t *text, size_t size, size_t *length)
 {
     return odb_replay(it->batch.bytes, it->batch.size, it->second.bytes, it->second.size,
-                      it->mode, it->width, it->order, it->trace, text, size, length, it->seed);
+                      it->mode, it->width, it->order, it->flag, text, size, length, it->seed);
 }
 
 static uint32_t check_as(const struct arguments *it, uint8_t *text, size_t size, size_t *length)
@@ -94,7 +94,7 @@ static uint32_t match_as(const struct arguments *it, uint8_t *text, size_t size,
 
 static uint32_t match_with(const struct arguments *it, uint8_t *text, size_t size, size_t *length)
 {
-    return odb_match_with(it->batch.bytes, it->batch.size, it->second.bytes, it->second.size, it->mode, it->form,
+    return odb_match_with(it->batch.bytes, it->batch.size, it->second.bytes, it->second.size, it->mode, it->flag, it->form,
                           text, size, length, it->seed);
 }
 
@@ -113,7 +113,7 @@ static uint32_t run_as(const struct arguments *it, uint8_t *text, size_t size, s
 static uint32_t replay_as(const struct arguments *it, uint8_t *text, size_t size, size_t *length)
 {
     return odb_replay_as(it->batch.bytes, it->batch.size, it->second.bytes, it->second.size,
-                         it->mode, it->width, it->order, it->trace, it->form, text, size, length, it->seed);
+                         it->mode, it->width, it->order, it->flag, it->form, text, size, length, it->seed);
 }
 
 #define ONE "{\"id\":\"a\",\"method\":\"GET\",\"url\":\"X\"}"
@@ -121,6 +121,8 @@ static uint32_t replay_as(const struct arguments *it, uint8_t *text, size_t size
 #define BATCH "{\"requests\":[" ONE "," TWO "]}"
 #define OUTCOMES "{\"outcomes\":[{\"id\":\"a\",\"status\":200},{\"id\":\"b\",\"status\":409}]}"
 #define RESPONSES "{\"responses\":[{\"id\":\"a\",\"status\":200}," \
+    "{\"atomicityGroup\":\"g\",\"id\":\"b\",\"status\":409}]}"
+#define UNSTARTED "{\"responses\":[{\"id\":\"a\",\"status\":404}," \
     "{\"atomicityGroup\":\"g\",\"id\":\"b\",\"status\":409}]}"
 #define LEFT_OUT "{\"responses\":[{\"id\":\"a\",\"status\":500}]}"
 #define CHAIN "{\"requests\":[{\"id\":\"a\",\"method\":\"post\",\"url\":\"X\"}," \
@@ -214,6 +216,15 @@ static const struct trial trials[] = {
      "{\"responses\":[{\"id\":\"a\",\"status\":500},{\"id\":\"b\",\"status\":424}]}\n"},
     {"a match of a service that stops without an error", match_with, FREE, "{\"responses\":[]}", ODB_STOP, 0, 0, 0, ODB_JSON,
      ODB_REFUSED, FAULT("F73", "ResponseMissing", "/requests/0")},
+    {"a strict match", match_with, BATCH, RESPONSES, ODB_CONTINUE, 0, 0, 1, ODB_LINES, ODB_DONE,
+     "ok 2 responses\na 200\nb 409\n"},
+    {"a strict match of what no run answers", match_with, BATCH, UNSTARTED, ODB_CONTINUE, 0, 0, 1, ODB_LINES, ODB_REFUSED,
+     "fault F78 NotStarted /requests/1\n"},
+    {"a match of what no run answers", match_with, BATCH, UNSTARTED, ODB_CONTINUE, 0, 0, 0, ODB_LINES, ODB_DONE,
+     "ok 2 responses\na 404\nb 409\n"},
+    {"a strict match of a service that stops", match_with, BATCH, LEFT_OUT, ODB_STOP, 0, 0, 1, ODB_JSON, ODB_DONE,
+     "{\"responses\":[{\"id\":\"a\",\"status\":500},{\"id\":\"b\",\"status\":424}]}\n"},
+    {"a match neither strict nor not", match_with, BATCH, RESPONSES, ODB_CONTINUE, 0, 0, 2, ODB_LINES, ODB_WRONG_OPTION, ""},
     {"a match of nothing in a mode", match_with, BATCH, NULL, ODB_STOP, 0, 0, 0, ODB_LINES, ODB_REFUSED,
      "fault F02 NotJson responses\n"},
     {"a match in no mode", match_with, BATCH, RESPONSES, 2, 0, 0, 0, ODB_LINES, ODB_WRONG_OPTION, ""},
@@ -346,7 +357,7 @@ static void try_all(const struct trial *trial)
 {
     static const uint64_t seeds[] = {0, 1, 7, UINT64_MAX};
     struct arguments given = {document_of(trial->batch), document_of(trial->second),
-                              trial->mode, trial->width, trial->order, trial->trace, trial->form, 0};
+                              trial->mode, trial->width, trial->order, trial->flag, trial->form, 0};
     for (size_t at = 0; at < sizeof seeds / sizeof *seeds; at++) {
         given.seed = seeds[at];
         count(trial, "seed", (long)at, is_right(trial, &given, strlen(trial->text) + ROOM));

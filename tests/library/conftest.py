@@ -6,8 +6,12 @@ import subprocess
 
 import pytest
 
-from support.commands import with_package
+from support.answers import RUNS, write_calls
+from support.commands import run, with_package
+from support.embedding import STRICT
 from support.program import ROOT
+
+HERE = os.path.dirname(os.path.abspath(__file__))
 
 
 @pytest.fixture(scope="session")
@@ -22,6 +26,24 @@ def package(library):
     import odb_batch
 
     return odb_batch
+
+
+@pytest.fixture(scope="session")
+def calls(tmp_path_factory):
+    """A file of the worked cases as calls."""
+    path = tmp_path_factory.mktemp("calls") / "calls"
+    write_calls(path)
+    return path
+
+
+@pytest.fixture(scope="session")
+def wanted(library, calls, tmp_path_factory):
+    """The lines of answers.c by the library itself."""
+    program = tmp_path_factory.mktemp("answers") / "answers"
+    sources = [os.path.join(HERE, it) for it in ("answers.c", "allocations.c")]
+    words = ["cc", "-std=c99", *STRICT, "-O2", f"-I{ROOT}/include", "-Wl,--wrap=malloc,--wrap=realloc,--wrap=free"]
+    run(*words, "-o", program, *sources, os.path.join(library, "libodb_batch.a"))
+    return run(program, calls, str(RUNS)).splitlines()
 
 
 def copy_of_node(top):

@@ -6,19 +6,34 @@
  * took, `N of M bytes of stack`. The status is 1 if less than a quarter is left, for the program's thread-local
  * variables and signal handlers, and for other C libraries. */
 
+#ifdef _WIN32
+#define _WIN32_WINNT 0x0602 /* Windows 8 */
+#endif
+
 #include "odb_batch.h"
 
-#include <pthread.h>
 #include <stdio.h>
 #include <stdlib.h>
 #include <string.h>
+#ifdef _WIN32
+#include <windows.h>
+#else
+#include <pthread.h>
 #include <sys/mman.h>
+#endif
 
 #define PAGE 4096
 #define FILLING 0xa5
 #define MOST_BYTES 4194304
 #define DEEPEST 124 /* levels of a body in a document of 127 */
 #define CHAIN 10000
+
+#ifdef _WIN32
+static char *stpcpy(char *to, const char *from)
+{
+    return strcpy(to, from) + strlen(from);
+}
+#endif
 
 static char batch[MOST_BYTES], second[MOST_BYTES];
 static uint8_t text[MOST_BYTES];
@@ -217,14 +232,58 @@ static void make_chain(const char *name, const char *more)
     strcpy(other, "]}");
 }
 
+#ifdef _WIN32
+
+#define SPARE 16384 /* of a stack: what is not filled */
+
+/* What a thread does, whether it ended as it had to, and how much of its stack was written. */
+struct task {
+    work *done;
+    int is_right;
+    size_t used;
+};
+
+/* Fills the stack below it, and returns where that starts. */
+static __attribute__((noinline)) uintptr_t fill(void)
+{
+    volatile uint8_t room[ODB_STACK_BYTES - SPARE];
+    for (size_t at = 0; at < sizeof room; at++)
+        room[at] = FILLING;
+    return (uintptr_t)room;
+}
+
+static DWORD WINAPI perform(void *given)
+{
+    struct task *it = given;
+    const uint8_t *left = (const uint8_t *)fill();
+    it->is_right = it->done();
+    while (*left == FILLING)
+        left++;
+    ULONG_PTR start, end;
+    GetCurrentThreadStackLimits(&start, &end);
+    it->used = end - (ULONG_PTR)left;
+    return 0;
+}
+
+/* Does the work in a thread with a stack of ODB_STACK_BYTES. Returns how much of it was written. */
+static size_t used_by(work *done, int *is_right)
+{
+    struct task task = {done, 0, 0};
+    HANDLE thread = CreateThread(NULL, ODB_STACK_BYTES, perform, &task, STACK_SIZE_PARAM_IS_A_RESERVATION, NULL);
+    if (thread == NULL || WaitForSingleObject(thread, INFINITE) != WAIT_OBJECT_0)
+        exit(70);
+    CloseHandle(thread);
+    *is_right = task.is_right;
+    return task.used;
+}
+
+#else
+
 static void *perform(void *given)
 {
     work *const *done = given;
     return (*done)() ? text : NULL;
 }
-
-static size_t most;
-static int wrong;
 
 /* Makes a stack whose bytes are known, above a page on which a thread that goes beyond it ends. */
 static uint8_t *new_stack(void)
@@ -235,27 +294,40 @@ static uint8_t *new_stack(void)
     return memset(page + PAGE, FILLING, ODB_STACK_BYTES);
 }
 
-/* Does the work in a thread, and measures how much of its stack was written. */
-static void measure(const char *title, work *done)
+/* Does the work in a thread with such a stack. Returns how much of it was written. */
+static size_t used_by(work *done, int *is_right)
 {
     pthread_t thread;
     pthread_attr_t attributes;
     void *result = NULL;
     uint8_t *stack = new_stack();
-    printf("%s: ", title);
-    fflush(stdout);
     if (pthread_attr_init(&attributes) || pthread_attr_setstack(&attributes, stack, ODB_STACK_BYTES)
         || pthread_create(&thread, &attributes, perform, &done) || pthread_join(thread, &result))
         exit(70);
     size_t left = 0;
     while (left < ODB_STACK_BYTES && stack[left] == FILLING)
         left++;
-    size_t used = ODB_STACK_BYTES - left;
-    wrong += result == NULL;
-    printf("%zu%s\n", used, result == NULL ? ", is wrong" : "");
-    most = used > most ? used : most;
+    *is_right = result != NULL;
     pthread_attr_destroy(&attributes);
     munmap(stack - PAGE, PAGE + ODB_STACK_BYTES);
+    return ODB_STACK_BYTES - left;
+}
+
+#endif
+
+static size_t most;
+static int wrong;
+
+/* Does the work in a thread, and prints how much of its stack was written. */
+static void measure(const char *title, work *done)
+{
+    int is_right;
+    printf("%s: ", title);
+    fflush(stdout);
+    size_t used = used_by(done, &is_right);
+    wrong += !is_right;
+    printf("%zu%s\n", used, is_right ? "" : ", is wrong");
+    most = used > most ? used : most;
 }
 
 /* Makes each call on documents whose bodies nest as deep as they may, and deeper. */

@@ -59,6 +59,7 @@ def test_the_addon_of_gyp(library, environment, module, tmp_path):
     run("node", "-e", check, wanted="{ requests: 0, groups: 0 }\n")
 
 
+@pytest.mark.slow
 @pytest.mark.needs("tsc")
 @pytest.mark.parametrize("program", ["typed.ts", "performing.ts", "posting.ts", "newer.ts"])
 def test_its_types(program, tmp_path):

@@ -39,11 +39,13 @@ def test_its_extras_are_all_that_it_needs(tmp_path, monkeypatch):
     assert re.findall("(?m)^Provides-Extra: (.*)$", head) == list(extras)
 
 
+@pytest.mark.slow
 @pytest.mark.needs("mypy")
 def test_its_types(tmp_path):
     print(run("mypy", f"--cache-dir={tmp_path}", cwd=ROOT))
 
 
+@pytest.mark.slow
 def test_it_is_installed_without_a_network(library, environment, tmp_path):
     copy, place = tmp_path / "python", tmp_path / "installed"
     shutil.copytree(f"{ROOT}/python", copy, ignore=shutil.ignore_patterns("libodb_batch*", "__pycache__"))

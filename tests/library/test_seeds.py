@@ -19,7 +19,7 @@ NAMES = (seeds.IDS + seeds.GROUPS) // 2
 
 ROOM = 4_000_000
 POLICY = (0, 10_000)
-LINES, STOP = 0, 1
+LINES, STOP, STRICT = 0, 1, 1
 NOTHING_LEFT = '{"requests":[]}\n'  # of a batch whose requests have all succeeded
 
 # The commands, each with the options of its calls.
@@ -53,7 +53,7 @@ class Calls:
             spent[f"odb_{command}"] = self.seconds(f"odb_{command}", documents, options)
             spent[f"odb_{command}_as"] = self.seconds(f"odb_{command}_as", documents, (*options, LINES))
         documents = tuple(self.texts[kind] for kind in contents.KINDS["match"])
-        spent["odb_match_with"] = self.seconds("odb_match_with", documents, (STOP, LINES))
+        spent["odb_match_with"] = self.seconds("odb_match_with", documents, (STOP, STRICT, LINES))
         spent["odb_rest"] = self.seconds("odb_rest", documents, (STOP, LINES))
         documents, place = (self.texts["batch"], self.texts["events"]), ctypes.byref(handle)
         spent["odb_run_open"] = self.seconds("odb_run_open", documents, (*POLICY, place))

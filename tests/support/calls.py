@@ -18,13 +18,15 @@ ALONE = ("check", "plan", "canon")
 # The options of each command, and how often each is given. Those of logs are left to test_lines.py.
 ORDERS = ("first", "last", "wide")
 VALUES = {
-    "json": chance(30), "quiet": chance(10), "full": chance(40), "dot": chance(40), "trace": chance(60),
-    "stop": chance(30), "width": of(*5 * [None], 1, 1, 2, 3, 10_000), "order": of(None, *ORDERS),
+    "all": chance(60), "json": chance(30), "quiet": chance(10), "full": chance(40), "dot": chance(40),
+    "trace": chance(60), "stop": chance(30), "strict": chance(60), "width": of(*5 * [None], 1, 1, 2, 3, 10_000),
+    "order": of(None, *ORDERS),
 }  # fmt: skip
 OPTIONS = {
     **dict.fromkeys(OF_BATCHES, ("json", "quiet")),
+    "check": ("all", "json", "quiet"),
     "plan": ("json", "quiet", "full", "dot"),
-    "match": ("json", "quiet", "stop"),
+    "match": ("json", "quiet", "stop", "strict"),
     "replay": ("json", "quiet", "stop", "width", "trace", "order"),
     "run": ("json", "quiet", "stop", "width"),
     "rest": ("json", "quiet", "stop"),

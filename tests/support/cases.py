@@ -30,7 +30,10 @@ def write_files(run, folder):
 
 
 def command_line(run, binary):
-    """The program to start and its arguments; a shell limits the memory and closes a stream first."""
+    """The program to start and its arguments; a shell limits the memory and closes a stream first. A program may be a list, of
+    what runs it and its path."""
+    if isinstance(binary, list):
+        return binary[0], [*binary, *run.arguments]
     if run.closed is None and run.memory is None:
         return binary, ["odb_batch", *run.arguments]
     limit = f"ulimit -v {run.memory}; " if run.memory else ""

@@ -51,6 +51,16 @@ right_starts, right_response = rules_of_runs.start_faults, rules_of_runs.is_resp
 right_completed, right_repeats = rules_of_runs.completed, rules_of_rests.may_repeat
 
 
+def needed_by(batch, i):
+    """The positions that a request needs."""
+    return [j for name in rules.needs(batch, i) for j in rules.needed_positions(batch, name)]
+
+
+def may_have_succeeded(batch, statuses, i, j):
+    """Whether what a request needs succeeded, or is of its group and answered 424."""
+    return rules_of_runs.is_success(statuses[j]) or (statuses[j] == 424 and j in rules.members(batch, batch[i].group))
+
+
 @mistake(rules, "is_base64url")
 def padding_fits(value):
     """The padding of base64url has to fit the length."""
@@ -164,6 +174,24 @@ def response_may_be_600(element):
     """A status up to 600 is taken."""
     known = isinstance(element, dict) and element.get("status") == 600
     return right_response(dict(element, status=599) if known else element)
+
+
+@mistake(rules_of_runs, "unit_of", "match")
+def members_stand_alone(batch, i):
+    """A member of a group may succeed alone, and nothing in it is undone."""
+    return [i]
+
+
+@mistake(rules_of_runs, "can_have_started", "match")
+def started_after_failures(batch, statuses):
+    """A request can have started whatever it needs was answered."""
+    return [True] * len(batch)
+
+
+@mistake(rules_of_runs, "can_have_started", "match")
+def undone_without_start(batch, statuses):
+    """What is answered 424 in the group of a request counts as undone, though it cannot have started."""
+    return [all(may_have_succeeded(batch, statuses, i, j) for j in needed_by(batch, i)) for i in range(len(batch))]
 
 
 @mistake(rules_of_runs, "completed", "match")

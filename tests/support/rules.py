@@ -29,7 +29,8 @@ NAMES = dict(
     F60="BadOutcomes", F61="OutcomeTwice", F62="BadStatus", F63="NotWhole",
     F64="BadEvents", F65="UnknownEvent", F66="Unfinished",
     F70="BadResponses", F71="UnknownResponse", F72="ResponseTwice", F73="ResponseMissing",
-    F74="GroupDiffers", F75="UnsoundSuccess", F80="NoOutcome", F90="NoLocation",
+    F74="GroupDiffers", F75="UnsoundSuccess", F76="NotFinal", F77="PartialGroup", F78="NotStarted", F80="NoOutcome",
+    F90="NoLocation",
     S1="AlreadyStarted", S2="Stopped", S3="UnitFailed", S4="Waiting", S5="WidthReached",
     P1="NotRunning", P2="BadStatus",
 )
@@ -126,6 +127,19 @@ def requests_of(value):
     if len(elements) > MOST_REQUESTS:
         raise Fault("F06", "batch")
     return elements
+
+
+def whole_faults(value):
+    """The codes from F03 to F06, each with whether it applies."""
+    is_object = isinstance(value, dict)
+    elements = value.get("requests") if is_object else None
+    is_list = isinstance(elements, list)
+    return {
+        "F03": not is_object,
+        "F04": is_object and not is_list,
+        "F05": is_object and any(name != "requests" and not is_annotation(name) for name in value),
+        "F06": is_list and len(elements) > MOST_REQUESTS,
+    }
 
 
 def is_annotation(name):
@@ -323,6 +337,44 @@ def check(data):
 
 
 # Plans and canonical texts
+
+
+def applying(found, place):
+    """The faults of these codes that apply."""
+    return [Fault(code, place) for code, applies in found.items() if applies]
+
+
+def request_faults(element):
+    """The codes from F10 to F23, each with whether it applies."""
+    return form_faults(element) if isinstance(element, dict) else {"F10": True}
+
+
+def of_each(count, codes):
+    """The faults of each request, by what gives the codes of one at a position."""
+    return [fault for i in range(count) for fault in applying(codes(i), f"/requests/{i}")]
+
+
+def all_faults(data):
+    """All faults of the first phase of the batch document that has any, in order."""
+    try:
+        value = parse(data, "batch")
+    except Fault as fault:
+        return [fault]
+    if found := applying(whole_faults(value), "batch"):
+        return found
+    elements = value["requests"]
+    if found := of_each(len(elements), lambda i: request_faults(elements[i])):
+        return found
+    batch = Batch(map(Request, elements))
+    ids = of_each(len(batch), lambda i: id_faults(batch, i))
+    return ids or of_each(len(batch), lambda i: name_faults(batch, i))
+
+
+def faults_text(faults, json=False):
+    """A line for each fault, or one line of JSON."""
+    if json:
+        return json_text({"faults": [fault.value["fault"] for fault in faults]}) + "\n"
+    return "".join(map(str, faults))
 
 
 def needs(batch, i):

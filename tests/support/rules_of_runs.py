@@ -285,7 +285,35 @@ def completed(batch, responses):
     return responses + [{"id": it.id, "atomicityGroup": it.group, "status": 424} for it in left_out]
 
 
-def match(batch, responses, stop=False):
+def unit_of(batch, i):
+    """The positions that succeed together: a group, or one request."""
+    return rules.members(batch, batch[i].group) or [i]
+
+
+def is_partial(batch, statuses, i):
+    """Whether a request succeeded though a member of its group did not."""
+    return is_success(statuses[i]) and not all(is_success(statuses[j]) for j in unit_of(batch, i))
+
+
+def can_have_started(batch, statuses):
+    """For each request whether it can have started: what it needs succeeded, or succeeded and was undone with it."""
+    started = []
+    for i in range(len(batch)):
+        needed = [j for name in rules.needs(batch, i) for j in rules.needed_positions(batch, name)]
+        undone = [j for j in needed if j in unit_of(batch, i) and started[j] and statuses[j] == 424]
+        started.append(all(is_success(statuses[j]) or j in undone for j in needed))
+    return started
+
+
+def impossible(batch, statuses):
+    """Refuses statuses that no finished run answers."""
+    started = can_have_started(batch, statuses)
+    for i, status in enumerate(statuses):
+        faults = {"F76": not 200 <= status <= 599, "F77": is_partial(batch, statuses, i)}
+        first_fault({**faults, "F78": status != 424 and not started[i]}, f"/requests/{i}")
+
+
+def match(batch, responses, stop=False, strict=False):
     """The responses that fit, each an id and a status, in the order of the requests."""
     by_id = {}
     for k, it in enumerate(completed(batch, responses) if stop else responses):
@@ -298,6 +326,8 @@ def match(batch, responses, stop=False):
     for i, request in enumerate(batch):
         differs = found[i].get("atomicityGroup") != request.group
         first_fault({"F74": differs, "F75": is_unsound(batch, statuses, i)}, f"/requests/{i}")
+    if strict:
+        impossible(batch, statuses)
     return [{"id": it["id"], "status": it["status"]} for it in found]
 
 
@@ -347,6 +377,8 @@ def printed(command, first, second=b"", json=False, **options):
             return (json_text(value_of(command, batch, first, second, options)) + "\n").encode(), 0
         return text_of(command, batch, first, second, options).encode(), 0
     except Fault as fault:
+        if options.get("all"):
+            return rules.faults_text(rules.all_faults(first), json).encode(), 1
         return fault.text(json).encode(), 1
 
 

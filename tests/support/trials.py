@@ -146,6 +146,7 @@ def trials():
         trial("match usual.json usual_responses.json"),
         trial("match usual.json lent.json", 1),
         trial("match usual.json stopped.json --stop"),
+        trial("match usual.json usual_responses.json --strict"),
         trial("rest usual.json busy.json"),
         trial("rest usual.json lent.json -q", 1),
         trial("run usual.json usual_events.json"),

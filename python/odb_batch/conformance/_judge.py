@@ -3,7 +3,7 @@
 from collections import Counter
 from typing import Any, Dict, Iterator, List, NamedTuple, Optional
 
-from .. import Fault, match
+from .. import Fault, Mode, match
 from ._entities import Listing
 from ._promises import Case
 from ._service import Answer
@@ -11,7 +11,9 @@ from ._stage import ABSENT, DONE, FAILS, OPEN, SKIPPED, UNDONE, Stage, Step
 from ._twin import Taking, Twin, differences, parts_in_batch
 
 # Which promise a fault of a match breaks.
-FAULTS = {"F71": "once", "F72": "once", "F73": "once", "F74": "named", "F75": "failed"}
+FAULTS = {
+    "F71": "once", "F72": "once", "F73": "once", "F74": "named", "F75": "failed", "F77": "group", "F78": "failed",
+}  # fmt: skip
 
 
 class Check(NamedTuple):
@@ -59,10 +61,12 @@ class Judge:
     # By the library
 
     def _by_match(self) -> Iterator[Check]:
-        """What `match` says. A batch that ends with an error may leave out the responses to what was not performed."""
+        """What `match` says. A batch that ends with an error may leave out the responses to what was not performed; of
+        one that goes on, some finished run has to answer the statuses."""
         asked = ["once", *(["named"] if "groups" in self.stage.features() else [])]
         try:
-            match(self.stage.document(), self.answer.text, mode="stop" if self.stops else "continue")
+            mode: Mode = "stop" if self.stops else "continue"
+            match(self.stage.document(), self.answer.text, mode=mode, strict=not self.stops)
         except Fault as fault:
             promise = FAULTS.get(fault.code, "answered")
             text = " ".join(fault.explanation.split())
