@@ -67,7 +67,7 @@ SHAPES = {
 }
 
 USUAL = "usual"
-USUAL_WORDS = "the small batch of `examples/usual.json`, and `lent.json`"
+USUAL_WORDS = "the small batch of `examples/batch_usual.json`, and `outcomes_lent.json`"
 NAMES = (*SHAPES, USUAL)
 
 
@@ -127,7 +127,7 @@ def shape_cases(folder, name, short):
 def usual_case(folder, root):
     """The small batch of the examples: a case and its content."""
     texts = []
-    for name in ("usual.json", "lent.json"):
+    for name in ("batch_usual.json", "outcomes_lent.json"):
         with open(os.path.join(root, "examples", name), encoding="utf-8") as file:
             texts.append(file.read())
     content = Content(json.loads(texts[0])["requests"], json.loads(texts[1])["outcomes"])

@@ -5,18 +5,18 @@
 const texts = require('./examples.json')
 
 const BATCHES = [
-  ['usual.json', 'a book is lent: a group, and what needs it'],
-  ['references.json', 'a request whose URL refers to another one'],
-  ['too_early.json', 'refused: a request depends on a later one'],
-  ['wrong_body.json', 'refused: bodies of the wrong kind'],
+  ['batch_usual.json', 'a book is lent: a group, and what needs it'],
+  ['batch_references.json', 'a request whose URL refers to another one'],
+  ['batch_too_early.json', 'refused: a request depends on a later one'],
+  ['batch_wrong_body.json', 'refused: bodies of the wrong kind'],
 ]
 const SECONDS = [
-  ['recorded.json', 'events: a finished run'],
-  ['too_soon.json', 'events: a start that may not come yet'],
-  ['lent.json', 'outcomes: all requests succeed'],
-  ['not_lent.json', 'outcomes: the loan is answered 409'],
-  ['served.json', 'responses: they fit'],
-  ['unsound.json', 'responses: list succeeds, and what it needs does not'],
+  ['events_recorded.json', 'a finished run'],
+  ['events_too_soon.json', 'a start that may not come yet'],
+  ['outcomes_lent.json', 'all requests succeed'],
+  ['outcomes_not_lent.json', 'the loan is answered 409'],
+  ['responses_served.json', 'they fit'],
+  ['responses_unsound.json', 'list succeeds, and what it needs does not'],
 ]
 
 /** A batch of shops: each is read, changed by a group, and read again; the last request needs them all. */

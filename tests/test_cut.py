@@ -12,13 +12,13 @@ import pytest
 from support.pages import OF_BATCHES
 from support.program import EXAMPLES
 
-BATCH = "usual.json"
-BATCHES = (BATCH, "references.json")
+BATCH = "batch_usual.json"
+BATCHES = (BATCH, "batch_references.json")
 SECONDS = {
-    "replay": ("outcomes", "lent.json"),
-    "match": ("responses", "served.json"),
-    "run": ("events", "recorded.json"),
-    "rest": ("responses", "served.json"),
+    "replay": ("outcomes", "outcomes_lent.json"),
+    "match": ("responses", "responses_served.json"),
+    "run": ("events", "events_recorded.json"),
+    "rest": ("responses", "responses_served.json"),
 }
 LIMIT = 60
 

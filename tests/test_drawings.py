@@ -18,7 +18,7 @@ from support.profiles import share
 from support.program import ROOT
 from support.strategies import chance, of, recorded_batches
 
-EXAMPLE = os.path.join(ROOT, "examples", "usual.json")
+EXAMPLE = os.path.join(ROOT, "examples", "batch_usual.json")
 DRAWING = os.path.join(ROOT, "docs", "usual.dot")
 URLS = (
     '"', "\\", '\\"', '"]; x [label="', "x\\", "a\nb", "}", "<b>", "/* x", "// x", "# x", "\\N\\G", "\\l\\r", "ä" * 50,

@@ -92,4 +92,4 @@ def test_examples(program, name):
     look_at_result(program, "counts", "check --all", bytes_of(name))
     look_at_result(program, "full_plan", "plan --full", bytes_of(name))
     for command, form in SECONDS.items():
-        look_at_result(program, form, command, bytes_of("usual.json"), bytes_of(name))
+        look_at_result(program, form, command, bytes_of("batch_usual.json"), bytes_of(name))

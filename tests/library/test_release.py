@@ -234,7 +234,7 @@ def test_an_archive_for_another_system(name, archive, need, tmp_path):
     with zipfile.ZipFile(wheel) as package:
         assert package.read(f"odb_batch/{target.shared}") == (top / "lib" / target.shared).read_bytes()
     assert "were run under" in (top / DOCS / "PROVED.md").read_text()
-    words = [*target.runner, top / "bin" / target.program, "check", top / DOCS / "examples/usual.json"]
+    words = [*target.runner, top / "bin" / target.program, "check", top / DOCS / "examples/batch_usual.json"]
     with targets.running(target, tmp_path) as variables:
         run(*words, env=variables, wanted="ok 4 requests 1 groups\n")
 
@@ -345,7 +345,7 @@ def test_the_pages_name_the_oldest_glibc(unpacked, tmp_path):
 
 def test_the_first_check_is_quick(unpacked):
     begun = time.monotonic()
-    example = unpacked.docs / "examples/usual.json"
+    example = unpacked.docs / "examples/batch_usual.json"
     unpacked.run(unpacked.top / "bin/odb_batch", "check", example, wanted="ok 4 requests 1 groups\n")
     taken = time.monotonic() - begun
     print(f"{taken * 1000:.0f} ms")

@@ -34,7 +34,7 @@ def test_a_fault_is_typed_and_mended(page):
 
 
 def test_a_click_leads_to_the_place(page, example):
-    write(page, example("too_early.json") + "\n" * 200)
+    write(page, example("batch_too_early.json") + "\n" * 200)
     page.value("document.getElementById('text').scrollTop = 3000; document.querySelector('#faults .link').click()")
     found = page.value("""const { selectionStart, selectionEnd, scrollTop, value } = document.getElementById('text')
         return [value.slice(selectionStart, selectionEnd), scrollTop, document.activeElement.id]""")
@@ -81,7 +81,7 @@ def test_examples_are_chosen_by_keys(page):
 def test_a_file_is_opened(page, tmp_path, example):
     path = tmp_path / "batch.json"
     for data, wanted in [
-        (example("references.json").encode(), "ok 3 requests 0 groups"),
+        (example("batch_references.json").encode(), "ok 3 requests 0 groups"),
         (b'\xef\xbb\xbf{"requests":[]}', "fault F02 NotJson batch"),
         (b'{"requests":[],"@a":"\xff"}', "fault F02 NotJson batch"),
         (b'{"requests":\r\n[]}', "ok 0 requests 0 groups"),
@@ -94,14 +94,14 @@ def test_a_file_is_opened(page, tmp_path, example):
 
 
 def test_a_link_carries_a_batch(page, page_file, example):
-    write(page, example("references.json"))
+    write(page, example("batch_references.json"))
     page.value("document.getElementById('share').click()")
     link = page.until("return location.hash && location.href")
     assert len(link) < 400
     page.call("Page.navigate", url="about:blank")
     page.open(link)
     page.until("return (await page).count > 0")
-    assert page.value("return document.getElementById('text').value") == example("references.json")
+    assert page.value("return document.getElementById('text').value") == example("batch_references.json")
     assert "ok 3 requests" in verdict(page)
 
 

@@ -48,7 +48,7 @@ def test_the_usual_plan(page):
 
 
 def test_references_are_dashed(page, example):
-    write(page, example("references.json"))
+    write(page, example("batch_references.json"))
     assert page.value("""const it = document.querySelector('#picture .arrow.reference')
         return [it.getAttribute('d').match(/M/g).length, getComputedStyle(it).strokeDasharray !== 'none']""") == [1, True]
 

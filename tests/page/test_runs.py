@@ -73,7 +73,7 @@ def test_a_run_by_keys_alone(page, program, example, tmp_path):
         "✕answered 409",
         "–not started, answered 424it needs the group lend, and loan was answered 409",
     ]
-    assert response(page) == printed(program, tmp_path, example("usual.json"), events(page))
+    assert response(page) == printed(program, tmp_path, example("batch_usual.json"), events(page))
     assert "match prints ok 4 responses" in page.text("response")
     assert "To be undone, in this order: mark" in page.text("timeline")
 
@@ -104,7 +104,7 @@ def test_it_plays_by_itself(page, program, example, tmp_path, order, words):
         choose(page, "width", 1)
     answer(page, "mark", 500)
     play(page)
-    batch, document = example("usual.json"), events(page)
+    batch, document = example("batch_usual.json"), events(page)
     assert response(page) == printed(program, tmp_path, batch, document, *words)
     # The order is that of the program.
     statuses = {"book": 200, "mark": 500, "loan": 201, "list": 200}
@@ -139,7 +139,7 @@ def test_headers_and_bodies_are_repeated(page, program, example, tmp_path):
     play(page)
     found = response(page)
     assert '"body":{"Due":"2026-12-01","n":18446744073709551615},"headers":{"location":"Loans(1)"},"id":"loan"' in found
-    assert found == printed(program, tmp_path, example("usual.json"), events(page))
+    assert found == printed(program, tmp_path, example("batch_usual.json"), events(page))
 
 
 def test_headers_that_are_none_are_refused(page):
@@ -152,7 +152,7 @@ def test_headers_that_are_none_are_refused(page):
 
 
 def test_events_are_read(page, example):
-    read(page, example("recorded.json"))
+    read(page, example("events_recorded.json"))
     assert "Accepted: a document of events" in page.text("second-verdict")
     assert response(page).startswith('{"responses":[{"id":"book","status":200}')
     assert page.value("return document.querySelectorAll('#timeline rect').length") == 4
@@ -162,7 +162,7 @@ def test_events_are_read(page, example):
 
 
 def test_a_fault_of_events_is_marked(page, example):
-    read(page, example("too_soon.json"))
+    read(page, example("events_too_soon.json"))
     assert "fault S4 Waiting /events/3" in page.text("second-verdict")
     marked = page.value("return document.querySelector('#second-editor mark.part').textContent")
     assert marked == '{"start": "list"}'
@@ -176,18 +176,19 @@ def test_what_is_no_document_is_refused(page, text, marked):
 
 
 def test_outcomes_are_replayed(page, program, example, tmp_path):
-    for name in ("lent.json", "not_lent.json"):
+    batch = example("batch_usual.json")
+    for name in ("outcomes_lent.json", "outcomes_not_lent.json"):
         read(page, example(name))
-        assert response(page) == printed(program, tmp_path, example("usual.json"), example(name), command="replay")
+        assert response(page) == printed(program, tmp_path, batch, example(name), command="replay")
 
 
 def test_responses_are_compared(page, example):
     answer(page, "loan", 409)
     play(page)
-    read(page, example("served.json"))
+    read(page, example("responses_served.json"))
     assert "Accepted: ok 4 responses" in page.text("second-verdict")
     assert "3 requests were answered otherwise: mark, loan and list." in page.text("comparison")
-    read(page, example("unsound.json"))
+    read(page, example("responses_unsound.json"))
     assert "fault F75 UnsoundSuccess /requests/3" in page.text("second-verdict")
     page.value("document.querySelector('#second-faults .link').click()")
     assert page.value("""const { value, selectionStart, selectionEnd } = document.activeElement

@@ -9,6 +9,11 @@ MANY = 250
 # A text in each body, so that a response has more than the 64 KiB that are written at once.
 LONG = "x" * 400
 WRITE_AS_THEY_GO = ("replay", "run")
+# The documents of examples/ that the trials read.
+COPIED = (
+    "batch_usual.json", "batch_wrong_body.json", "outcomes_lent.json", "outcomes_not_lent.json", "responses_busy.json",
+    "responses_stopped.json",
+)  # fmt: skip
 USUAL_EVENTS = [
     {"start": "book"},
     {"report": "book", "status": 200, "headers": {"ETag": "7"}, "body": {"Title": "Dune"}},
@@ -81,17 +86,17 @@ def busy_responses(requests):
 
 def write(folder, examples):
     """Writes all documents to the folder."""
-    for name in ("usual.json", "lent.json", "not_lent.json", "stopped.json", "busy.json", "wrong_body.json"):
+    for name in COPIED:
         shutil.copy(os.path.join(examples, name), os.path.join(folder, name))
     many = many_requests()
     made = {
-        "usual_responses.json": {"responses": USUAL_RESPONSES},
-        "usual_events.json": {"events": USUAL_EVENTS},
-        "many.json": {"requests": many},
-        "many_outcomes.json": {"outcomes": many_outcomes(many)},
-        "many_events.json": {"events": many_events(many)},
-        "many_responses.json": {"responses": many_responses(many)},
-        "busy_responses.json": {"responses": busy_responses(many)},
+        "responses_usual.json": {"responses": USUAL_RESPONSES},
+        "events_usual.json": {"events": USUAL_EVENTS},
+        "batch_many.json": {"requests": many},
+        "outcomes_many.json": {"outcomes": many_outcomes(many)},
+        "events_many.json": {"events": many_events(many)},
+        "responses_many.json": {"responses": many_responses(many)},
+        "responses_many_busy.json": {"responses": busy_responses(many)},
     }
     for name, value in made.items():
         with open(os.path.join(folder, name), "w", encoding="utf-8") as file:
@@ -102,7 +107,7 @@ def write(folder, examples):
 def write_logs(folder, examples):
     """Writes logs: of batches, and of batches with a second document, each with a line that is refused."""
     texts = []
-    for name in ("usual.json", "lent.json"):
+    for name in ("batch_usual.json", "outcomes_lent.json"):
         with open(os.path.join(examples, name), encoding="utf-8") as file:
             texts.append(json.dumps(json.load(file)))
     batch, outcomes = texts
@@ -122,35 +127,35 @@ def trials():
     bad = b'{"requests":[{"id":"a","method":"get","url":"$b"}]}'
     return [
         Trial("no arguments, a bad batch on standard input", "check", [], 1, input=bad),
-        trial("check usual.json"),
-        trial("check wrong_body.json", 1),
+        trial("check batch_usual.json"),
+        trial("check batch_wrong_body.json", 1),
         trial("check missing.json", 3),
         Trial("check with a file name that is not UTF-8", "check", [b"check", b"\xff"], 2),
         trial("--help"),
         trial("--version"),
-        trial("check usual.json more.json", 2),
-        trial("plan usual.json"),
-        trial("plan usual.json --dot"),
-        trial("plan usual.json --full"),
-        trial("plan -q wrong_body.json", 1),
+        trial("check batch_usual.json more.json", 2),
+        trial("plan batch_usual.json"),
+        trial("plan batch_usual.json --dot"),
+        trial("plan batch_usual.json --full"),
+        trial("plan -q batch_wrong_body.json", 1),
         Trial("plan of a bad batch on standard input", "plan", ["plan", "-"], 1, input=bad),
-        trial("canon usual.json"),
-        trial("replay usual.json lent.json"),
-        trial("replay usual.json not_lent.json --order wide --trace"),
-        trial("replay usual.json not_lent.json --order last --stop --width 2 --trace"),
-        trial("replay usual.json usual.json", 1),
-        trial("replay usual.json lent.json --width 0", 2),
+        trial("canon batch_usual.json"),
+        trial("replay batch_usual.json outcomes_lent.json"),
+        trial("replay batch_usual.json outcomes_not_lent.json --order wide --trace"),
+        trial("replay batch_usual.json outcomes_not_lent.json --order last --stop --width 2 --trace"),
+        trial("replay batch_usual.json batch_usual.json", 1),
+        trial("replay batch_usual.json outcomes_lent.json --width 0", 2),
         trial("replay --help"),
         trial("replay - -", 2),
-        trial("replay -q usual.json lent.json"),
-        trial("match usual.json usual_responses.json"),
-        trial("match usual.json lent.json", 1),
-        trial("match usual.json stopped.json --stop"),
-        trial("match usual.json usual_responses.json --strict"),
-        trial("rest usual.json busy.json"),
-        trial("rest usual.json lent.json -q", 1),
-        trial("run usual.json usual_events.json"),
-        trial("run usual.json usual_events.json --stop --width 1", 1),
+        trial("replay -q batch_usual.json outcomes_lent.json"),
+        trial("match batch_usual.json responses_usual.json"),
+        trial("match batch_usual.json outcomes_lent.json", 1),
+        trial("match batch_usual.json responses_stopped.json --stop"),
+        trial("match batch_usual.json responses_usual.json --strict"),
+        trial("rest batch_usual.json responses_busy.json"),
+        trial("rest batch_usual.json outcomes_lent.json -q", 1),
+        trial("run batch_usual.json events_usual.json"),
+        trial("run batch_usual.json events_usual.json --stop --width 1", 1),
         trial("check --lines log.jsonl", 1),
         trial("check --lines -q log.jsonl", 1),
         trial("plan --lines log.jsonl", 1),
@@ -168,12 +173,12 @@ def trials():
         trial("help"),
         trial("help replay"),
         trial("help verify", 2),
-        trial("check many.json", large=True),
-        trial("plan many.json", large=True),
-        trial("plan many.json --dot", large=True),
-        trial("canon many.json", large=True),
-        trial("replay many.json many_outcomes.json --order wide --trace", large=True),
-        trial("match many.json many_responses.json", large=True),
-        trial("rest many.json busy_responses.json", large=True),
-        trial("run many.json many_events.json", large=True),
+        trial("check batch_many.json", large=True),
+        trial("plan batch_many.json", large=True),
+        trial("plan batch_many.json --dot", large=True),
+        trial("canon batch_many.json", large=True),
+        trial("replay batch_many.json outcomes_many.json --order wide --trace", large=True),
+        trial("match batch_many.json responses_many.json", large=True),
+        trial("rest batch_many.json responses_many_busy.json", large=True),
+        trial("run batch_many.json events_many.json", large=True),
     ]

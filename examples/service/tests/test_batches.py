@@ -18,16 +18,16 @@ def example(name):
 class TestExamples(ServiceTest):
     def test_answers_each_batch_of_the_examples(self):
         for name, wanted in [
-            ("usual", {"book": 200, "mark": 204, "loan": 201, "list": 200}),
-            ("usual", {"book": 200, "mark": 424, "loan": 409, "list": 424}),
-            ("references", {"order": 404, "line": 424, "stock": 404}),
+            ("batch_usual", {"book": 200, "mark": 204, "loan": 201, "list": 200}),
+            ("batch_usual", {"book": 200, "mark": 424, "loan": 409, "list": 424}),
+            ("batch_references", {"order": 404, "line": 424, "stock": 404}),
         ]:
             status, value = self.client.ask("POST", BATCH_URL, example(name), CONTINUE)
             assert (status, match(example(name), value)) == (200, wanted), name
 
     @pytest.mark.parametrize("name, code, word, place", [
-        ("too_early", "F41", "ForwardName", "/requests/0"),
-        ("wrong_body", "F21", "BadBody", "/requests/1"),
+        ("batch_too_early", "F41", "ForwardName", "/requests/0"),
+        ("batch_wrong_body", "F21", "BadBody", "/requests/1"),
     ])  # fmt: skip
     def test_refuses_the_other_batches_of_the_examples(self, name, code, word, place):
         status, value = self.client.ask("POST", BATCH_URL, example(name))

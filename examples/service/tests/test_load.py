@@ -90,7 +90,7 @@ def example(name, prefix):
 def documents():
     """The batches of the clients: random ones, and at the end those of the examples for each client."""
     found = [good_batch(Random(f"load {k}"), f"k{k}") for k in range(BATCHES)]
-    return found + [example(name, f"{name}{k}") for name in ("usual", "references") for k in range(CLIENTS)]
+    return found + [example(f"batch_{name}", f"{name}{k}") for name in ("usual", "references") for k in range(CLIENTS)]
 
 
 def marked(batch):
