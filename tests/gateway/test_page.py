@@ -128,22 +128,17 @@ def grouped(seen):
 def test_the_options_of_the_page_are_those_of_the_help():
     from odb_batch.gateway._options import parser
 
-    rows = re.search(r"\n\| option \|.*?\n\n", page(), re.DOTALL)[0].splitlines()[3:]
-    shown = {
-        name: row.split(" | ")[1] for row in rows if row for name in re.findall(r"`(--[\w-]+)", row.partition(" | ")[0])
-    }
-    known = {it.option_strings[0]: it for it in parser()._actions if it.option_strings[0] != "-h"}
-    assert list(shown) == ["--upstream", "--route", "--groups", "--listen", *list(shown)[4:]] and set(shown) == set(
-        known
-    )
-    for name, value in shown.items():
-        usual = known[name].default
-        if value.replace(",", "").isdigit():
-            assert float(value.replace(",", "")) == usual, name
-        elif name == "--listen":
-            assert value == f"{usual.host}:{usual.port}"
-        elif isinstance(usual, str):
-            assert value.strip("`") == (usual or "none"), name
+    section = re.search(r"(?s)\n## Options\n\n(.*?)\n\n", page())[1]
+    shown = dict(re.findall(r"`(--[\w-]+) ?([^`]*)`", section))
+    known = {it.option_strings[0]: it.default for it in parser()._actions if it.option_strings[0] != "-h"}
+    assert sorted(shown) == sorted([*known, "--help"])
+    for name, usual in known.items():
+        if not usual:
+            assert shown[name] == "", name
+        elif isinstance(usual, tuple):
+            assert shown[name] == f"{usual.host}:{usual.port}", name
+        else:
+            assert shown[name] == (usual if isinstance(usual, str) else f"{usual:.0f}"), name
 
 
 def test_the_codes_of_the_page_are_those_of_the_gateway():
