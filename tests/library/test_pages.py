@@ -1,6 +1,7 @@
 """The programs of docs/embedding.md, and those of examples/ that it names, in the languages that are installed.
 
-In pages/ is what calls them: each prints what a check and a live run of one request return.
+In pages/ is what calls them: each prints what a check and a live run of one request return. The packages for Python
+and Node, whose pages have tests of their own, check a batch by check.py and check.js.
 """
 
 import re
@@ -11,7 +12,7 @@ import sys
 import pytest
 
 from support.commands import run
-from support.embedding import ANSWERED, IN_NODE, IN_PYTHON, LIVE, ONE, STRICT, block, text_of
+from support.embedding import ANSWERED, IN_NODE, IN_PYTHON, ONE, STRICT, block, text_of
 from support.program import EXAMPLES, ROOT
 
 PAGES = f"{ROOT}/tests/library/pages"
@@ -78,16 +79,14 @@ def test_csharp(environment, tmp_path):
     run("dotnet", "run", wanted=ONE + ANSWERED, cwd=tmp_path, env=environment)
 
 
-@pytest.mark.parametrize("at, wanted", [(0, IN_PYTHON), (1, LIVE)], ids=PROGRAMS)
-def test_python(at, wanted, environment, tmp_path):
-    lay_out(tmp_path, page_py=block("python", at))
+def test_python(environment, tmp_path):
+    lay_out(tmp_path, f"{PAGES}/check.py")
     found = {key: value for key, value in environment.items() if key != "ODB_BATCH_LIBRARY"}  # by the loader
-    run(sys.executable, "page.py", wanted=wanted, cwd=tmp_path, env=found)
+    run(sys.executable, "check.py", wanted=IN_PYTHON, cwd=tmp_path, env=found)
 
 
-@pytest.mark.parametrize("at, wanted", [(0, IN_NODE), (1, LIVE)], ids=PROGRAMS)
-def test_node(at, wanted, module, tmp_path):
-    lay_out(tmp_path, page_js=block("js", at))
+def test_node(module, tmp_path):
+    lay_out(tmp_path, f"{PAGES}/check.js")
     (tmp_path / "node_modules").mkdir()
     (tmp_path / "node_modules" / "odb-batch").symlink_to(module)
-    run("node", "page.js", wanted=wanted, cwd=tmp_path)
+    run("node", "check.js", wanted=IN_NODE, cwd=tmp_path)

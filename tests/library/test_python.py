@@ -10,7 +10,7 @@ import zipfile
 import pytest
 
 from support.commands import run
-from support.embedding import IN_PYTHON, block
+from support.embedding import IN_PYTHON, check_in
 from support.program import ROOT, SHARED
 
 
@@ -52,7 +52,7 @@ def test_it_is_installed_without_a_network(library, environment, tmp_path):
     shutil.copy(f"{library}/{SHARED}", copy / "odb_batch")
     pip = ["-m", "pip", "install", "-q", "--no-index", "--no-cache-dir", "--disable-pip-version-check"]
     run(sys.executable, *pip, "--root-user-action=ignore", "--target", place, copy, env=environment)
-    (tmp_path / "page.py").write_text(block("python"), encoding="utf-8")
+    (tmp_path / "page.py").write_text(check_in("check.py"), encoding="utf-8")
     plain = {key: it for key, it in environment.items() if key not in ("ODB_BATCH_LIBRARY", "LD_LIBRARY_PATH")}
     plain["PYTHONPATH"] = str(place)
     run(sys.executable, tmp_path / "page.py", wanted=IN_PYTHON, env=plain)

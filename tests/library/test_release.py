@@ -23,7 +23,7 @@ import pytest
 import declarations
 from support import targets
 from support.commands import run
-from support.embedding import IN_NODE, IN_PYTHON, ONE, STRICT, block, text_of
+from support.embedding import IN_NODE, IN_PYTHON, ONE, STRICT, block, check_in, text_of
 from support.program import ROOT
 
 VERSION = text_of("VERSION").strip()
@@ -402,7 +402,7 @@ def test_c_with_the_static_library(unpacked, tmp_path):
 
 
 def test_the_wheel(unpacked, python):
-    page = unpacked.write("page.py", block("python") + "import odb_batch\nprint(odb_batch.__version__)\n")
+    page = unpacked.write("page.py", check_in("check.py") + "import odb_batch\nprint(odb_batch.__version__)\n")
     unpacked.run(python, page, wanted=f"{IN_PYTHON}{VERSION}\n")
 
 
@@ -454,7 +454,7 @@ def node(unpacked, need):
 
 
 def test_the_package_for_node(unpacked, node):
-    page = unpacked.write("node/page.js", block("js") + "console.log(require('odb-batch').version)\n")
+    page = unpacked.write("node/page.js", check_in("check.js") + "console.log(require('odb-batch').version)\n")
     unpacked.run("node", page, wanted=f"{IN_NODE}{VERSION}\n", cwd=node)
 
 

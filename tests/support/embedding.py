@@ -11,15 +11,9 @@ STRICT = ["-Wall", "-Wextra", "-Werror", "-pedantic"]
 ONE = "ok 1 requests 0 groups\n"
 ANSWERED = '{"responses":[{"id":"a","status":204}]}\n'
 
-# What the first programs in Python and Node print.
+# What check.py and check.js of tests/library/pages/ print.
 IN_PYTHON = "Counts(requests=1, groups=0)\n['a']\n"
 IN_NODE = "{ requests: 1, groups: 0 } [ 'a' ]\n"
-
-# The response that the live runs of the page print.
-LIVE = (
-    '{"responses":[{"body":{"of":"a"},"headers":{"etag":"7"},"id":"a","status":200},'
-    '{"body":{"of":"b"},"headers":{"etag":"7"},"id":"b","status":200}]}\n'
-)
 
 
 def text_of(*names):
@@ -31,3 +25,8 @@ def text_of(*names):
 def block(language, at=0):
     """The program of docs/embedding.md in a language; a later one if there are several."""
     return re.findall(rf"```{language}\n(.*?)```", text_of("docs", "embedding.md"), re.DOTALL)[at]
+
+
+def check_in(name):
+    """A program in tests/library/pages/ that checks and plans a batch by a package."""
+    return text_of("tests", "library", "pages", name)
