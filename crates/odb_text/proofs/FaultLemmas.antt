@@ -1,5 +1,5 @@
 -- A list of faults as text, fault by fault.
-use Rattle.std.proofs.Common.{◌≡◌, ◌∙◌, ◌<◌, ◌+◌, ℕ, Bool, true, false, List, [], ◌∷◌, ◌++◌, length, take, get_or, map, refl, sym, ap, codes, arith, append_assoc, append-nil, length-append, lt-ltb, nat_lt}
+use Rattle.std.proofs.Common.{◌≡◌, ◌∙◌, ◌<◌, ◌+◌, ℕ, Bool, true, false, List, [], ◌∷◌, ◌++◌, length, take, get_or, map, sym, ap, codes, arith, append_assoc, append-nil, length-append, lt-ltb, nat_lt}
 use Rattle.std.proofs.lemmas.List.{length-map, map-append, take_more}
 use Rattle.serde_json.specs.Data.{Data, array, object, put, no_members}
 use Rattle.serde_json.specs.View.{items_of}

@@ -28,11 +28,11 @@ use Rattle.odb_text.proofs.SamePlanLemmas.{AreKnown, below-one, id-some, known, 
 
 -- ---- texts without a byte
 
-abbrev has : ℕ → List ℕ → Bool
+abbrev pub has : ℕ → List ℕ → Bool
 has c [] = false
 has c (x ∷ xs) = (x == c) || has c xs
 
-lacks-append : (c : ℕ) (a b : List ℕ) → has c a ≡ false → has c b ≡ false → has c (a ++ b) ≡ false
+pub lacks-append : (c : ℕ) (a b : List ℕ) → has c a ≡ false → has c b ≡ false → has c (a ++ b) ≡ false
 lacks-append c [] b left right = right
 lacks-append c (x ∷ a) b left right = let parts = or_parts (x == c) (has c a) left in or_from (x == c) _ parts.0 (lacks-append c a b parts.1 right)
 
@@ -66,7 +66,7 @@ lacks-passing c bad (x ∷ text) each =
     or_from (x == c) _ (ne_eqb x c (λ same. false≢true (sym bad ∙ ap is_unreserved (sym same) ∙ All-head (λ y. is_unreserved y ≡ true) x text each)))
     (lacks-passing c bad text (All-tail (λ y. is_unreserved y ≡ true) x text each))
 
-lacks-name : (c : ℕ) → is_unreserved c ≡ false → (text : List ℕ) → IsRequestId text → has c text ≡ false
+pub lacks-name : (c : ℕ) → is_unreserved c ≡ false → (text : List ℕ) → IsRequestId text → has c text ≡ false
 lacks-name c bad text is = lacks-passing c bad text is.1
 
 lacks-digits : (c : ℕ) → 10 ≤ digit_value c → (ds : List ℕ) → AllDigits 10 ds → has c ds ≡ false
@@ -79,7 +79,7 @@ lacks-decimal c n high small = lacks-digits c high (decimal n) (decimal_is_IsNum
 
 -- ---- names
 
-abbrev AreNamed : List Record → Type 0
+abbrev pub AreNamed : List Record → Type 0
 AreNamed [] = Unit {0}
 AreNamed (r ∷ rs) = (IsRequestId r.id × IfSome r.group IsRequestId) × AreNamed rs
 
@@ -87,13 +87,13 @@ group-named : (d : Data) (group : Option (List ℕ)) → HasGroup d group → If
 group-named d None is = tt
 group-named d (Some group) is = is.1
 
-elements-named : (ds : List Data) (rs : List Record) → AllZip ReadsAs ds rs → AreNamed rs
+pub elements-named : (ds : List Data) (rs : List Record) → AllZip ReadsAs ds rs → AreNamed rs
 elements-named [] [] is = tt
 elements-named [] (r ∷ rs) is = absurd is
 elements-named (d ∷ ds) [] is = absurd is
 elements-named (d ∷ ds) (r ∷ rs) (here, rest) = ((here.id.form, group-named d r.group here.group), elements-named ds rs rest)
 
-id-form : (rs : List Record) → AreNamed rs → (i : ℕ) (id : List ℕ) → id_at rs i ≡ Some id → IsRequestId id
+pub id-form : (rs : List Record) → AreNamed rs → (i : ℕ) (id : List ℕ) → id_at rs i ≡ Some id → IsRequestId id
 id-form [] all i id is = absurd (cc is)
 id-form (r ∷ rs) all zero id is = subst IsRequestId (same_Some r.id id is) all.0.0
 id-form (r ∷ rs) all (suc i) id is = id-form rs all.1 i id is
@@ -168,7 +168,7 @@ spread : (i level : ℕ) (id group rest : List ℕ)
     → line_head i id level group ++ rest ≡ decimal i ++ (32 ∷ (id ++ (32 ∷ (codes "level " ++ (decimal level ++ (32 ∷ (codes "group " ++ (group ++ (32 ∷ (codes "needs " ++ rest))))))))))
 spread i level id group rest = simp append_assoc
 
-abbrev Lack : ℕ → List ℕ → Type 0
+abbrev pub Lack : ℕ → List ℕ → Type 0
 Lack c text = has c text ≡ false
 
 fields-one : (i level level' : ℕ) (id id' group group' names names' : List ℕ) → i < 2 ^ 64 → level < 2 ^ 64 → level' < 2 ^ 64 → Lack 32 id → Lack 32 id' → Lack 32 group → Lack 32 group' → Lack 10 names → Lack 10 names'
@@ -187,14 +187,14 @@ fields-one i level level' id id' group group' names names' small low low' a a' b
 
 -- ---- the lines
 
-abbrev IsLine : List ℕ → Type 0
+abbrev pub IsLine : List ℕ → Type 0
 IsLine text = (body : List ℕ) × (Lack 10 body × (text ≡ body ++ 10 ∷ []))
 
-abbrev AreLines : List (List ℕ) → Type 0
+abbrev pub AreLines : List (List ℕ) → Type 0
 AreLines [] = Unit {0}
 AreLines (line ∷ lines) = IsLine line × AreLines lines
 
-abbrev joined : List (List ℕ) → List ℕ
+abbrev pub joined : List (List ℕ) → List ℕ
 joined lines = flat_map (λ (line : List ℕ). line) lines
 
 not-empty : (body rest : List ℕ) → [] ≡ (body ++ 10 ∷ []) ++ rest → ⊥
@@ -216,11 +216,11 @@ lines-more : (lines : List (List ℕ)) (line : List ℕ) → AreLines lines → 
 lines-more [] line all is = (is, tt)
 lines-more (x ∷ lines) line all is = (all.0, lines-more lines line all.1 is)
 
-lines-below : (n : ℕ) (f : ℕ → List ℕ) → ((i : ℕ) → i < n → IsLine (f i)) → AreLines (list_below n f)
+pub lines-below : (n : ℕ) (f : ℕ → List ℕ) → ((i : ℕ) → i < n → IsLine (f i)) → AreLines (list_below n f)
 lines-below zero f each = tt
 lines-below (suc n) f each = lines-more (list_below n f) (f n) (lines-below n f (λ i less. each i (omega (arith, less)))) (each n (omega arith))
 
-joined-below : (n : ℕ) (f : ℕ → List ℕ) → joined_below n f ≡ joined (list_below n f)
+pub joined-below : (n : ℕ) (f : ℕ → List ℕ) → joined_below n f ≡ joined (list_below n f)
 joined-below zero f = refl
 joined-below (suc n) f =
     ap (λ (text : List ℕ). text ++ f n) (joined-below n f) ∙ ap (λ (last : List ℕ). joined (list_below n f) ++ last) (sym (append-nil (f n))) ∙ sym (flat_map-append (λ (line : List ℕ). line) (list_below n f) (f n ∷ []))
@@ -235,7 +235,7 @@ pub record HasWords (rs : List Record) (i : ℕ) : Type 0 where
   pub group : IfSome (group_at rs i) IsRequestId
   pub names : HaveNames rs (needs_at rs i)
 
-has-words : (rs : List Record) → AreNamed rs → length rs < 2 ^ 64 → (i : ℕ) → i < length rs → HasWords rs i
+pub has-words : (rs : List Record) → AreNamed rs → length rs < 2 ^ 64 → (i : ℕ) → i < length rs → HasWords rs i
 has-words rs all few i less = record {
   small = omega (arith, less, few);
   low = omega (arith, levels-low rs (length rs) i, few);
@@ -244,7 +244,7 @@ has-words rs all few i less = record {
   names = have-names rs all (needs_at rs i) (known rs (needed_names rs i));
 }
 
-line-is : (rs : List Record) (i : ℕ) → HasWords rs i → IsLine (plan_line rs i)
+pub line-is : (rs : List Record) (i : ℕ) → HasWords rs i → IsLine (plan_line rs i)
 line-is rs i words =
     let id = id_text rs i in
     let group = group_text (group_at rs i) in

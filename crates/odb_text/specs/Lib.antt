@@ -7,5 +7,6 @@ pub mod Results
 pub mod FullPlans
 pub mod Traces
 pub mod SamePlans
+pub mod DrawnLines
 -- What serves invariants and private clauses alone: the results as JSON by their parts.
 pub mod ResultParts

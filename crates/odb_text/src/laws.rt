@@ -2,17 +2,26 @@
 //!
 //! The laws are clauses of functions that change nothing. They speak of the words that the calls of this crate cite.
 
-ghost use Rattle.std.specs.Prelude.{◌≡◌, ◌<◌, ◌^◌, ℕ, Contains, List, Some, length, slice_index};
+ghost use Rattle.std.specs.Prelude.{◌≡◌, ◌<◌, ◌^◌, ◌++◌, ◌∷◌, [], ℕ, Contains, List, Some, length, map, slice_get, slice_index};
 ghost use Rattle.serde_json.specs.Read.{read};
 ghost use Rattle.odb_doc.specs.Refusals.{Printed};
 ghost use Rattle.serde_json.specs.Data.{Data};
 ghost use Rattle.odb_check.specs.declared.need.Need.TheVariants.{Group, One};
+ghost use Rattle.odb_check.specs.Firsts.{joined_below, list_below};
+ghost use Rattle.odb_check.specs.Levels.{level_at};
 ghost use Rattle.odb_check.specs.Needs.{needs_at};
-ghost use Rattle.odb_check.specs.Texts.{plan_text};
+ghost use Rattle.odb_check.specs.Positions.{group_at};
+ghost use Rattle.odb_check.specs.Texts.{plan_line, plan_text};
 ghost use Rattle.odb_check.specs.Units.{unit_at};
 ghost use Rattle.odb_doc.specs.batch.Records.{IsBatchOf, Record};
-ghost use Rattle.odb_text.specs.Drawings.{arrow_start};
+ghost use Rattle.odb_sched.specs.declared.event.Step.{Step};
+ghost use Rattle.odb_sched.specs.run.Answers.{undone};
+ghost use Rattle.odb_sched.specs.run.State.{State};
+ghost use Rattle.odb_text.specs.DrawnLines.{clusters_of, lines_of, marked, nodes_of};
+ghost use Rattle.odb_text.specs.Drawings.{arrow_line, arrow_start, drawing_text, rank_line};
+ghost use Rattle.odb_text.specs.Rows.{row_at};
 ghost use Rattle.odb_text.specs.Shown.{IsOneString, quoted};
+ghost use Rattle.odb_text.specs.Traces.{step_line, trace_text, undo_line};
 ghost use Rattle.odb_text.specs.SamePlans.{IsSamePlan};
 ghost use Rattle.odb_text.specs.Results.{counts_value, fault_value, json_line, match_value, plan_value};
 
@@ -61,4 +70,26 @@ pub fn every_arrow()
 /// next one that no backslash escapes. So no text of a document ends its label early.
 pub fn every_label()
     ensures { (text : List ℕ) → IsOneString (quoted text) }
+{}
+
+/// A text has the lines that it is made of, and no others, whatever the document has in it.
+///
+/// - A plan has a line for each request, and a trace one for each step and for each request that is undone, in order.
+/// - A drawing has a node for each request (its mark is `[`), a line of a cluster for each request with a group (`s`),
+///   a rank for each request (`{`) and an arrow for each dependency of each request (`-`), in order, and no other
+///   lines with these marks.
+pub fn every_line()
+    ensures plan { (value : Data) (batch : List Record) → IsBatchOf value batch → length batch < 2 ^ 64
+        → lines_of (plan_text batch) ≡ list_below (length batch) (plan_line batch) }
+    ensures trace { (value : Data) (state : State) (steps : List Step) → IsBatchOf value state.requests
+        → lines_of (trace_text state steps) ≡ map (step_line state) steps
+        ++ map (undo_line state) (undone state) }
+    ensures nodes { (batch : List Record) → marked 91 (drawing_text batch)
+        ≡ joined_below (length batch) (λ i. nodes_of i (slice_get batch i)) }
+    ensures clusters { (batch : List Record) → marked 115 (drawing_text batch)
+        ≡ joined_below (length batch) (λ i. clusters_of (unit_at batch i) i (group_at batch i)) }
+    ensures ranks { (batch : List Record) → marked 123 (drawing_text batch)
+        ≡ joined_below (length batch) (λ i. rank_line (level_at batch i) (row_at batch i) i ∷ []) }
+    ensures arrows { (batch : List Record) → marked 45 (drawing_text batch)
+        ≡ joined_below (length batch) (λ i. map (arrow_line batch i) (needs_at batch i)) }
 {}

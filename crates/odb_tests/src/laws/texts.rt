@@ -1,11 +1,15 @@
-//! Texts of plans and faults: as JSON they are read as the values that they show, equal ones are of one plan, and a
-//! label is one string.
+//! Texts of plans and faults: as JSON they are read as the values that they show, equal ones are of one plan, a label is
+//! one string, and a drawing has a node for each request.
 
-ghost use Rattle.std.specs.Prelude.{◌≡◌, true, IfSome, string_bytes};
+ghost use Rattle.std.specs.Prelude.{◌≡◌, true, IfSome, length, map, slice_get, string_bytes};
 ghost use Rattle.serde_json.specs.View.{view};
+ghost use Rattle.odb_check.specs.Firsts.{joined_below};
+ghost use Rattle.odb_check.specs.Needs.{needs_at};
 ghost use Rattle.odb_check.specs.Plans.{plan_records};
 ghost use Rattle.odb_doc.specs.Refusals.{printed};
 ghost use Rattle.odb_tests.specs.Texts.{AreOnePlan, IsPlanText};
+ghost use Rattle.odb_text.specs.Drawings.{arrow_line};
+ghost use Rattle.odb_text.specs.DrawnLines.{marked, nodes_of};
 ghost use Rattle.odb_text.specs.Results.{fault_value, plan_value};
 ghost use Rattle.odb_text.specs.SamePlans.{IsSamePlan};
 ghost use Rattle.odb_text.specs.Shown.{IsOneString};
@@ -14,8 +18,8 @@ use crate::engines::PAIR;
 use odb_check::{Plan, check};
 use odb_doc::text::push_quoted;
 use odb_doc::{Batch, Place, Refusal, parse};
-use odb_text::laws::{every_label, every_result, one_plan};
-use odb_text::{fault_json, plan_json};
+use odb_text::laws::{every_label, every_line, every_result, one_plan};
+use odb_text::{drawing_text, fault_json, plan_json};
 use serde_json::Value;
 use std::alloc::Global;
 
@@ -88,6 +92,33 @@ fn label_of(alloc: Global, text: &str) -> Option<String>
     Some(label)
 }
 
+/// Returns the drawing of a plan, which has a node for each request and an arrow for each dependency.
+fn drawing_of(alloc: Global, plan: &Plan<'_>) -> Option<String>
+    ensures nodes { IfSome result (λ text. marked 91 (string_bytes text)
+        ≡ joined_below (length (plan_records plan.now)) (λ i. nodes_of i (slice_get (plan_records plan.now) i))) }
+    ensures arrows { IfSome result (λ text. marked 45 (string_bytes text)
+        ≡ joined_below (length (plan_records plan.now))
+            (λ i. map (arrow_line (plan_records plan.now) i) (needs_at (plan_records plan.now) i))) }
+{
+    every_line();
+    drawing_text(alloc, plan).ok()
+}
+
+/// Counts the lines of a text that have a word.
+fn count_with(text: &str, word: &str) -> usize {
+    text.lines().filter(|line| line.contains(word)).count()
+}
+
+/// Whether the drawing of a batch of two requests, of which one depends on the other, has two nodes and an arrow.
+fn is_drawn(alloc: Global, bytes: &[u8]) -> Option<bool> {
+    let value = parse(alloc, bytes).ok()?;
+    let batch = Batch::read(alloc, &value).ok()?;
+    let plan = check(alloc, &batch).ok()?;
+    let text = drawing_of(alloc, &plan)?;
+    let drawn = text.as_str();
+    Some(count_with(drawn, " [label=") == 2 && count_with(drawn, "  0 -> 1") == 1)
+}
+
 /// Whether the texts of the plan of a batch, and of its plan again, are as the laws have it.
 fn is_read_again(alloc: Global, bytes: &[u8]) -> Option<bool> {
     let value = parse(alloc, bytes).ok()?;
@@ -113,4 +144,9 @@ fn texts_as_json_are_read_again(rt: HostRuntime) {
 fn a_label_is_one_string(rt: HostRuntime) {
     let label = label_of(rt.alloc(), "a\"]; evil \\");
     assert!(rt; label.is_some_and(|it| it.as_str() == "\"a\\\"]; evil \\\\\""));
+}
+
+#[test]
+fn a_drawing_has_a_node_for_each_request(rt: HostRuntime) {
+    assert!(rt; is_drawn(rt.alloc(), PAIR.as_bytes()) == Some(true));
 }

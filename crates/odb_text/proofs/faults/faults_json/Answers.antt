@@ -1,7 +1,6 @@
-use Rattle.std.proofs.Common.{◌≡◌, ◌++◌, Bool, map, string_bytes, subst}
+use Rattle.std.proofs.Common.{map, string_bytes}
 use Rattle.std.proofs.lemmas.List.{take_all}
 use Rattle.odb_doc.specs.Refusals.{printed}
-use Rattle.odb_text.specs.ResultParts.{listed_part}
 use Rattle.odb_text.proofs.FaultLemmas.{listed-end, listed-next, no_refusal, some_listed}
 use Rattle.odb_text.proofs.faults.faults_json.Goals as goal
 
