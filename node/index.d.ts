@@ -98,7 +98,7 @@ export interface Replay {
   undone: string[]
 }
 
-/** A document is refused, by the least fault that it has. */
+/** A document is refused, by its first fault. */
 export class Fault extends Error {
   constructor(code: string, faultName: string, place: string)
   /** Its code, as `F41`, `S4` or `P2`. */

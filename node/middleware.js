@@ -109,7 +109,7 @@ async function answerOf(answered, req, { path, root, allowed, maxSize, performed
   return { status: 200, headers: { 'content-type': 'application/json', ...applied }, body }
 }
 
-/** The answer in place of one that failed. A batch that is refused is answered with its least fault. */
+/** The answer in place of one that failed. A batch that is refused is answered with its first fault. */
 function failedOf(error, log) {
   if (error instanceof Fault) {
     const { code, faultName, explanation, place } = error

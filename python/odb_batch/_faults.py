@@ -31,7 +31,7 @@ class OdbError(Exception):
 
 
 class Fault(OdbError, ValueError):
-    """A document is refused, by the least fault that it has.
+    """A document is refused, by its first fault.
 
     Its text is the code, the name and the place, as ``F41 ForwardName /requests/0``.
 
