@@ -1,4 +1,4 @@
-//! What the requests of a batch determine: the least fault of their names; and what holds of every
+//! What the requests of a batch determine: the first fault of their names; and what holds of every
 //! plan.
 //!
 //! The laws are clauses of functions that change nothing. They speak of the words that the clauses of
@@ -19,7 +19,7 @@ ghost use Rattle.odb_check.specs.PlanGraph.{HasNamesAsNeeds, IsPlan, IsPlanGraph
 
 use crate::plan::Plan;
 
-/// Requests have one least fault of names at most, and none where their names are good (OData JSON
+/// Requests have one first fault of names at most, and none where their names are good (OData JSON
 /// Format 4.01, sections 19.1 and 19.2).
 pub fn one_fault()
     ensures one { (requests : List Record) (fault other : CheckFault) → IsSome (check_row fault)

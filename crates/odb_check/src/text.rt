@@ -94,6 +94,8 @@ impl Plan<'_> {
     /// commas between them, or `*`: the identifier of a request, or the name of a group.
     ///
     /// `alloc` is asked for the text alone. Returns `AllocError` if that allocation fails.
+    ///
+    /// Example: `plan_text_of` in crates/odb_tests/src/laws/texts.rt.
     pub fn text(&self, alloc: Global) -> Result<String, AllocError>
         ensures { IfOk result (λ text. string_bytes text
             ≡ texts.plan_text (plan_records self.now)) }

@@ -133,9 +133,11 @@ impl<'a> Batch<'a> {
     /// It takes O(n log n) for a document of n bytes, whatever its names are: repeats are found by
     /// order and not by hash, so no choice of names makes it slow.
     ///
+    /// Example: `respond` in crates/odb_tests/src/examples/runs.rt.
+    ///
     /// # Errors
     ///
-    /// The least fault of the document as a whole, F03 to F06, if there is one; else, at the
+    /// The first fault of the document as a whole, F03 to F06, if there is one; else, at the
     /// first request that has a fault, the least of F10 to F23 by number. `OutOfMemory` if an
     /// allocation fails, in place of F10 to F23 or of a batch that has a request.
     pub fn read(alloc: Global, document: &'a Value) -> Result<Batch<'a>, DocFault>

@@ -59,6 +59,8 @@ impl Batch<'_> {
     /// Allocates the text, and the text of one body, or of one string with escapes, at a time. It takes
     /// O(n) for a text of n bytes.
     ///
+    /// Example: `cache_key` in crates/odb_tests/src/examples/replies.rt.
+    ///
     /// # Errors
     ///
     /// `NotWhole` if and only if a body holds a number that is not whole, with the first such

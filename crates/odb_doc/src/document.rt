@@ -15,6 +15,8 @@ pub const MAX_DOCUMENT_BYTES: usize = 16_777_216;
 
 /// Returns the JSON value of a document. It nests at most 127 deep.
 ///
+/// Example: `respond` in crates/odb_tests/src/examples/runs.rt.
+///
 /// # Errors
 ///
 /// F01 if and only if the document is larger than 16,777,216 bytes; else F02 if it is not JSON.

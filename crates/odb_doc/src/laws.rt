@@ -1,4 +1,4 @@
-//! What a value determines: its least fault, and the batch, the outcomes or the events that it is; and
+//! What a value determines: its first fault, and the batch, the outcomes or the events that it is; and
 //! what the canonical text of a batch determines.
 //!
 //! The laws are clauses of functions that change nothing. They speak of the words that the clauses of
@@ -32,7 +32,7 @@ ghost use Rattle.odb_doc.specs.WholeNumbers.{IsWhole};
 
 use crate::recorded::outcome::Outcome;
 
-/// A value has one least fault of shape at most, and none if it is well shaped (OData JSON Format
+/// A value has one first fault of shape at most, and none if it is well shaped (OData JSON Format
 /// 4.01, section 19.1).
 pub fn one_fault()
     ensures one { (value : Data) (fault other : DocFault) → IsSome (document_row fault) → IsSome (document_row other)
@@ -60,7 +60,7 @@ pub fn one_batch()
     odb_names::laws::one_reading();
 }
 
-/// A value has one least fault as a document of outcomes at most, and none if it is a good one; and it
+/// A value has one first fault as a document of outcomes at most, and none if it is a good one; and it
 /// is one list of outcomes at most: their ids, and their statuses, headers and bodies by value. Its
 /// bodies nest at most 124 deep if it nests at most 127 deep, as [`every_value`] says of what is read.
 pub fn one_record()
@@ -76,7 +76,7 @@ pub fn one_record()
         → All (λ entry. IsRecordable entry.1) entries }
 {}
 
-/// A value has one least fault as a document of events at most, and none if it is a good one; and it
+/// A value has one first fault as a document of events at most, and none if it is a good one; and it
 /// is one list of events at most, by their ids and outcomes. The bodies nest as in [`one_record`].
 pub fn one_history()
     ensures one { (value : Data) (fault other : EventFault) → IsSome (event_faults.event_row fault)

@@ -1,7 +1,7 @@
 //! OData JSON batch documents: from bytes to the requests of a batch.
 //!
 //! A batch comes as a JSON document (OData JSON Format 4.01, section 19.1). [`parse`] makes a value
-//! of its bytes, and [`Batch::read`] makes the batch of that value, or returns the least fault of its
+//! of its bytes, and [`Batch::read`] makes the batch of that value, or returns the first fault of its
 //! shape; [`shape_faults`] returns all of them. The crates above decide whether the names in the
 //! requests fit together.
 //! [`Batch::canonical`] returns the one text of all documents that make the same batch.

@@ -29,12 +29,14 @@ pub fn canonical_text(alloc: Global, batch: &Batch<'_>) -> Result<String, Halt>
     Ok(text)
 }
 
-/// Writes the canonical text of the batch in a document, and a newline; or the line of the least fault.
+/// Writes the canonical text of the batch in a document, and a newline; or the line of the first fault.
 ///
 /// Two batches whose bodies have whole numbers alone mean the same if and only if their canonical
 /// texts are equal. The arguments are those of
 /// [`crate::check_batch`]. Takes O(n log n) time for a document of n bytes, and the text is held in
 /// memory.
+///
+/// Example: `called_plainly` in crates/odb_tests/src/engines.rt.
 ///
 /// # Errors
 ///

@@ -67,7 +67,7 @@ pub trait Command {
 ///
 /// # Errors
 ///
-/// `Refused` by the least fault of the names of its requests; `OutOfMemory` if an allocation fails. Never
+/// `Refused` by the first fault of the names of its requests; `OutOfMemory` if an allocation fails. Never
 /// `Read`.
 pub fn plan_of<'a: 'b, 'b>(
     alloc: Global,
@@ -114,7 +114,7 @@ fn text_in<S: Source, C: Command>(
 ///
 /// # Errors
 ///
-/// `Read` if and only if a read of one of the sources failed; `Refused` by the least fault of the batch, or
+/// `Read` if and only if a read of one of the sources failed; `Refused` by the first fault of the batch, or
 /// as the command refuses; `OutOfMemory` if an allocation fails.
 pub fn text_of<R: Source, S: Source, C: Command>(
     alloc: Global,
@@ -140,10 +140,12 @@ pub fn text_of<R: Source, S: Source, C: Command>(
 }
 
 /// Does a task, or another command: writes what it writes of the batch that the first source gives, by the second
-/// source if it takes a second document; or the least fault. The second source is read only if the check accepts
+/// source if it takes a second document; or the first fault. The second source is read only if the check accepts
 /// the batch.
 ///
 /// The sources must be new, and the output must not have failed. The text is held in memory and written whole.
+///
+/// Example: `called_plainly` in crates/odb_tests/src/engines.rt.
 ///
 /// # Errors
 ///

@@ -50,7 +50,7 @@ impl<'d> Command for FullPlan<'d> {
 ///
 /// # Errors
 ///
-/// `Refused` by the least fault of the batch; `OutOfMemory` if an allocation fails. Never `Read`.
+/// `Refused` by the first fault of the batch; `OutOfMemory` if an allocation fails. Never `Read`.
 pub(crate) fn full_plan_text(alloc: Global, document: &[u8], setup: Setup) -> Result<String, Halt>
     ensures found { Found (FullPlans document.now) setup.form result }
     ensures read { result ≢ Err halts.Read }
@@ -78,6 +78,8 @@ fn full_plan_of<R: Read>(alloc: Global, input: &mut Input<R>, setup: Setup) -> R
 ///
 /// The input must be new, and the output must not have failed. The document and the text of the plan are held in
 /// memory. Takes O(n log n) time and O(n) memory for a document of n bytes.
+///
+/// Example: `planned` in crates/odb_tests/src/engines/full_plans.rt.
 ///
 /// # Errors
 ///

@@ -1,7 +1,7 @@
 //! The commands as a library: one engine for all, over readers, bytes in memory or values in hand.
 //!
 //! A [`Task`] is a command with its options, and [`answer_task`] does it: it takes the batch from a [`Source`], and
-//! a second document from another if the task takes one, writes its result or the least fault, and returns how
+//! a second document from another if the task takes one, writes its result or the first fault, and returns how
 //! it ended. A [`Setup`] has the [`Form`] of what is written, lines of words or JSON, the seed of the tables of
 //! names, and whether what was read is dropped. [`check_batch`], [`plan_batch`], [`canon_batch`], [`match_batch`],
 //! [`replay_batch`] and [`run_batch`] are the tasks over readers, without a setup. A contract

@@ -113,9 +113,11 @@ fn open_on(alloc: Global, plan: &Plan<'_>, events: &[u8], policy: Policy) -> Res
 /// is O(requests + dependencies), the ids and groups, and the outcomes that the events report. Their bodies
 /// are values.
 ///
+/// Example: `send_all` in crates/odb_tests/src/examples/runs.rt.
+///
 /// # Errors
 ///
-/// `Refused` by the least fault of the batch; else of the events document; else F65 of the first event
+/// `Refused` by the first fault of the batch; else of the events document; else F65 of the first event
 /// that names no request; else the first event that may not come, with its first cause, S1 to S5 or P1
 /// and P2. `OutOfMemory` if an allocation fails. Never `Read`.
 pub fn open_run(
@@ -163,6 +165,8 @@ impl LiveRun {
     }
 
     /// Takes the outcome of a running request.
+    ///
+    /// Example: `send_next` in crates/odb_tests/src/examples/runs.rt.
     ///
     /// # Errors
     ///

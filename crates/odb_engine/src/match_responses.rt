@@ -121,6 +121,8 @@ pub fn matched(
 ///
 /// Takes O(n log n) time and O(n) memory for documents of n bytes.
 ///
+/// Example: `called` in crates/odb_tests/src/engines.rt.
+///
 /// # Errors
 ///
 /// Those of [`crate::check_batch`], of either input.

@@ -40,10 +40,12 @@ pub fn drawn_text(alloc: Global, plan: &Plan<'_>) -> Result<String, Halt>
     Ok(drawing_text(alloc, plan)?)
 }
 
-/// Plans the batch in a document: writes a line per request, or the line of its least fault.
+/// Plans the batch in a document: writes a line per request, or the line of its first fault.
 ///
 /// The arguments are those of [`crate::check_batch`], and so is the cost; the text of the plan is held in
 /// memory too.
+///
+/// Example: `called_plainly` in crates/odb_tests/src/engines.rt.
 ///
 /// # Errors
 ///

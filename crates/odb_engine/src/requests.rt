@@ -21,9 +21,11 @@ use std::alloc::Global;
 ///
 /// Names are looked up by the seed. Takes O(n log n) time and O(n) memory for a document of n bytes.
 ///
+/// Example: `finds_what_is_to_be_sent` in crates/odb_tests/src/requests.rt.
+///
 /// # Errors
 ///
-/// `Refused` by the least fault of the batch, as [`crate::check_batch`] refuses it; `OutOfMemory` if an allocation
+/// `Refused` by the first fault of the batch, as [`crate::check_batch`] refuses it; `OutOfMemory` if an allocation
 /// fails. Never `Read`.
 pub fn requests_in(alloc: Global, batch: &[u8], seed: Seed) -> Result<Requests, Halt>
     ensures requests { IfOk result (Sends batch.now) }

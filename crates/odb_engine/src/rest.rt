@@ -37,7 +37,7 @@ use std::io::{Read, Write};
 ///
 /// # Errors
 ///
-/// `Refused` by the least fault of the responses, F70 to F75, or by F90; `OutOfMemory` if an allocation fails.
+/// `Refused` by the first fault of the responses, F70 to F75, or by F90; `OutOfMemory` if an allocation fails.
 /// Never `Read`.
 pub fn rest_written(
     alloc: Global,
@@ -105,9 +105,11 @@ fn rest_by<S: Source>(
 /// In `Mode::Stop` the service stops at its first error, and what it has left out is read as answered 424. Names
 /// are looked up by the seed. Takes O(n log n) time and O(n) memory for documents of n bytes.
 ///
+/// Example: `rest_in` in crates/odb_tests/src/rests.rt.
+///
 /// # Errors
 ///
-/// `Refused` by the least fault of the batch, as [`crate::check_batch`] refuses it; else by that of the responses, as
+/// `Refused` by the first fault of the batch, as [`crate::check_batch`] refuses it; else by that of the responses, as
 /// [`crate::match_batch`] refuses them; else by F90. `OutOfMemory` if an allocation fails. Never `Read`.
 pub fn rest_in(
     alloc: Global,
@@ -152,7 +154,7 @@ fn rest_line<R: Read, S: Read>(
 }
 
 /// Writes the rest of the batch in a document by the response document of a service, and a newline: what may be
-/// sent again, as a batch of its own (OData JSON Format 4.01, sections 19.1 and 19.4); or the least fault, in the form
+/// sent again, as a batch of its own (OData JSON Format 4.01, sections 19.1 and 19.4); or the first fault, in the form
 /// of the setup.
 ///
 /// In `Mode::Stop` the service stops at its first error, and what it has left out is read as answered 424. A body is
@@ -160,6 +162,8 @@ fn rest_line<R: Read, S: Read>(
 ///
 /// The inputs must be new, and the output must not have failed. The document, the responses and the text are held
 /// in memory. Takes O(n log n) time and O(n) memory for documents of n bytes.
+///
+/// Example: `left` in crates/odb_tests/src/engines/rests.rt.
 ///
 /// # Errors
 ///

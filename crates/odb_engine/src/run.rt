@@ -120,6 +120,8 @@ pub fn ran(
 /// Both documents and the response are held in memory. Takes O(n log n) time for n bytes of documents and
 /// output.
 ///
+/// Example: `called_plainly` in crates/odb_tests/src/engines.rt.
+///
 /// # Errors
 ///
 /// - `Read` if and only if an input failed; nothing was written.

@@ -258,6 +258,8 @@ fn prepared<'a: 'p, 'p>(
 /// ([`crate::laws::every_call`]). The chooser is asked once for each step before which it names no
 /// order, and for nothing else, as far as its relation `chooses` does.
 ///
+/// Example: `respond` in crates/odb_tests/src/examples/runs.rt.
+///
 /// # Errors
 ///
 /// F80, F81 or F82 for the request whose report was chosen, if the service has no outcome for it,

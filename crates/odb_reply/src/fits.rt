@@ -137,6 +137,8 @@ fn check_requests(
 /// Returns the place and the status of the response to each request. Allocates these, and a flag per
 /// unit. Takes O(responses + requests + dependencies), and a look-up in the plan for each response.
 ///
+/// Example: `accept` in crates/odb_tests/src/examples/replies.rt.
+///
 /// # Errors
 ///
 /// The first misfit: F71 or F72 at the first response that is unknown or repeated; else F73 at the

@@ -157,6 +157,8 @@ fn check_each(
 /// The table is that of [`crate::match_responses`] for the plan. Allocates a flag per unit and one per request. Takes
 /// O(requests + dependencies).
 ///
+/// Example: `answered_by_run` in crates/odb_tests/src/laws/replies.rt.
+///
 /// # Errors
 ///
 /// F76, F77 or F78 at the first request whose status breaks one of these rules, the one with the smallest number.

@@ -125,6 +125,8 @@ fn buffer_responses<W: Write, L: Labels>(
 /// 64 KiB, so it holds less than that and one response. What was written is read again as
 /// [`crate::response_text`] says.
 ///
+/// Example: `is_written` in crates/odb_tests/src/replies.rt.
+///
 /// # Errors
 ///
 /// `NotWhole` if and only if a body of the response holds a number that is not whole, with the first

@@ -110,6 +110,8 @@ impl<'a> Responses<'a> {
     /// members, of the document and of its elements, are ignored. Allocates the list of responses.
     /// Takes O(n) for a document of n bytes.
     ///
+    /// Example: `accept` in crates/odb_tests/src/examples/replies.rt.
+    ///
     /// # Errors
     ///
     /// `Document` if the document is not such an object, else `Response` at the first element that

@@ -80,6 +80,8 @@ impl Scheduler<'_> {
 
 /// Runs a plan by these events, in their order: takes them all in a new scheduler.
 ///
+/// Example: `recorded` in crates/odb_tests/src/examples/replies.rt.
+///
 /// # Errors
 ///
 /// Those of [`Scheduler::take_all`]; `OutOfMemory` if [`Scheduler::new`] cannot allocate its memory, as
@@ -192,6 +194,8 @@ fn resolved(plan: &Plan<'_>, at: usize, event: NamedEvent) -> Result<Event, Reso
 /// Returns the events by the positions of their requests, in their order. The outcomes are moved.
 ///
 /// Costs O(number of events).
+///
+/// Example: `recorded` in crates/odb_tests/src/examples/replies.rt.
 ///
 /// # Errors
 ///

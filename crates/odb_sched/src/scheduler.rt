@@ -55,6 +55,8 @@ impl<'p> Model for Scheduler<'p> {
 impl<'p> Scheduler<'p> {
     /// Returns a run before its first event. It allocates all that the run needs: later calls
     /// allocate nothing, and outcomes are moved in, not copied.
+    ///
+    /// Example: `holds_by_hand` in crates/odb_tests/src/runs/events.rt.
     pub fn new<'a: 'p>(
         alloc: Global,
         plan: &'p Plan<'a>,
@@ -70,6 +72,8 @@ impl<'p> Scheduler<'p> {
     }
 
     /// Returns the run without its requests.
+    ///
+    /// Example: `ended` in crates/odb_tests/src/runs/ends.rt.
     pub fn into_owned(self) -> OwnedRun
         ensures state { result ≡ state.without_requests self.entry }
         ensures going { result.closed ≡ false }

@@ -11,7 +11,6 @@ ghost use Rattle.odb_engine.specs.Tasks.{OfTask};
 
 pub mod devices;
 mod disposal;
-mod embedding;
 mod failures;
 mod full_plans;
 mod rests;

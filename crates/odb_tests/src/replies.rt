@@ -1,6 +1,5 @@
 //! Responses of finished runs to a library: their text, and what a writer receives of it.
 
-mod embedding;
 mod texts;
 mod writers;
 

@@ -1,7 +1,6 @@
 //! Runs of plans: what each event may do, which requests are ready and which run after it, and what
 //! each request is answered in the end.
 
-mod embedding;
 mod ends;
 mod events;
 mod executions;

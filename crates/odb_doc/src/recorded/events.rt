@@ -69,6 +69,8 @@ impl Events {
     /// identifiers of requests, and a status may be any whole number from 0 to 65535. It takes time
     /// linear in the document.
     ///
+    /// Example: `recorded` in crates/odb_tests/src/examples/replies.rt.
+    ///
     /// # Errors
     ///
     /// `Document`, which is F64 of the whole, if the document is not such an object; else F63 or F64 of

@@ -174,6 +174,8 @@ impl Outcomes {
     /// It takes O(n log n) for a document of n bytes, whatever its ids are: repeats are found by order
     /// and not by hash, so no choice of ids makes it slow.
     ///
+    /// Example: `outcomes_in` in crates/odb_tests/src/runs/recordings.rt.
+    ///
     /// # Errors
     ///
     /// `Document`, which is F60 of the whole, if the document is not such an object; else, at the first

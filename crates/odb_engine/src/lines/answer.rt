@@ -96,6 +96,8 @@ fn advance<R: Read, W: Write, C: LineCommand>(
 /// is passed as it was read; of another one the bytes are copied once, into memory that the next such
 /// line uses again.
 ///
+/// Example: `are_written` in crates/odb_tests/src/lines.rt.
+///
 /// # Errors
 ///
 /// - `Read` if and only if a read failed. Each line that a newline ends was answered.

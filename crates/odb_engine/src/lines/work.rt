@@ -29,7 +29,7 @@ pub enum Work {
 ///
 /// # Errors
 ///
-/// Those of the task; `Refused` by the least fault of the batch, or `OutOfMemory`. Never `Read`.
+/// Those of the task; `Refused` by the first fault of the batch, or `OutOfMemory`. Never `Read`.
 pub fn text_of_work(alloc: Global, line: &[u8], work: Work, setup: Setup) -> Result<String, Halt>
     ensures found { Found (OfWork work line.now) setup.form result }
     ensures read { result ≢ Err halts.Read }

@@ -98,7 +98,7 @@ fn drawing_of(alloc: Global, plan: &Plan<'_>) -> Option<String>
         ≡ joined_below (length (plan_records plan.now)) (λ i. nodes_of i (slice_get (plan_records plan.now) i))) }
     ensures arrows { IfSome result (λ text. marked 45 (string_bytes text)
         ≡ joined_below (length (plan_records plan.now))
-            (λ i. map (arrow_line (plan_records plan.now) i) (needs_at (plan_records plan.now) i))) }
+        (λ i. map (arrow_line (plan_records plan.now) i) (needs_at (plan_records plan.now) i))) }
 {
     every_line();
     drawing_text(alloc, plan).ok()

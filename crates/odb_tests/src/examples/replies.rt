@@ -1,4 +1,4 @@
-//! What a caller writes beside a run: the key of a batch, the response of a recorded run, and whether
+//! Beside a run: the key of a batch, the response of a recorded run, and whether
 //! the responses of a service fit.
 
 use crate::fail::Fail;

@@ -1,4 +1,4 @@
-//! What a caller writes: a run that is driven by hand, and one that is executed.
+//! A run that is driven by hand, and one that is executed.
 
 use crate::fail::Fail;
 use crate::rows::expect;

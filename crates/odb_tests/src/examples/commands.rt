@@ -1,4 +1,4 @@
-//! What a caller of a command writes.
+//! A command over a document.
 
 use crate::fail::Fail;
 use odb_engine::check_batch;
