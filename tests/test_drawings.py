@@ -145,7 +145,7 @@ def test_drawing_of_the_example(program):
     with open(EXAMPLE, encoding="utf-8") as file, open(DRAWING, encoding="utf-8") as drawing:
         batch, text = json.load(file), drawing.read()
     follows_rules(program, batch)
-    assert succeed(program, ["plan", "--dot"], batch) == text, "docs/formats.md shows how it is drawn anew"
+    assert succeed(program, ["plan", "--dot"], batch) == text, "draw docs/usual.dot and docs/usual.svg anew"
 
 
 @pytest.mark.needs("dot")
