@@ -14,6 +14,9 @@ mod ReadLemmas
 mod NullLemmas
 mod MemberLemmas
 mod BracketLemmas
+mod ItemLemmas
 mod LookupLemmas
 mod DataLemmas
+mod WholeLemmas
+mod PairLemmas
 mod WithoutLemmas

@@ -1,5 +1,5 @@
 -- What a scan finds of the parts of a document: for private clauses, nothing to believe.
-use Rattle.std.specs.Prelude.{◌≡◌, ◌≤◌, ◌<◌, ◌+◌, ℕ, suc, drop, ⊤, List, [], ◌∷◌, ◌++◌, length, true, Bool, Option, Some, None, IsUtf8, bytes_eq, codes}
+use Rattle.std.specs.Prelude.{◌≡◌, ◌≤◌, ◌<◌, ◌+◌, ℕ, suc, drop, ⊤, List, [], ◌∷◌, ◌++◌, length, slice_get, true, Bool, Option, Some, None, IsUtf8, bytes_eq, codes}
 use Rattle.std.specs.Str.{IsCharBoundary}
 use Rattle.std.specs.List.{All, AllZip}
 use Rattle.json.specs.Token.{Token}
@@ -252,3 +252,52 @@ pub record FindsBodies (text : List ℕ) (start : ℕ) (spans : List (Option Spa
   pub bounds : All (IsWithin (length text)) spans
   pub finds : (ms : json.Members) (ts : List Token) → HasMembers text start ms ts → HaveBodiesIn text spans (get_member (codes "requests") ms)
       × IsSomeMemberOf (codes "requests") ms (get_member (codes "requests") ms) None ts (LieInArray text spans)
+
+-- ---- one element
+
+-- the next of the items js lies at the span, and the others come after it
+pub record IsNextItem (text : List ℕ) (span : Span) (js : json.Items) (ts : List Token) : Type 0 where
+  pub value : json.Json
+  pub others : json.Items
+  pub is : js ≡ json.item value others
+  pub text_of : IsTextOf text span value
+  pub has : HasItems text span.end others ts
+
+-- the next item of an array, after its opening bracket or an item
+abbrev pub GivesNext : List ℕ → ℕ → Option Span → Type 0
+GivesNext text at None = (js : json.Items) (ts : List Token) → HasItems text at js ts → js ≡ json.no_items
+GivesNext text at (Some span) = (at ≤ span.start) × (span.start < span.end) × (span.end ≤ length text) × ((js : json.Items) (ts : List Token) → HasItems text at js ts → IsNextItem text span js ts)
+
+-- The others of the items js are still to come, and the item at this position of js is the one at `left` of them.
+pub record ItemLeft (text : List ℕ) (at position left : ℕ) (js : json.Items) (ts : List Token) : Type 0 where
+  pub others : json.Items
+  pub has : HasItems text at others ts
+  pub same : slice_get (list_of js) position ≡ slice_get (list_of others) left
+
+-- the item at a position of an array, which begins after its opening bracket
+pub record FindsItem (text : List ℕ) (start position : ℕ) (span : Option Span) : Type 0 where
+  pub bounds : IsWithin (length text) span
+  pub finds : (js : json.Items) (ts : List Token) → HasItems text start js ts → IsValueSpan text span (slice_get (list_of js) position)
+
+-- the item at a position of the value there
+pub record GivesItem (text : List ℕ) (at position : ℕ) (span : Option Span) : Type 0 where
+  pub bounds : IsWithin (length text) span
+  pub gives : (j : json.Json) (ts : List Token) → HasValue text at j ts → IsValueSpan text span (slice_get (items_in (Some j)) position)
+
+-- the element at a position of the array at a member of the document's object, which begins there
+pub record FindsElement (name text : List ℕ) (start position : ℕ) (span : Option Span) : Type 0 where
+  pub bounds : IsWithin (length text) span
+  pub finds : (j : json.Json) → HasValue text start j [] → IsValueSpan text span (slice_get (items_in (get name j)) position)
+
+-- the value is an array of two items, which lie at the spans
+pub record IsPairOf (text : List ℕ) (first second : Span) (j : json.Json) : Type 0 where
+  pub one : json.Json
+  pub two : json.Json
+  pub is : j ≡ json.array (json.item one (json.item two json.no_items))
+  pub first_text : IsTextOf text first one
+  pub second_text : IsTextOf text second two
+
+-- the two documents of a pair whose array begins there
+abbrev pub GivesPair : List ℕ → ℕ → Option (Span × Span) → Type 0
+GivesPair text start None = (one two : json.Json) → HasValue text start (json.array (json.item one (json.item two json.no_items))) [] → ⊥
+GivesPair text start (Some (first, second)) = IsWithin (length text) (Some first) × IsWithin (length text) (Some second) × ((j : json.Json) → HasValue text start j [] → IsPairOf text first second j)

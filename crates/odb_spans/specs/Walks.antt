@@ -21,6 +21,14 @@ tokens_from p text at = punctuate p (lexemes_from text at)
 abbrev pub IsSolidAt : List ℕ → ℕ → Type 0
 IsSolidAt text at = at < length text → is_blank (class (get_or text at 0)) ≡ false
 
+-- the text's value, if any, begins there
+pub record IsStart (text : List ℕ) (start : ℕ) : Type 0 where
+  pub within : start ≤ length text
+  pub same : lexemes_from text start ≡ lexemes_from text 0
+  pub solid : IsSolidAt text start
+  pub boundary : IsUtf8 text → IsCharBoundary text start
+  pub cut : IsCut text start
+
 -- after an opening bracket or an element
 abbrev pub IsInside : Place → Type 0
 IsInside fresh = ⊤
