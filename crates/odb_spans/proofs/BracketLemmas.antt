@@ -13,7 +13,7 @@ use Rattle.odb_spans.specs.Extents.{opens, weight}
 use Rattle.odb_spans.specs.Cuts.{IsCut}
 use Rattle.odb_spans.specs.Walks.{lexemes_from, tokens_from}
 use Rattle.odb_spans.specs.Parts.{HasItems, HasMembers, HasValue, items_in}
-use Rattle.odb_spans.proofs.CutLemmas.{cut-byte}
+use Rattle.odb_spans.proofs.CutLemmas.{clear-byte, cut-byte}
 use Rattle.odb_spans.proofs.LexLemmas.{string-flat, word-flat}
 use Rattle.odb_spans.proofs.PlaceLemmas.{at-token, never-bad, no-token, is-allowed}
 use Rattle.odb_spans.proofs.PartLemmas.{value-within}
@@ -215,7 +215,15 @@ after-bracket text at (json.object ms) ts utf8 within here cut e = absurd (true�
 after-bracket text at (json.array js) ts utf8 within here cut e = record {
   inner = js;
   is = refl;
-  has = record { place = fresh; inside = tt; spelled = tail-of begin_array _ begin_array _ e; utf8 = utf8; boundary = IsCharBoundary-after_ascii text at utf8 within (grind (arith, here)); cut = cut-byte text at operator within (ap class here) refl cut };
+  has = record {
+    place = fresh;
+    inside = tt;
+    spelled = tail-of begin_array _ begin_array _ e;
+    utf8 = utf8;
+    boundary = IsCharBoundary-after_ascii text at utf8 within (grind (arith, here));
+    cut = cut-byte text at operator within (ap class here) refl cut;
+    clear = λ same. clear-byte text at operator within (ap class here) refl cut;
+  };
 }
 
 pub array-at : (text : List ℕ) (at : ℕ) (j : json.Json) (ts : List Token) → HasValue text at j ts → get_or text at 0 ≡ 91 → IsArrayAt text at j ts

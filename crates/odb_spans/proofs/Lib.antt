@@ -19,4 +19,6 @@ mod LookupLemmas
 mod DataLemmas
 mod WholeLemmas
 mod PairLemmas
+mod FillLemmas
 mod WithoutLemmas
+mod ElementLemmas

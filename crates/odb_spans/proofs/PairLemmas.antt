@@ -1,60 +1,19 @@
 -- A pair of documents in a line.
-use Rattle.std.proofs.Common.{◌≡◌, ◌∙◌, ℕ, ◌+◌, ◌-◌, ◌≤◌, ◌<◌, true, false, cond, List, [], length, take, drop, get_or, Some, Result, Ok, Err, IfOk, refl, sym, ap, ap₂, subst, arith}
+use Rattle.std.proofs.Common.{◌≡◌, ◌∙◌, ℕ, ◌≤◌, true, false, cond, List, [], Some, Result, Ok, Err, IfOk, refl, sym, ap, subst, arith}
 use Rattle.std.specs.declared.alloc.AllocError.{AllocError}
-use Rattle.std.proofs.lemmas.List.{drop-drop, drop-take, get_or-drop, get_or-take, length-drop, length-take-le, take-take}
 use Rattle.json.specs.Json as json
-use Rattle.json.specs.Word.{is_space}
 use Rattle.json.specs.Tree.{depth}
 use Rattle.serde_json.specs.Data.{Data, number, array, object, no_items, item, no_members}
 use Rattle.serde_json.specs.Read.{max_depth, number_of, of_items, of_json, of_members}
 use Rattle.odb_doc.specs.Documents.{IsJson}
 use Rattle.odb_doc.specs.declared.fault.Place.{Place}
 use Rattle.odb_spans.specs.Parts.{HasValue, IsPairOf}
-use Rattle.odb_spans.specs.Positions.{BeginsAt, BeginsInPair, IsTextAt, is_in_batch, pair, value_at}
-use Rattle.odb_spans.specs.Spans.{bytes_of}
+use Rattle.odb_spans.specs.Positions.{BeginsInPair, BeginsInPart, IsTextAt, is_in_batch, pair}
 use Rattle.odb_spans.specs.Walks.{IsStart}
 use Rattle.odb_spans.specs.declared.span.Span.{Span}
 use Rattle.odb_spans.proofs.DataLemmas.{item-read, maps-to}
 use Rattle.odb_spans.proofs.ReadLemmas.{tree-of}
 use Rattle.odb_spans.proofs.WholeLemmas.{text-at, whole}
-
--- ---- a part of a line
-
-module _ (line : List ℕ) (part : Span) (order : part.start ≤ part.end) (within : part.end ≤ length line) where
-  abbrev size : ℕ
-  size = part.end - part.start
-
-  abbrev rest : List ℕ
-  rest = drop part.start line
-
-  pub part-length : length (bytes_of line part) ≡ size
-  part-length = length-take-le size rest (omega (arith, length-drop part.start line))
-
-  part-bytes : (start end : ℕ) → start ≤ end → end ≤ size → bytes_of (bytes_of line part) record { start = start; end = end } ≡ bytes_of line record { start = part.start + start; end = part.start + end }
-  part-bytes start end less fits =
-      let all : start + (size - start) ≡ size = omega arith in
-      let same : (part.start + end) - (part.start + start) ≡ end - start = omega arith in
-      ap (λ n. take (end - start) (drop start (take n rest))) (sym all)
-      ∙ ap (take (end - start)) (drop-take start (size - start) rest)
-      ∙ take-take (end - start) (size - start) (drop start rest) (omega arith)
-      ∙ ap₂ (λ k l. take k l) (sym same) (drop-drop start part.start line)
-
-  part-byte : (at : ℕ) → at < size → get_or (bytes_of line part) at 0 ≡ get_or line (part.start + at) 0
-  part-byte at before = get_or-take size rest at 0 before ∙ get_or-drop part.start line at 0
-
-  -- what begins in the part begins in the line
-  pub part-begins : (offset : ℕ) (d : Data) → BeginsAt (bytes_of line part) offset d → BeginsAt line (part.start + offset) d
-  part-begins offset d (end, at) =
-      let some = at.some in
-      let fits : end ≤ size = omega (arith, at.within, part-length) in (
-        part.start + end,
-        record {
-          some = omega (arith, some);
-          within = omega (arith, fits);
-          reads = subst (λ bytes. IsJson bytes d) (part-bytes offset end (omega (arith, some)) fits) at.reads;
-          first = sym (ap is_space (part-byte offset (omega (arith, some, fits)))) ∙ at.first;
-        },
-      )
 
 -- ---- the two documents
 
@@ -143,29 +102,30 @@ module _ (line : List ℕ) (start : ℕ) (at : IsStart line start) where
           second_text = text-at line second found.two read.second found.second_text read.more (omega (arith, shallow));
         }
 
-    module _ (place : Place) (offset : ℕ) where
-      begins-first : is_in_batch place ≡ true → ((d : Data) → IsTextAt line first d → BeginsAt line offset (value_at place d)) → BeginsInPair line offset place
-      begins-first same begins = record {
+    module _ (order : first.end ≤ second.start) (place : Place) (offset : ℕ) where
+      in-one : ((batch other : Data) → IsTextAt line first batch → IsTextAt line second other → cond (is_in_batch place) (BeginsInPart line first offset batch place) (BeginsInPart line second offset other place)) → BeginsInPair line offset place
+      in-one begins = record {
         pairs = λ batch other is.
             (let found = parts (pair batch other) is in
             let one : found.one ≡ batch = cc (found.is) in
-            subst (λ b. BeginsAt line offset (value_at place (cond b batch other))) (sym same) (begins batch (subst (IsTextAt line first) one found.first_text)));
-        others = λ d is none. (let found = parts d is in absurd (none found.one found.two found.is));
-      }
-
-      begins-second : is_in_batch place ≡ false → ((d : Data) → IsTextAt line second d → BeginsAt line offset (value_at place d)) → BeginsInPair line offset place
-      begins-second same begins = record {
-        pairs = λ batch other is.
-            (let found = parts (pair batch other) is in
             let two : found.two ≡ other = cc (found.is) in
-            subst (λ b. BeginsAt line offset (value_at place (cond b batch other))) (sym same) (begins other (subst (IsTextAt line second) two found.second_text)));
+            let one_text = subst (IsTextAt line first) one found.first_text in
+            let two_text = subst (IsTextAt line second) two found.second_text in
+            record { first = first; other = second; order = order; first_text = one_text; other_text = two_text; begins = begins batch other one_text two_text });
         others = λ d is none. (let found = parts d is in absurd (none found.one found.two found.is));
       }
 
-    pub if-first : (place : Place) (r : Result ℕ AllocError) → is_in_batch place ≡ true → IfOk r (λ offset. (d : Data) → IsTextAt line first d → BeginsAt line offset (value_at place d)) → IfOk r (λ offset. BeginsInPair line offset place)
-    if-first place (Ok offset) same begins = begins-first place offset same begins
-    if-first place (Err e) same begins = tt
+      begins-first : is_in_batch place ≡ true → ((d : Data) → IsTextAt line first d → BeginsInPart line first offset d place) → BeginsInPair line offset place
+      begins-first same begins = in-one (λ batch other one two. subst (λ b. cond b (BeginsInPart line first offset batch place) (BeginsInPart line second offset other place)) (sym same) (begins batch one))
 
-    pub if-second : (place : Place) (r : Result ℕ AllocError) → is_in_batch place ≡ false → IfOk r (λ offset. (d : Data) → IsTextAt line second d → BeginsAt line offset (value_at place d)) → IfOk r (λ offset. BeginsInPair line offset place)
-    if-second place (Ok offset) same begins = begins-second place offset same begins
-    if-second place (Err e) same begins = tt
+      begins-second : is_in_batch place ≡ false → ((d : Data) → IsTextAt line second d → BeginsInPart line second offset d place) → BeginsInPair line offset place
+      begins-second same begins = in-one (λ batch other one two. subst (λ b. cond b (BeginsInPart line first offset batch place) (BeginsInPart line second offset other place)) (sym same) (begins other two))
+
+    module _ (order : first.end ≤ second.start) (place : Place) where
+      pub if-first : (r : Result ℕ AllocError) → is_in_batch place ≡ true → IfOk r (λ offset. (d : Data) → IsTextAt line first d → BeginsInPart line first offset d place) → IfOk r (λ offset. BeginsInPair line offset place)
+      if-first (Ok offset) same begins = begins-first order place offset same begins
+      if-first (Err e) same begins = tt
+
+      pub if-second : (r : Result ℕ AllocError) → is_in_batch place ≡ false → IfOk r (λ offset. (d : Data) → IsTextAt line second d → BeginsInPart line second offset d place) → IfOk r (λ offset. BeginsInPair line offset place)
+      if-second (Ok offset) same begins = begins-second order place offset same begins
+      if-second (Err e) same begins = tt

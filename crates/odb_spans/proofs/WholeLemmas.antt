@@ -1,5 +1,5 @@
 -- The value of a whole document, and where its elements begin.
-use Rattle.std.proofs.Common.{◌≡◌, ◌∙◌, ℕ, zero, suc, ◌-◌, ◌≤◌, List, [], ◌∷◌, length, drop, get_or, slice_get, unwrap_or, Option, Some, None, option_and_then, ◌⊎◌, inl, inr, refl, sym, ap, subst, arith}
+use Rattle.std.proofs.Common.{◌≡◌, ◌∙◌, ℕ, zero, suc, ◌-◌, ◌≤◌, List, [], ◌∷◌, length, drop, get_or, slice_get, Option, Some, None, option_and_then, ◌⊎◌, inl, inr, refl, sym, ap, subst, arith}
 use Rattle.std.specs.Prelude.{IsUtf8}
 use Rattle.std.specs.List.{AllZip}
 use Rattle.std.proofs.lemmas.List.{length-take, take_rest}
@@ -13,7 +13,7 @@ use Rattle.odb_doc.specs.Documents.{IsJson}
 use Rattle.odb_doc.specs.declared.fault.Place.{Place}
 use Rattle.odb_doc.specs.declared.fault.Place.TheVariants.{Batch, Outcomes, Responses, Events}
 use Rattle.odb_spans.specs.Parts.{HasValue, IsTextOf, IsValueSpan}
-use Rattle.odb_spans.specs.Positions.{BeginsAt, IsTextAt, value_at}
+use Rattle.odb_spans.specs.Positions.{BeginsAt, ElementBeginsAt, IsPlaceOfElement, IsTextAt, ValueBeginsAt}
 use Rattle.odb_spans.specs.Spans.{bytes_of}
 use Rattle.odb_spans.specs.Walks.{IsStart}
 use Rattle.odb_spans.specs.declared.span.Span.{Span}
@@ -70,23 +70,24 @@ element-at text (j ∷ js) (d ∷ ds) zero (Some s) reads is =
 element-at text (j ∷ js) (d ∷ ds) (suc position) span reads is = element-at text js ds position span reads.1 is
 
 -- the element begins where it was found
-pub element-begins : (text : List ℕ) (span : Span) (found : Option Span) (o : Option Data) (d : Data) → found ≡ Some span → IsElementAt text found o → BeginsAt text span.start (unwrap_or o d)
-element-begins text span None o d same is = absurd (cc (same))
-element-begins text span (Some s) o d same is =
+pub element-begins : (text : List ℕ) (span : Span) (found : Option Span) (name : List ℕ) (position : ℕ) (d : Data) (o : Option Data) → found ≡ Some span → IsElementAt text found o → IsPlaceOfElement text d name position span → ElementBeginsAt text span.start name position d o
+element-begins text span None name position d o same is place = absurd (cc (same))
+element-begins text span (Some s) name position d None same is place = absurd (cc (is.1))
+element-begins text span (Some s) name position d (Some e) same is place =
     let one : s ≡ span = cc (same) in
-    let at : IsTextAt text span (unwrap_or o d) = subst (λ x. IsTextAt text x (unwrap_or o d)) one (subst (λ x. IsTextAt text s (unwrap_or x d)) (sym is.1) is.2) in
-    (span.end, record { some = at.some; within = at.within; reads = at.reads; first = at.first })
+    let here : is.0 ≡ e = cc (is.1) in
+    (span.end, subst (IsTextAt text span) here (subst (λ x. IsTextAt text x is.0) one is.2), place)
 
 -- the whole value begins where there is no element
-pub no-element-begins : (text : List ℕ) (start : ℕ) (found : Option Span) (o : Option Data) (d : Data) → found ≡ None → IsElementAt text found o → BeginsAt text start d → BeginsAt text start (unwrap_or o d)
-no-element-begins text start None o d same is begins = subst (λ x. BeginsAt text start (unwrap_or x d)) (sym is) begins
-no-element-begins text start (Some s) o d same is begins = absurd (cc (same))
+pub no-element-begins : (text : List ℕ) (start : ℕ) (found : Option Span) (name : List ℕ) (position : ℕ) (d : Data) (o : Option Data) → found ≡ None → IsElementAt text found o → BeginsAt text start d → ElementBeginsAt text start name position d o
+no-element-begins text start None name position d o same is begins = subst (ElementBeginsAt text start name position d) (sym is) begins
+no-element-begins text start (Some s) name position d o same is begins = absurd (cc (same))
 
 -- a place that names no element names the whole value
-pub whole-place : (place : Place) (d : Data) → (place ≡ Batch) ⊎ ((place ≡ Outcomes) ⊎ ((place ≡ Responses) ⊎ (place ≡ Events))) → value_at place d ≡ d
-whole-place place d is = elim is [
-  | inl e ↦ ap (λ p. value_at p d) e
-  | inr (inl e) ↦ ap (λ p. value_at p d) e
-  | inr (inr (inl e)) ↦ ap (λ p. value_at p d) e
-  | inr (inr (inr e)) ↦ ap (λ p. value_at p d) e
+pub whole-place : (text : List ℕ) (start : ℕ) (place : Place) (d : Data) → (place ≡ Batch) ⊎ ((place ≡ Outcomes) ⊎ ((place ≡ Responses) ⊎ (place ≡ Events))) → BeginsAt text start d → ValueBeginsAt text start d place
+whole-place text start place d is begins = elim is [
+  | inl e ↦ subst (ValueBeginsAt text start d) (sym e) begins
+  | inr (inl e) ↦ subst (ValueBeginsAt text start d) (sym e) begins
+  | inr (inr (inl e)) ↦ subst (ValueBeginsAt text start d) (sym e) begins
+  | inr (inr (inr e)) ↦ subst (ValueBeginsAt text start d) (sym e) begins
 ]

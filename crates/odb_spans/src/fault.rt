@@ -1,4 +1,4 @@
-//! Where a document stops being JSON.
+//! Where parsing a document fails.
 
 ghost use Rattle.std.specs.Prelude.{◌≤◌, ◌<◌, length, IfOk, IfSome, OnErr};
 ghost use Rattle.serde_json.specs.Data.{Data};
@@ -8,8 +8,8 @@ use odb_doc::MAX_DOCUMENT_BYTES;
 use serde_json::Value;
 use std::alloc::{AllocError, Global};
 
-/// Returns how many bytes come before a line and a column, both counted from 1 and the column in bytes,
-/// and at most as many as there are.
+/// Returns how many bytes precede a line and a column, both counted from 1 and the column in bytes; at
+/// most the length of the document.
 fn bytes_before(document: &[u8], line: usize, column: usize) -> usize
     ensures { result ≤ length document.now }
 {
@@ -28,8 +28,8 @@ fn bytes_before(document: &[u8], line: usize, column: usize) -> usize
     document.len().min(start.saturating_add(columns))
 }
 
-/// Returns the offset of the first byte that cannot be there in JSON, or the length of a document that
-/// ends too soon. None for JSON, and for a document that is too large to be parsed.
+/// Returns where parsing a document fails, which is its end if it ends too soon. None for JSON, and for a
+/// document that is too large to be parsed.
 ///
 /// # Errors
 ///

@@ -3,7 +3,7 @@
 ghost use Rattle.std.specs.Prelude.{◌≡◌, ◌≤◌, ◌<◌, ◌+◌, length, IfOk, IfSome, OnErr};
 ghost use Rattle.serde_json.specs.Data.{Data};
 ghost use Rattle.odb_doc.specs.Documents.{IsJson};
-ghost use Rattle.odb_spans.specs.Positions.{BeginsAt, BeginsInPair, IsTextAt, Stands, StandsInPair, element_or_whole, value_at};
+ghost use Rattle.odb_spans.specs.Positions.{BeginsIn, BeginsInPair, BeginsInPart, IsTextAt, Stands, StandsInPair, ValueBeginsAt};
 ghost use Rattle.odb_spans.specs.Positions as spec;
 ghost use Rattle.odb_spans.specs.Parts.{FindsElement, GivesPair};
 
@@ -48,7 +48,7 @@ fn element_offset(
     position: usize,
 ) -> Result<usize, AllocError>
     ensures begins { IfOk result (λ offset. (d : Data) → IsJson document.now d
-        → BeginsAt document.now offset (element_or_whole name.now position d)) }
+        → BeginsIn document.now offset name.now position d) }
     ensures within { IfOk result (λ offset. offset ≤ length document.now) }
     ensures memory { OnErr result (0 < length document.now) }
 {
@@ -62,7 +62,7 @@ fn element_offset(
 /// Returns where the value that a place names begins in a document that is JSON.
 fn value_offset(alloc: Global, document: &[u8], place: Place) -> Result<usize, AllocError>
     ensures begins { IfOk result (λ offset. (d : Data) → IsJson document.now d
-        → BeginsAt document.now offset (value_at place d)) }
+        → ValueBeginsAt document.now offset d place) }
     ensures within { IfOk result (λ offset. offset ≤ length document.now) }
     ensures memory { OnErr result (0 < length document.now) }
 {
@@ -84,8 +84,8 @@ fn is_in_batch(place: Place) -> bool
     matches!(place, Place::Batch | Place::Request(_))
 }
 
-/// Returns the offset of the first byte that cannot be there in JSON, for the place of a whole document.
-/// A document with a fault at an element is JSON, so it is not parsed again.
+/// Returns where parsing a document fails, for the place of a whole document. A document with a fault at
+/// an element is JSON, so it is not parsed again.
 fn fault_at(alloc: Global, document: &[u8], place: Place) -> Result<Option<usize>, AllocError>
     ensures within { IfOk result (λ found. IfSome found (λ at. at ≤ length document.now)) }
     ensures fault { IfOk result (λ found. IfSome found (λ at. (d : Data) → ¬ IsJson document.now d)) }
@@ -102,7 +102,7 @@ fn fault_at(alloc: Global, document: &[u8], place: Place) -> Result<Option<usize
 /// Returns the offset of the position in a document.
 fn offset_of(alloc: Global, document: &[u8], place: Place) -> Result<usize, AllocError>
     ensures begins { IfOk result (λ offset. (d : Data) → IsJson document.now d
-        → BeginsAt document.now offset (value_at place d)) }
+        → ValueBeginsAt document.now offset d place) }
     ensures within { IfOk result (λ offset. offset ≤ length document.now) }
     ensures memory { OnErr result (0 < length document.now) }
 {
@@ -133,7 +133,7 @@ fn offset_in_part(alloc: Global, line: &[u8], part: Span, place: Place) -> Resul
     requires order { part.start ≤ part.end }
     requires within { part.end ≤ length line.now }
     ensures begins { IfOk result (λ offset. (d : Data) → IsTextAt line.now part d
-        → BeginsAt line.now offset (value_at place d)) }
+        → BeginsInPart line.now part offset d place) }
     ensures within { IfOk result (λ offset. offset ≤ length line.now) }
     ensures memory { OnErr result (0 < length line.now) }
 {
@@ -179,9 +179,10 @@ fn offset_in_pair(alloc: Global, line: &[u8], place: Place) -> Result<usize, All
 /// and `Event` one of `events`. If a name repeats in an object, its last member counts. If there is no
 /// such element, and for the place of a whole document, the position is that of the document's value.
 ///
-/// If the document is not JSON, the position for a whole document is that of the first byte that cannot
-/// be there, or the document's end if that comes too soon. A document larger than
-/// [`odb_doc::MAX_DOCUMENT_BYTES`] is not parsed.
+/// If the document is not JSON, the position for a whole document is where parsing fails: at the first
+/// token that cannot be there, at the first byte that is not UTF-8, after a number out of range or a
+/// bracket that nests too deep, or at the end of a document that ends too soon. A document larger than
+/// [`odb_doc::MAX_DOCUMENT_BYTES`] is not parsed: the position is that of its value.
 ///
 /// Costs O(n) for a document of n bytes.
 ///
@@ -200,8 +201,9 @@ pub fn position_of(alloc: Global, document: &[u8], place: Place) -> Result<Posit
 /// Returns where the element that a place names begins in a line that holds an array of a batch and a
 /// second document: `Batch` and `Request` are places in the first, the others in the second.
 ///
-/// The position is that of the line's value if this is not an array of two. Else it is as in
-/// [`position_of`], with the line in place of the document if that is not JSON.
+/// In its document the element is found as by [`position_of`]. If the line is not an array of two, the
+/// position is that of the line's value; if it is not JSON, the position for a whole document is where
+/// parsing the line fails.
 ///
 /// Costs O(n) for a line of n bytes.
 ///

@@ -45,7 +45,7 @@ returns c =
           let all = items.gives array.inner ts array.has in (
             subst (λ i. HaveBodiesIn text found.0.items (Some i)) (sym array.is) all.0,
             all.1,
-            each-map (λ n span. LiesInItems text n span array.inner ts) (λ n span. LiesInArray text n span j ts) 0 found.0.items (λ n span lies. record { items = array.inner; array = array.is; lies = lies }) all.2,
+            each-map (λ n span. LiesInItems text n span array.inner ts) (λ n span. LiesInArray text n span j ts) 0 found.0.items (λ n span lies. record { items = array.inner; array = array.is; holds = lies }) all.2,
           ));
     })
     c.bodies_among.ensures

@@ -1,7 +1,10 @@
 use Rattle.std.proofs.Common.{◌≡◌, suc, ◌-◌, sym, subst, arith}
 use Rattle.odb_spans.specs.Parts.{FindsItem, ItemLeft}
-use Rattle.odb_spans.proofs.ItemLemmas.{item-here, item-later, no-items}
+use Rattle.odb_spans.proofs.ItemLemmas.{begin-item, item-here, item-later, no-items}
 use Rattle.odb_spans.proofs.item.item_among.Goals as goal
+
+pub items-init : goal.items-init
+items-init c = record { within = c.requires; remaining = λ js ts has. begin-item c.args.document.now c.args.start c.args.position js ts has }
 
 pub returns-in_err-item : goal.returns-in_err-item
 returns-in_err-item c =
@@ -10,7 +13,7 @@ returns-in_err-item c =
       bounds = tt;
       finds = λ js ts has.
           (let left = c.items.invariant.remaining js ts has in
-          no-items text c.items.at c.args.position c.items.left js ts left (c.in_err-item.ensures left.others ts left.has));
+          (no-items text c.items.at c.args.position c.items.left js ts left (c.in_err-item.ensures left.others ts left.has), tt));
     }
 
 pub returns-then-left-eq0 : goal.returns-then-left-eq0

@@ -9,4 +9,4 @@ pub returns-in-Element : goal.returns-in-Element
 returns-in-Element c =
     let steps = c.in-Element.ensures in
     let end = c.value_end in
-    (steps.0, end.ensures.some steps.1, end.ensures.within, λ js ts has. next-item c.args.document.now c.args.at c.in-Element.start end.result js ts has steps end.ensures.extent end.ensures.within end.ensures.boundary)
+    (steps.0, end.ensures.some steps.1, end.ensures.within, λ js ts has. next-item c.args.document.now c.args.at c.in-Element.start end.result js ts has steps end.ensures.extent (end.ensures.some steps.1) end.ensures.within end.ensures.boundary)

@@ -54,6 +54,7 @@ returns-in-None c =
     let second = c.in_ok-second.ensures in (
       (omega (arith, batch.1), batch.2),
       (omega (arith, second.1), second.2),
+      second.0,
       λ j v.
           (let array = array-at c.args.line.now c.args.start j [] v (c.if-not-has_byte.ensures.0 refl).1 in
           let first = batch.3 array.inner [] array.has in
