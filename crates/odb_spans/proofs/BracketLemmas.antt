@@ -1,5 +1,5 @@
 -- The text of an object begins with `{`, that of an array with `[`, and that of no other value does.
-use Rattle.std.proofs.Common.{◌≡◌, ◌∙◌, ℕ, ◌+◌, ◌<◌, ◌==◌, List, [], ◌∷◌, ◌++◌, length, get_or, Bool, true, false, cond, refl, sym, ap, arith}
+use Rattle.std.proofs.Common.{◌≡◌, ◌∙◌, ℕ, ◌+◌, ◌<◌, ◌==◌, List, [], ◌∷◌, ◌++◌, length, get_or, Bool, true, false, cond, Some, None, refl, sym, ap, arith}
 use Rattle.std.specs.Prelude.{IsUtf8}
 use Rattle.std.proofs.lemmas.Bool.{true≢false, eqb-true}
 use Rattle.std.proofs.lemmas.Str.{IsCharBoundary-after_ascii}
@@ -7,12 +7,13 @@ use Rattle.json.specs.Token.{Token, begin_object, end_object, begin_array, end_a
 use Rattle.json.specs.Align.{is_blank, is_good}
 use Rattle.json.specs.Lex.{Lexeme, token, comma, colon, Class, quote, backslash, operator, space, other, class, operator_lexeme, Place, fresh, after_value, after_comma, after_key, begins_colon, may_begin, if_allowed, place_token, punctuate}
 use Rattle.json.specs.Json as json
+use Rattle.json.specs.Find.{get}
 use Rattle.json.specs.Tree.{json_tokens, items_tokens, members_tokens}
 use Rattle.odb_spans.specs.Extents.{opens, weight}
 use Rattle.odb_spans.specs.Cuts.{IsCut}
 use Rattle.odb_spans.specs.Walks.{lexemes_from, tokens_from}
-use Rattle.odb_spans.specs.Parts.{HasItems, HasMembers, HasValue}
-use Rattle.odb_spans.proofs.CutLemmas.{cut-byte}
+use Rattle.odb_spans.specs.Parts.{HasItems, HasMembers, HasValue, items_in}
+use Rattle.odb_spans.proofs.CutLemmas.{clear-byte, cut-byte}
 use Rattle.odb_spans.proofs.LexLemmas.{string-flat, word-flat}
 use Rattle.odb_spans.proofs.PlaceLemmas.{at-token, never-bad, no-token, is-allowed}
 use Rattle.odb_spans.proofs.PartLemmas.{value-within}
@@ -146,6 +147,24 @@ object-byte text at ms ts v = brace-byte _ (opener-byte text at (json.object ms)
 pub array-byte : (text : List ℕ) (at : ℕ) (js : json.Items) (ts : List Token) → HasValue text at (json.array js) ts → get_or text at 0 ≡ 91
 array-byte text at js ts v = bracket-byte _ (opener-byte text at (json.array js) begin_array (items_tokens js ++ ts) ts v refl refl refl (λ p. same-bracket p (items_tokens js ++ ts)))
 
+-- a value that does not begin with a brace has no members
+pub no-object : (name text : List ℕ) (at : ℕ) (j : json.Json) (ts : List Token) → HasValue text at j ts → (get_or text at 0 ≡ 123 → ⊥) → get name j ≡ None
+no-object name text at json.null ts v apart = refl
+no-object name text at (json.boolean b) ts v apart = refl
+no-object name text at (json.number s) ts v apart = refl
+no-object name text at (json.string s) ts v apart = refl
+no-object name text at (json.array js) ts v apart = refl
+no-object name text at (json.object ms) ts v apart = absurd (apart (object-byte text at ms ts v))
+
+-- a value that does not begin with a bracket has no items
+pub no-array : (text : List ℕ) (at : ℕ) (j : json.Json) (ts : List Token) → HasValue text at j ts → (get_or text at 0 ≡ 91 → ⊥) → items_in (Some j) ≡ []
+no-array text at json.null ts v apart = refl
+no-array text at (json.boolean b) ts v apart = refl
+no-array text at (json.number s) ts v apart = refl
+no-array text at (json.string s) ts v apart = refl
+no-array text at (json.object ms) ts v apart = refl
+no-array text at (json.array js) ts v apart = absurd (apart (array-byte text at js ts v))
+
 -- ---- what is after such a bracket
 
 tail-of : (t : Token) (ts : List Token) (u : Token) (us : List Token) → t ∷ ts ≡ u ∷ us → ts ≡ us
@@ -196,7 +215,15 @@ after-bracket text at (json.object ms) ts utf8 within here cut e = absurd (true�
 after-bracket text at (json.array js) ts utf8 within here cut e = record {
   inner = js;
   is = refl;
-  has = record { place = fresh; inside = tt; spelled = tail-of begin_array _ begin_array _ e; utf8 = utf8; boundary = IsCharBoundary-after_ascii text at utf8 within (grind (arith, here)); cut = cut-byte text at operator within (ap class here) refl cut };
+  has = record {
+    place = fresh;
+    inside = tt;
+    spelled = tail-of begin_array _ begin_array _ e;
+    utf8 = utf8;
+    boundary = IsCharBoundary-after_ascii text at utf8 within (grind (arith, here));
+    cut = cut-byte text at operator within (ap class here) refl cut;
+    clear = λ same. clear-byte text at operator within (ap class here) refl cut;
+  };
 }
 
 pub array-at : (text : List ℕ) (at : ℕ) (j : json.Json) (ts : List Token) → HasValue text at j ts → get_or text at 0 ≡ 91 → IsArrayAt text at j ts

@@ -1,4 +1,4 @@
--- The bodies in the tree of a document are those of its data.
+-- The elements and the bodies in the tree of a document are those of its data.
 use Rattle.std.proofs.Common.{◌≡◌, ◌∙◌, ℕ, ◌≤◌, max, List, [], ◌∷◌, Bool, true, false, cond, Option, Some, None, option_map, option_and_then, unwrap_or, codes, bytes_eq, refl, sym, ap, subst, arith}
 use Rattle.std.specs.Prelude.{⊤}
 use Rattle.std.specs.List.{AllZip}
@@ -9,12 +9,12 @@ use Rattle.json.specs.Tree.{depth, items_depth, members_depth}
 use Rattle.serde_json.specs.Data.{Data, null, boolean, number, string, array, object, Items, no_items, item, no_members}
 use Rattle.serde_json.specs.Find.{get_member, as_array}
 use Rattle.serde_json.specs.Read.{number_of, of_json, of_items, of_members, max_depth}
-use Rattle.odb_doc.specs.Members.{given}
+use Rattle.odb_doc.specs.Members.{elements_at, given}
 use Rattle.odb_doc.specs.Members as doc
 use Rattle.odb_doc.specs.batch.Bodies.{body_of}
 use Rattle.odb_doc.specs.batch.Shapes.{elements}
 use Rattle.odb_spans.specs.Spans.{HasBodyAt}
-use Rattle.odb_spans.specs.Parts.{HasBodyText, HaveBodiesIn, HaveBodyTexts, IsTextOf, IsValueSpan, given_json, list_of}
+use Rattle.odb_spans.specs.Parts.{HasBodyText, HaveBodiesIn, HaveBodyTexts, IsTextOf, IsValueSpan, given_json, items_in, list_of}
 use Rattle.odb_spans.specs.declared.span.Span.{Span}
 use Rattle.odb_spans.proofs.LookupLemmas.{Corresponds, get-read}
 use Rattle.odb_spans.proofs.ReadLemmas.{nests-tokens, read-tokens}
@@ -117,48 +117,56 @@ pub item-read : (j : json.Json) (js : json.Items) (ds : Items) (o : Option Data)
 item-read j js ds None reads e = absurd (cc (e))
 item-read j js ds (Some d) reads e = rest-read j js d ds (of_items js) reads refl e
 
-none-zip : {A B : Type 0} (R : A → Option Span → Type 0) (S : B → Option Span → Type 0) (spans : List (Option Span)) → AllZip R [] spans → AllZip S [] spans
-none-zip R S [] h = tt
-none-zip R S (s ∷ spans) h = absurd h
+-- what is read of the item of the tree
+abbrev pub IsReadItem : json.Json → Data → Type 0
+IsReadItem j d = (of_json j ≡ Some d) × (depth j ≤ 125)
 
-items-data : (text : List ℕ) (js : json.Items) (ds : Items) (spans : List (Option Span)) → items_depth js ≤ 125 → of_items js ≡ Some ds → HaveBodyTexts text (list_of js) spans → AllZip (HasBodyAt text) (doc.list_of ds) spans
-items-data text json.no_items ds spans shallow e have =
-    let same : no_items ≡ ds = cc (e) in
-    subst (λ x. AllZip (HasBodyAt text) (doc.list_of x) spans) same (none-zip (HasBodyText text) (HasBodyAt text) spans have)
-items-data text (json.item j js) ds [] shallow e have = absurd have
-items-data text (json.item j js) ds (s ∷ spans) shallow e have =
+items-read : (js : json.Items) (ds : Items) → items_depth js ≤ 125 → of_items js ≡ Some ds → AllZip IsReadItem (list_of js) (doc.list_of ds)
+items-read json.no_items ds shallow e = let same : no_items ≡ ds = cc (e) in subst (λ x. AllZip IsReadItem [] (doc.list_of x)) same tt
+items-read (json.item j js) ds shallow e =
     let h = item-read j js ds (of_json j) refl e in
-    subst (λ x. AllZip (HasBodyAt text) (doc.list_of x) (s ∷ spans)) (sym h.is)
-    (body-data text j h.first s (omega (arith, shallow)) h.reads have.0, items-data text js h.others spans (omega (arith, shallow)) h.more have.1)
+    subst (λ x. AllZip IsReadItem (j ∷ list_of js) (doc.list_of x)) (sym h.is) ((h.reads, omega (arith, shallow)), items-read js h.others (omega (arith, shallow)) h.more)
 
 abbrev listed : Option Data → List Data
 listed o = unwrap_or (option_map doc.list_of (option_and_then as_array o)) []
 
-none-listed : (text : List ℕ) (o : Option Data) (spans : List (Option Span)) → listed o ≡ [] → HaveBodyTexts text [] spans → AllZip (HasBodyAt text) (listed o) spans
-none-listed text o spans none have = subst (λ l. AllZip (HasBodyAt text) l spans) (sym none) (none-zip (HasBodyText text) (HasBodyAt text) spans have)
+none-listed : (o : Option Data) → listed o ≡ [] → AllZip IsReadItem [] (listed o)
+none-listed o none = subst (AllZip IsReadItem []) (sym none) tt
 
-value-data : (text : List ℕ) (j : json.Json) (d : Data) (spans : List (Option Span)) → depth j ≤ 126 → of_json j ≡ Some d → HaveBodiesIn text spans (Some j) → AllZip (HasBodyAt text) (listed (Some d)) spans
-value-data text json.null d spans shallow reads have = let same : null ≡ d = cc (reads) in none-listed text (Some d) spans (ap (λ x. listed (Some x)) (sym same)) have
-value-data text (json.boolean b) d spans shallow reads have = let same : boolean b ≡ d = cc (reads) in none-listed text (Some d) spans (ap (λ x. listed (Some x)) (sym same)) have
-value-data text (json.number s) d spans shallow reads have = let h = maps-to number (number_of s) d reads in none-listed text (Some d) spans (ap (λ x. listed (Some x)) h.is) have
-value-data text (json.string s) d spans shallow reads have = let same : string s ≡ d = cc (reads) in none-listed text (Some d) spans (ap (λ x. listed (Some x)) (sym same)) have
-value-data text (json.object ms) d spans shallow reads have = let h = maps-to object (of_members ms no_members) d reads in none-listed text (Some d) spans (ap (λ x. listed (Some x)) h.is) have
-value-data text (json.array js) d spans shallow reads have =
+value-listed : (j : json.Json) (d : Data) → depth j ≤ 126 → of_json j ≡ Some d → AllZip IsReadItem (items_in (Some j)) (listed (Some d))
+value-listed json.null d shallow reads = let same : null ≡ d = cc (reads) in none-listed (Some d) (ap (λ x. listed (Some x)) (sym same))
+value-listed (json.boolean b) d shallow reads = let same : boolean b ≡ d = cc (reads) in none-listed (Some d) (ap (λ x. listed (Some x)) (sym same))
+value-listed (json.number s) d shallow reads = let h = maps-to number (number_of s) d reads in none-listed (Some d) (ap (λ x. listed (Some x)) h.is)
+value-listed (json.string s) d shallow reads = let same : string s ≡ d = cc (reads) in none-listed (Some d) (ap (λ x. listed (Some x)) (sym same))
+value-listed (json.object ms) d shallow reads = let h = maps-to object (of_members ms no_members) d reads in none-listed (Some d) (ap (λ x. listed (Some x)) h.is)
+value-listed (json.array js) d shallow reads =
     let h = maps-to array (of_items js) d reads in
-    subst (λ x. AllZip (HasBodyAt text) (listed (Some x)) spans) (sym h.is) (items-data text js h.value spans (omega (arith, shallow)) h.some have)
+    subst (λ x. AllZip IsReadItem (list_of js) (listed (Some x))) (sym h.is) (items-read js h.value (omega (arith, shallow)) h.some)
 
-found-data : (text : List ℕ) (o : Option json.Json) (p : Option Data) (spans : List (Option Span)) → Within 126 o → Corresponds o p None → HaveBodiesIn text spans o → AllZip (HasBodyAt text) (listed p) spans
-found-data text None p spans shallow same have = none-listed text p spans (ap listed same) have
-found-data text (Some j) p spans shallow same have = subst (λ x. AllZip (HasBodyAt text) (listed x) spans) (sym same.is) (value-data text j same.value spans shallow same.read have)
+found-listed : (o : Option json.Json) (p : Option Data) → Within 126 o → Corresponds o p None → AllZip IsReadItem (items_in o) (listed p)
+found-listed None p shallow same = none-listed p (ap listed same)
+found-listed (Some j) p shallow same = subst (λ x. AllZip IsReadItem (items_in (Some j)) (listed x)) (sym same.is) (value-listed j same.value shallow same.read)
+
+-- the elements of the array at a member are what is read of its items
+pub elements-read : (name : List ℕ) (j : json.Json) (d : Data) → depth j ≤ max_depth → of_json j ≡ Some d → AllZip IsReadItem (items_in (tree.get name j)) (elements_at name d)
+elements-read name json.null d shallow reads = let same : null ≡ d = cc (reads) in subst (λ x. AllZip IsReadItem [] (elements_at name x)) same tt
+elements-read name (json.boolean b) d shallow reads = let same : boolean b ≡ d = cc (reads) in subst (λ x. AllZip IsReadItem [] (elements_at name x)) same tt
+elements-read name (json.number s) d shallow reads = let h = maps-to number (number_of s) d reads in subst (λ x. AllZip IsReadItem [] (elements_at name x)) (sym h.is) tt
+elements-read name (json.string s) d shallow reads = let same : string s ≡ d = cc (reads) in subst (λ x. AllZip IsReadItem [] (elements_at name x)) same tt
+elements-read name (json.array js) d shallow reads = let h = maps-to array (of_items js) d reads in subst (λ x. AllZip IsReadItem [] (elements_at name x)) (sym h.is) tt
+elements-read name (json.object ms) d shallow reads =
+    let h = maps-to object (of_members ms no_members) d reads in
+    let found = get-read name ms h.value h.some in
+    let within = less (members_depth ms) 126 (tree.get_member name ms) (omega (arith, shallow)) (member-within name ms) in
+    subst (λ x. AllZip IsReadItem (items_in (tree.get_member name ms)) (elements_at name x)) (sym h.is) (found-listed (tree.get_member name ms) (get_member name h.value) within found)
+
+zip-bodies : (text : List ℕ) (js : List json.Json) (ds : List Data) (spans : List (Option Span)) → AllZip IsReadItem js ds → HaveBodyTexts text js spans → AllZip (HasBodyAt text) ds spans
+zip-bodies text [] [] [] reads have = tt
+zip-bodies text [] [] (s ∷ spans) reads have = absurd have
+zip-bodies text [] (d ∷ ds) spans reads have = absurd reads
+zip-bodies text (j ∷ js) [] spans reads have = absurd reads
+zip-bodies text (j ∷ js) (d ∷ ds) [] reads have = absurd have
+zip-bodies text (j ∷ js) (d ∷ ds) (s ∷ spans) reads have = (body-data text j d s reads.0.1 reads.0.0 have.0, zip-bodies text js ds spans reads.1 have.1)
 
 pub bodies-data : (text : List ℕ) (j : json.Json) (d : Data) (spans : List (Option Span)) → depth j ≤ max_depth → of_json j ≡ Some d → HaveBodiesIn text spans (tree.get (codes "requests") j) → AllZip (HasBodyAt text) (elements d) spans
-bodies-data text json.null d spans shallow reads have = let same : null ≡ d = cc (reads) in subst (λ x. AllZip (HasBodyAt text) (elements x) spans) same (none-zip (HasBodyText text) (HasBodyAt text) spans have)
-bodies-data text (json.boolean b) d spans shallow reads have = let same : boolean b ≡ d = cc (reads) in subst (λ x. AllZip (HasBodyAt text) (elements x) spans) same (none-zip (HasBodyText text) (HasBodyAt text) spans have)
-bodies-data text (json.number s) d spans shallow reads have = let h = maps-to number (number_of s) d reads in subst (λ x. AllZip (HasBodyAt text) (elements x) spans) (sym h.is) (none-zip (HasBodyText text) (HasBodyAt text) spans have)
-bodies-data text (json.string s) d spans shallow reads have = let same : string s ≡ d = cc (reads) in subst (λ x. AllZip (HasBodyAt text) (elements x) spans) same (none-zip (HasBodyText text) (HasBodyAt text) spans have)
-bodies-data text (json.array js) d spans shallow reads have = let h = maps-to array (of_items js) d reads in subst (λ x. AllZip (HasBodyAt text) (elements x) spans) (sym h.is) (none-zip (HasBodyText text) (HasBodyAt text) spans have)
-bodies-data text (json.object ms) d spans shallow reads have =
-    let h = maps-to object (of_members ms no_members) d reads in
-    let found = get-read (codes "requests") ms h.value h.some in
-    let within = less (members_depth ms) 126 (tree.get_member (codes "requests") ms) (omega (arith, shallow)) (member-within (codes "requests") ms) in
-    subst (λ x. AllZip (HasBodyAt text) (elements x) spans) (sym h.is) (found-data text (tree.get_member (codes "requests") ms) (get_member (codes "requests") h.value) spans within found have)
+bodies-data text j d spans shallow reads have = zip-bodies text (items_in (tree.get (codes "requests") j)) (elements d) spans (elements-read (codes "requests") j d shallow reads) have

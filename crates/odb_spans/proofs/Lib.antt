@@ -14,6 +14,11 @@ mod ReadLemmas
 mod NullLemmas
 mod MemberLemmas
 mod BracketLemmas
+mod ItemLemmas
 mod LookupLemmas
 mod DataLemmas
+mod WholeLemmas
+mod PairLemmas
+mod FillLemmas
 mod WithoutLemmas
+mod ElementLemmas

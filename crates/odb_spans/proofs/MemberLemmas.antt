@@ -157,13 +157,15 @@ pub record IsFirstItem (text : List ℕ) (at : ℕ) (js : json.Items) (ts : List
   pub others : json.Items
   pub is : js ≡ json.item value others
   pub has : HasValue text at value (items_tokens others ++ ts)
+  pub clear : IsClear text at
 
 pub first-item : (text : List ℕ) (from at : ℕ) (js : json.Items) (ts : List Token) → HasItems text from js ts → Steps text from (Element at) → IsFirstItem text at js ts
 first-item text from at json.no_items ts has steps = absurd ((steps.4 has.place end_array ts has.inside refl has.spelled).inner refl)
 first-item text from at (json.item j js) ts has steps =
     let b = begins-with-token j in
     let whole : (json_tokens j ++ items_tokens js) ++ ts ≡ b.first ∷ (b.others ++ (items_tokens js ++ ts)) = append_assoc (json_tokens j) (items_tokens js) ts ∙ ap (λ l. l ++ (items_tokens js ++ ts)) b.is in
-    let faces = (steps.4 has.place b.first (b.others ++ (items_tokens js ++ ts)) has.inside b.good (has.spelled ∙ whole)).faces in
+    let spelled = has.spelled ∙ whole in
+    let faces = (steps.4 has.place b.first (b.others ++ (items_tokens js ++ ts)) has.inside b.good spelled).faces in
     record {
       value = j;
       others = js;
@@ -177,6 +179,7 @@ first-item text from at (json.item j js) ts has steps =
         boundary = steps.3 has.utf8 has.boundary;
         cut = steps.5 has.cut;
       };
+      clear = steps.6 has.place b.first (b.others ++ (items_tokens js ++ ts)) has.inside b.good b.inner spelled has.cut has.clear;
     }
 
 pub record IsLastItem (text : List ℕ) (end : ℕ) (js : json.Items) (ts : List Token) : Type 0 where
@@ -199,6 +202,10 @@ append-have text [] (s ∷ spans) j span have one = absurd have
 append-have text (i ∷ js) [] j span have one = absurd have
 append-have text (i ∷ js) (s ∷ spans) j span have one = (have.0, append-have text js spans j span have.1 one)
 
+-- the others come after an item
+pub rest-items : (text : List ℕ) (end : ℕ) (others : json.Items) (ts : List Token) → IsUtf8 text → HasEnded text end (items_tokens others ++ ts) → HasItems text end others ts
+rest-items text end others ts utf8 ended = record { place = after_value; inside = tt; spelled = sym ended.follow; utf8 = utf8; boundary = ended.boundary; cut = ended.cut; clear = λ same. absurd (cc (same)) }
+
 -- ---- where the spans lie
 
 pub each-map : (P Q : ℕ → Span → Type 0) (at : ℕ) (spans : List (Option Span)) → ((n : ℕ) (span : Span) → P n span → Q n span) → EachSpan P at spans → EachSpan Q at spans
@@ -212,18 +219,18 @@ each-push P at (None ∷ spans) span each one = let same : suc (length spans) + 
 each-push P at (Some s ∷ spans) span each one =
     let same : suc (length spans) + at ≡ length spans + suc at = omega arith in (each.0, each-push P (suc at) spans span each.1 (subst (λ n. EachSpan P n (span ∷ [])) same one))
 
-append-item : (js : json.Items) (j : json.Json) (others : json.Items) → append_items (append_items js (json.item j json.no_items)) others ≡ append_items js (json.item j others)
+pub append-item : (js : json.Items) (j : json.Json) (others : json.Items) → append_items (append_items js (json.item j json.no_items)) others ≡ append_items js (json.item j others)
 append-item json.no_items j others = refl
 append-item (json.item i js) j others = ap (json.item i) (append-item js j others)
 
-count-item : (js : json.Items) (j : json.Json) → count_items (append_items js (json.item j json.no_items)) ≡ suc (count_items js)
+pub count-item : (js : json.Items) (j : json.Json) → count_items (append_items js (json.item j json.no_items)) ≡ suc (count_items js)
 count-item json.no_items j = refl
 count-item (json.item i js) j = ap suc (count-item js j)
 
 lies-in-items : (text : List ℕ) (at : ℕ) (span : Option Span) (before others js : json.Items) (j : json.Json) (ts : List Token) → js ≡ append_items before (json.item j others) → count_items before ≡ at
     → LiesInRequestSome text span j (items_tokens others ++ ts) → EachSpan (λ at span. LiesInItems text at span js ts) at (span ∷ [])
 lies-in-items text at None before others js j ts is count lies = tt
-lies-in-items text at (Some span) before others js j ts is count lies = (record { earlier = before; request = j; later = others; is = is; count = count; lies = lies }, tt)
+lies-in-items text at (Some span) before others js j ts is count lies = (record { earlier = before; item = j; later = others; is = is; count = count; holds = lies }, tt)
 
 length-one : (spans : List (Option Span)) (span : Option Span) → length (spans ++ span ∷ []) ≡ suc (length spans)
 length-one spans span = omega (arith, length-append spans (span ∷ []))
@@ -241,7 +248,7 @@ passed-item text from at end spans span js ts left steps gives =
     record {
       done = left.done ++ first.value ∷ [];
       others = first.others;
-      has = record { place = after_value; inside = tt; spelled = sym one.1.follow; utf8 = left.has.utf8; boundary = one.1.boundary; cut = one.1.cut };
+      has = rest-items text end first.others ts left.has.utf8 one.1;
       holds = append-have text left.done spans first.value span left.holds one.0;
       same = left.same ∙ ap (λ o. left.done ++ list_of o) first.is ∙ sym (append_assoc left.done (first.value ∷ []) (list_of first.others));
       before = append_items left.before (json.item first.value json.no_items);

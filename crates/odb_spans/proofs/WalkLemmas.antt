@@ -126,6 +126,31 @@ module _ (text : List ℕ) (at : ℕ) (t : Token) (ts : List Token) (good : is_g
   face-token q (comma ∷ ls) inside first is e = absurd first
   face-token q (colon ∷ ls) inside first is e = absurd first
 
+  -- what comes after a value without a comma closes
+  after-value-closes : (u : Token) (b : Bool) (k : Place → List Token) → place_token after_value u b k ≡ t ∷ ts → weight t ≡ closes
+  after-value-closes begin_object b k e = never-bad t ts e good
+  after-value-closes end_object b k e = sym (ap weight (is-allowed (may_close after_value) end_object t k after_value ts e good).first)
+  after-value-closes begin_array b k e = never-bad t ts e good
+  after-value-closes end_array b k e = sym (ap weight (is-allowed (may_close after_value) end_array t k after_value ts e good).first)
+  after-value-closes (key s) b k e = never-bad t ts e good
+  after-value-closes (string s) true k e = never-bad t ts e good
+  after-value-closes (string s) false k e = never-bad t ts e good
+  after-value-closes (number s) b k e = never-bad t ts e good
+  after-value-closes (boolean v) b k e = never-bad t ts e good
+  after-value-closes null b k e = never-bad t ts e good
+  after-value-closes bad b k e = never-bad t ts e good
+
+  -- without a separator, what closes nothing comes first
+  pub comes-first : (q : Place) (ls : List Lexeme) → IsInside q → BeginWithToken ls → punctuate q ls ≡ t ∷ ts → (weight t ≡ closes → ⊥) → q ≡ fresh
+  unfolding punctuate
+  comes-first fresh ls inside first e inner = refl
+  comes-first after_value [] inside first e inner = no-token t ts e
+  comes-first after_value (token u ∷ ls) inside first e inner = absurd (inner (after-value-closes u (begins_colon ls) (λ next. punctuate next ls) e))
+  comes-first after_value (comma ∷ ls) inside first e inner = absurd first
+  comes-first after_value (colon ∷ ls) inside first e inner = absurd first
+  comes-first after_comma ls inside first e inner = absurd inside
+  comes-first after_key ls inside first e inner = absurd inside
+
   after-comma : (ls : List Lexeme) → lexemes_from text at ≡ ls → punctuate after_comma ls ≡ t ∷ ts → Faces text at t ts
   unfolding punctuate
   after-comma [] is e = never-bad t ts e good

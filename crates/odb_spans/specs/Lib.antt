@@ -1,5 +1,6 @@
 -- What public clauses cite, and has to be believed.
 pub mod Spans
+pub mod Positions
 -- What private clauses and proofs cite: nothing to believe.
 pub mod Cuts
 pub mod Extents

@@ -1,5 +1,5 @@
 -- What a scan finds of the parts of a document: for private clauses, nothing to believe.
-use Rattle.std.specs.Prelude.{◌≡◌, ◌≤◌, ◌<◌, ◌+◌, ℕ, suc, drop, ⊤, List, [], ◌∷◌, ◌++◌, length, true, Bool, Option, Some, None, IsUtf8, bytes_eq, codes}
+use Rattle.std.specs.Prelude.{◌≡◌, ◌≤◌, ◌<◌, ◌+◌, ℕ, suc, drop, ⊤, List, [], ◌∷◌, ◌++◌, length, slice_get, true, Bool, Option, Some, None, IsUtf8, bytes_eq, codes}
 use Rattle.std.specs.Str.{IsCharBoundary}
 use Rattle.std.specs.List.{All, AllZip}
 use Rattle.json.specs.Token.{Token}
@@ -50,6 +50,7 @@ pub record HasItems (text : List ℕ) (at : ℕ) (js : json.Items) (ts : List To
   pub utf8 : IsUtf8 text
   pub boundary : IsCharBoundary text at
   pub cut : IsCut text at
+  pub clear : place ≡ fresh → IsClear text at
 
 -- the value j begins there, and then come ts
 pub record HasValue (text : List ℕ) (at : ℕ) (j : json.Json) (ts : List Token) : Type 0 where
@@ -174,19 +175,27 @@ abbrev pub LiesInRequestSome : List ℕ → Option Span → json.Json → List T
 LiesInRequestSome text None request ts = ⊤
 LiesInRequestSome text (Some span) request ts = LiesInRequest text span request ts
 
--- the span is where the body of the request at this position lies
-pub record LiesInItems (text : List ℕ) (at : ℕ) (span : Span) (js : json.Items) (ts : List Token) : Type 0 where
+-- R holds of the item at this position, and of what comes after it
+pub record HoldsOfItem (R : json.Json → List Token → Type 0) (at : ℕ) (js : json.Items) (ts : List Token) : Type 0 where
   pub earlier : json.Items
-  pub request : json.Json
+  pub item : json.Json
   pub later : json.Items
-  pub is : js ≡ append_items earlier (json.item request later)
+  pub is : js ≡ append_items earlier (json.item item later)
   pub count : count_items earlier ≡ at
-  pub lies : LiesInRequest text span request (items_tokens later ++ ts)
+  pub holds : R item (items_tokens later ++ ts)
 
-pub record LiesInArray (text : List ℕ) (at : ℕ) (span : Span) (j : json.Json) (ts : List Token) : Type 0 where
+-- so for the items of an array
+pub record HoldsInArray (R : json.Json → List Token → Type 0) (at : ℕ) (j : json.Json) (ts : List Token) : Type 0 where
   pub items : json.Items
   pub array : j ≡ json.array items
-  pub lies : LiesInItems text at span items ts
+  pub holds : HoldsOfItem R at items ts
+
+-- the span is where the body of the request at this position lies
+abbrev pub LiesInItems : List ℕ → ℕ → Span → json.Items → List Token → Type 0
+LiesInItems text at span js ts = HoldsOfItem (LiesInRequest text span) at js ts
+
+abbrev pub LiesInArray : List ℕ → ℕ → Span → json.Json → List Token → Type 0
+LiesInArray text at span j ts = HoldsInArray (LiesInRequest text span) at j ts
 
 abbrev pub LieInItems : List ℕ → List (Option Span) → json.Items → List Token → Type 0
 LieInItems text spans js ts = EachSpan (λ at span. LiesInItems text at span js ts) 0 spans
@@ -252,3 +261,73 @@ pub record FindsBodies (text : List ℕ) (start : ℕ) (spans : List (Option Spa
   pub bounds : All (IsWithin (length text)) spans
   pub finds : (ms : json.Members) (ts : List Token) → HasMembers text start ms ts → HaveBodiesIn text spans (get_member (codes "requests") ms)
       × IsSomeMemberOf (codes "requests") ms (get_member (codes "requests") ms) None ts (LieInArray text spans)
+
+-- ---- one element
+
+-- the next of the items js lies at the span, and the others come after it
+pub record IsNextItem (text : List ℕ) (span : Span) (js : json.Items) (ts : List Token) : Type 0 where
+  pub value : json.Json
+  pub others : json.Items
+  pub is : js ≡ json.item value others
+  pub text_of : IsTextOf text span value
+  pub lies : LiesAt text span value (items_tokens others ++ ts)
+  pub has : HasItems text span.end others ts
+
+-- the next item of an array, after its opening bracket or an item
+abbrev pub GivesNext : List ℕ → ℕ → Option Span → Type 0
+GivesNext text at None = (js : json.Items) (ts : List Token) → HasItems text at js ts → js ≡ json.no_items
+GivesNext text at (Some span) = (at ≤ span.start) × (span.start < span.end) × (span.end ≤ length text) × ((js : json.Items) (ts : List Token) → HasItems text at js ts → IsNextItem text span js ts)
+
+-- The others of the items js are still to come, and the item at this position of js is the one at `left` of them.
+pub record ItemLeft (text : List ℕ) (at position left : ℕ) (js : json.Items) (ts : List Token) : Type 0 where
+  pub done : json.Items
+  pub others : json.Items
+  pub has : HasItems text at others ts
+  pub whole : js ≡ append_items done others
+  pub count : count_items done + left ≡ position
+  pub same : slice_get (list_of js) position ≡ slice_get (list_of others) left
+
+-- the item at this position lies at the span, if there is a span
+abbrev pub ItemLiesAt : List ℕ → Option Span → ℕ → json.Json → List Token → Type 0
+ItemLiesAt text None position j ts = ⊤
+ItemLiesAt text (Some span) position j ts = HoldsInArray (LiesAt text span) position j ts
+
+-- the item at a position of an array, which begins after its opening bracket
+pub record FindsItem (text : List ℕ) (start position : ℕ) (span : Option Span) : Type 0 where
+  pub bounds : IsWithin (length text) span
+  pub finds : (js : json.Items) (ts : List Token) → HasItems text start js ts → IsValueSpan text span (slice_get (list_of js) position) × ItemLiesAt text span position (json.array js) ts
+
+-- the item at a position of the value there
+pub record GivesItem (text : List ℕ) (at position : ℕ) (span : Option Span) : Type 0 where
+  pub bounds : IsWithin (length text) span
+  pub gives : (j : json.Json) (ts : List Token) → HasValue text at j ts → IsValueSpan text span (slice_get (items_in (Some j)) position) × ItemLiesAt text span position j ts
+
+-- the last member of this name has an array, whose item at this position lies at the span
+pub record LiesInMember (text : List ℕ) (span : Span) (name : List ℕ) (position : ℕ) (j : json.Json) : Type 0 where
+  pub members : json.Members
+  pub object : j ≡ json.object members
+  pub value : json.Json
+  pub member : IsMemberOf name members value None [] (HoldsInArray (LiesAt text span) position)
+
+abbrev pub LiesInMemberSome : List ℕ → Option Span → List ℕ → ℕ → json.Json → Type 0
+LiesInMemberSome text None name position j = ⊤
+LiesInMemberSome text (Some span) name position j = LiesInMember text span name position j
+
+-- the element at a position of the array at a member of the document's object, which begins there
+pub record FindsElement (name text : List ℕ) (start position : ℕ) (span : Option Span) : Type 0 where
+  pub bounds : IsWithin (length text) span
+  pub finds : (j : json.Json) → HasValue text start j [] → IsValueSpan text span (slice_get (items_in (get name j)) position) × LiesInMemberSome text span name position j
+
+-- the value is an array of two items, which lie at the spans
+pub record IsPairOf (text : List ℕ) (first second : Span) (j : json.Json) : Type 0 where
+  pub one : json.Json
+  pub two : json.Json
+  pub is : j ≡ json.array (json.item one (json.item two json.no_items))
+  pub first_text : IsTextOf text first one
+  pub second_text : IsTextOf text second two
+
+-- the two documents of a pair whose array begins there
+abbrev pub GivesPair : List ℕ → ℕ → Option (Span × Span) → Type 0
+GivesPair text start None = (one two : json.Json) → HasValue text start (json.array (json.item one (json.item two json.no_items))) [] → ⊥
+GivesPair text start (Some (first, second)) =
+    IsWithin (length text) (Some first) × IsWithin (length text) (Some second) × (first.end ≤ second.start) × ((j : json.Json) → HasValue text start j [] → IsPairOf text first second j)

@@ -4,7 +4,7 @@ use Rattle.std.specs.Str.{IsCharBoundary}
 use Rattle.json.specs.Token.{Token}
 use Rattle.json.specs.Align.{is_blank, is_good}
 use Rattle.json.specs.Lex.{Lexeme, token, between, class, lex, Place, fresh, after_value, after_comma, after_key, begins_colon, place_token, punctuate}
-use Rattle.odb_spans.specs.Cuts.{IsCut}
+use Rattle.odb_spans.specs.Cuts.{IsClear, IsCut}
 use Rattle.odb_spans.specs.Extents.{closes, weight}
 use Rattle.odb_spans.specs.declared.walk.Step.{Step}
 use Rattle.odb_spans.specs.declared.walk.Step.TheVariants.{Element, End}
@@ -20,6 +20,14 @@ tokens_from p text at = punctuate p (lexemes_from text at)
 -- no blank is there
 abbrev pub IsSolidAt : List ℕ → ℕ → Type 0
 IsSolidAt text at = at < length text → is_blank (class (get_or text at 0)) ≡ false
+
+-- the text's value, if any, begins there
+pub record IsStart (text : List ℕ) (start : ℕ) : Type 0 where
+  pub within : start ≤ length text
+  pub same : lexemes_from text start ≡ lexemes_from text 0
+  pub solid : IsSolidAt text start
+  pub boundary : IsUtf8 text → IsCharBoundary text start
+  pub cut : IsCut text start
 
 -- after an opening bracket or an element
 abbrev pub IsInside : Place → Type 0
@@ -46,6 +54,11 @@ pub record StepsOn (text : List ℕ) (at : ℕ) (t : Token) (ts : List Token) : 
   pub inner : weight t ≡ closes → ⊥
   pub faces : Faces text at t ts
 
+-- where the first token is t, which closes nothing, the lexer is clear at the end, as it was at the start if nothing came before
+abbrev pub Clears : List ℕ → ℕ → ℕ → Type 0
+Clears text from at =
+    (q : Place) (t : Token) (ts : List Token) → IsInside q → is_good t ≡ true → (weight t ≡ closes → ⊥) → tokens_from q text from ≡ t ∷ ts → IsCut text from → (q ≡ fresh → IsClear text from) → IsClear text at
+
 -- the step from there, whatever the tokens are
 abbrev pub Steps : List ℕ → ℕ → Step → Type 0
 Steps text from (End end) =
@@ -56,3 +69,4 @@ Steps text from (Element at) =
     (from ≤ at) × (at < length text) × IsSolidAt text at × (IsUtf8 text → IsCharBoundary text from → IsCharBoundary text at)
     × ((q : Place) (t : Token) (ts : List Token) → IsInside q → is_good t ≡ true → tokens_from q text from ≡ t ∷ ts → StepsOn text at t ts)
     × (IsCut text from → IsCut text at)
+    × Clears text from at

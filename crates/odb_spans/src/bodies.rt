@@ -12,7 +12,7 @@ use crate::body::body_at;
 use crate::extent::value_end;
 use crate::member::{is_named, member_at};
 use crate::span::Span;
-use crate::walk::{Step, next, past_blanks};
+use crate::walk::{Step, next, value_start};
 use std::alloc::{AllocError, Global};
 
 /// Returns the bodies of the requests of an array, and where it ends. `start` is after its opening
@@ -107,7 +107,7 @@ pub fn bodies_in(alloc: Global, document: &[u8]) -> Result<Vec<Option<Span>>, Al
     ensures bounds { IfOk result (λ found. All (IsWithin (length document.now)) found.items) }
     ensures memory { OnErr result (0 < length document.now) }
 {
-    let first = past_blanks(document, 0);
+    let first = value_start(document);
     if first == document.len() || document[first] != b'{' {
         return Ok(Vec::new(alloc));
     }

@@ -1,43 +1,13 @@
 //! The body of one request.
 
-ghost use Rattle.std.specs.Prelude.{◌≡◌, ◌≤◌, ◌<◌, ℕ, Some, length, IfOk, MatchOption, codes};
+ghost use Rattle.std.specs.Prelude.{◌≡◌, ◌<◌, ℕ, Some, length, IfOk, MatchOption};
 ghost use Rattle.odb_spans.specs.Spans.{IsWithin};
-ghost use Rattle.odb_spans.specs.Parts.{FindsMember, GivesBody, IsGiven, IsNullAt};
+ghost use Rattle.odb_spans.specs.Parts.{GivesBody, IsGiven, IsNullAt};
 
 use crate::extent::value_end;
-use crate::member::{is_named, member_at};
+use crate::member::last_member;
 use crate::span::Span;
-use crate::walk::{Step, next};
 use std::alloc::{AllocError, Global};
-
-/// Returns the value of the last member `body`, if any, and where the object ends. `start` is after its
-/// opening brace.
-fn body_among(
-    alloc: Global,
-    document: &[u8],
-    start: usize,
-) -> Result<(Option<Span>, usize), AllocError>
-    requires { start ≤ length document.now }
-    ensures { IfOk result (λ found. FindsMember (codes "body") document.now start found.0 found.1) }
-{
-    let mut at = start;
-    let mut body = None;
-    'members: loop {
-        match next(document, at) {
-            Step::End(end) => return Ok((body, end)),
-            Step::Element(first) => {
-                let member = member_at(document, first);
-                at = value_end(document, member.value);
-                if is_named(alloc, document, member.name, "body")? {
-                    body = Some(Span {
-                        start: member.value,
-                        end: at,
-                    });
-                }
-            }
-        }
-    }
-}
 
 /// Returns whether the span is that of `null`.
 fn is_null(document: &[u8], span: Span) -> bool
@@ -72,6 +42,6 @@ pub(crate) fn body_at(
     if document[at] != b'{' {
         return Ok((None, value_end(document, at)));
     }
-    let (body, end) = body_among(alloc, document, at + 1)?;
+    let (body, end) = last_member(alloc, document, at + 1, "body")?;
     Ok((given(document, body), end))
 }

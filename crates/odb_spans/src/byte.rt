@@ -1,6 +1,6 @@
 //! What a byte of JSON is outside a string (RFC 8259, section 2).
 
-ghost use Rattle.std.specs.Prelude.{◌≡◌, ◌≤◌, ◌<◌, length, get_or, MatchOption};
+ghost use Rattle.std.specs.Prelude.{◌≡◌, ◌≤◌, ◌<◌, ◌↔◌, length, get_or, IsTrue, MatchOption};
 ghost use Rattle.odb_spans.specs.Kinds.{IsKind};
 ghost use Rattle.odb_spans.specs.Kinds as spec;
 
@@ -71,4 +71,11 @@ impl Kind {
             None
         }
     }
+}
+
+/// Returns whether the text has this byte at a position.
+pub(crate) fn has_byte(text: &[u8], at: usize, byte: u8) -> bool
+    ensures { IsTrue result ↔ ((at < length text.now) × (get_or text.now at 0 ≡ byte)) }
+{
+    at < text.len() && text[at] == byte
 }

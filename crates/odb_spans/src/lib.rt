@@ -1,17 +1,27 @@
-//! Where the bodies of a batch lie in its document.
+//! Where the bodies and the elements of a batch lie in its document.
 //!
 //! A value that [`odb_doc::parse`] made has lost how the client wrote it: `9.990`, 23 digits, blanks. A
 //! gateway has to send each body as it was written, and so does a service that stores it.
 //! [`bodies_in`] returns for each request the [`Span`] of its body, by one scan of the document.
+//!
+//! A fault names an element by its [`Place`](odb_doc::Place). [`position_of`] returns the [`Position`] at
+//! which the element begins, with its line and column, and [`position_in_pair`] returns it for a line that
+//! holds two documents.
 #![tactic(auto)]
 
 mod bodies;
 mod body;
 mod byte;
 mod extent;
+mod fault;
+mod item;
+mod locate;
 mod member;
+mod position;
 mod span;
 mod walk;
 
 pub use bodies::bodies_in;
+pub use locate::{position_in_pair, position_of};
+pub use position::Position;
 pub use span::Span;

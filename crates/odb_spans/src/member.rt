@@ -5,11 +5,11 @@ ghost use Rattle.json.specs.Lex.{class};
 ghost use Rattle.json.specs.Align.{is_blank};
 ghost use Rattle.serde_json.specs.Data.{string};
 ghost use Rattle.serde_json.specs.View.{view};
-ghost use Rattle.odb_spans.specs.Parts.{IsMemberAt, IsNameIn};
+ghost use Rattle.odb_spans.specs.Parts.{FindsMember, IsMemberAt, IsNameIn};
 
 use crate::extent::value_end;
 use crate::span::Span;
-use crate::walk::past_separator;
+use crate::walk::{Step, next, past_separator};
 use serde_json::Value;
 use std::alloc::{AllocError, Global};
 
@@ -66,6 +66,40 @@ pub(crate) fn is_named(
                 Err(AllocError)
             } else {
                 Ok(false)
+            }
+        }
+    }
+}
+
+/// Returns the value of the last member of this name, if any, and where the object ends. `start` is
+/// after its opening brace.
+///
+/// # Errors
+///
+/// If memory for an unescaped name cannot be allocated.
+pub(crate) fn last_member(
+    alloc: Global,
+    document: &[u8],
+    start: usize,
+    name: &str,
+) -> Result<(Option<Span>, usize), AllocError>
+    requires { start ≤ length document.now }
+    ensures { IfOk result (λ found. FindsMember name.now document.now start found.0 found.1) }
+{
+    let mut at = start;
+    let mut last = None;
+    'members: loop {
+        match next(document, at) {
+            Step::End(end) => return Ok((last, end)),
+            Step::Element(first) => {
+                let member = member_at(document, first);
+                at = value_end(document, member.value);
+                if is_named(alloc, document, member.name, name)? {
+                    last = Some(Span {
+                        start: member.value,
+                        end: at,
+                    });
+                }
             }
         }
     }

@@ -6,7 +6,7 @@ ghost use Rattle.json.specs.Token.{Token};
 ghost use Rattle.json.specs.Lex as lexer;
 ghost use Rattle.json.specs.Align.{is_blank, is_good};
 ghost use Rattle.odb_spans.specs.Cuts.{IsClear, IsCut};
-ghost use Rattle.odb_spans.specs.Walks.{Faces, IsInside, IsSolidAt, Steps, lexemes_from, tokens_from};
+ghost use Rattle.odb_spans.specs.Walks.{Clears, Faces, IsInside, IsSolidAt, IsStart, Steps, lexemes_from, tokens_from};
 
 use crate::byte::Kind;
 
@@ -40,6 +40,13 @@ pub(crate) fn past_blanks(text: &[u8], at: usize) -> usize
     end
 }
 
+/// Returns where the value of the text begins.
+pub(crate) fn value_start(text: &[u8]) -> usize
+    ensures { IsStart text.now result }
+{
+    past_blanks(text, 0)
+}
+
 /// Returns where the next element, the next value or the closing bracket is, after a comma or a colon.
 pub(crate) fn past_separator(text: &[u8], at: usize) -> usize
     requires { at ≤ length text.now }
@@ -57,6 +64,7 @@ pub(crate) fn past_separator(text: &[u8], at: usize) -> usize
     ensures clear { (t : Token) (ts : List Token) → is_good t ≡ true
         → tokens_from lexer.after_key text.now at ≡ t ∷ ts → IsCut text.now at
         → IsClear text.now result }
+    ensures clears { Clears text.now at result }
 {
     let first = past_blanks(text, at);
     let Some(kind) = Kind::at(text, first) else {

@@ -1,22 +1,12 @@
-use Rattle.std.proofs.Common.{◌≡◌, ℕ, List, [], ◌+◌, get_or, Some, Result, Ok, Err, IfOk, sym, subst, arith, All, length}
-use Rattle.json.specs.Token.{Token}
-use Rattle.json.specs.Json as json
+use Rattle.std.proofs.Common.{◌≡◌, [], ◌+◌, get_or, Some, Result, Ok, Err, IfOk, sym, subst, arith, All, length}
 use Rattle.std.proofs.lemmas.List.Elements.{All-nil}
 use Rattle.odb_spans.specs.Spans.{IsWithin}
-use Rattle.odb_spans.specs.Parts.{GivesBodies, GivesItems, HasValue, HaveBodiesIn, LieInArray, LiesInArray, LiesInItems}
-use Rattle.odb_spans.proofs.BracketLemmas.{array-at, array-byte}
+use Rattle.odb_spans.specs.Parts.{GivesBodies, GivesItems, HaveBodiesIn, HaveBodyTexts, LieInArray, LiesInArray, LiesInItems}
+use Rattle.odb_spans.proofs.BracketLemmas.{array-at, no-array}
 use Rattle.odb_spans.proofs.MemberLemmas.{each-map}
 use Rattle.odb_spans.proofs.PartLemmas.{value-part, value-within}
 use Rattle.odb_spans.proofs.bodies.bodies_at.Goals.{then-at-document-via-then-at-document, then-at-document-via-else-at-document+then-document-at-ne91}
 use Rattle.odb_spans.proofs.bodies.bodies_at.Goals as goal
-
-no-array : (text : List ℕ) (at : ℕ) (j : json.Json) (ts : List Token) → HasValue text at j ts → (get_or text at 0 ≡ 91 → ⊥) → HaveBodiesIn text [] (Some j)
-no-array text at json.null ts v other = tt
-no-array text at (json.boolean b) ts v other = tt
-no-array text at (json.number s) ts v other = tt
-no-array text at (json.string s) ts v other = tt
-no-array text at (json.object ms) ts v other = tt
-no-array text at (json.array js) ts v other = absurd (other (array-byte text at js ts v))
 
 if-ok : {A E : Type 0} (P Q : A → Type 0) (r : Result A E) → ((a : A) → P a → Q a) → IfOk r P → IfOk r Q
 if-ok P Q (Ok a) f h = f a h
@@ -32,10 +22,10 @@ returns-then-at-document c =
       bounds = subst (All (IsWithin (length text))) (sym c.new.ensures.items) (All-nil (IsWithin (length text)));
       gives = λ j ts v. (
         subst (λ l. HaveBodiesIn text l (Some j)) (sym c.new.ensures.items)
-            (no-array text c.args.at j ts v (elim c.then-at-document.branch as (λ _. get_or text c.args.at 0 ≡ 91 → ⊥) [
+            (subst (λ l. HaveBodyTexts text l []) (sym (no-array text c.args.at j ts v (elim c.then-at-document.branch as (λ _. get_or text c.args.at 0 ≡ 91 → ⊥) [
               | then-at-document-via-then-at-document w ↦ λ here. let within = value-within text c.args.at j ts v in omega (arith, within, w.if-at-document.true)
               | then-at-document-via-else-at-document+then-document-at-ne91 w ↦ w.if-document-at-ne91.true
-            ])),
+            ]))) tt),
         (value-part text c.args.at end.result j ts v end.ensures.extent end.ensures.within (end.ensures.boundary v.utf8)).ended,
         subst (λ l. LieInArray text l j ts) (sym c.new.ensures.items) tt,
       );
@@ -55,7 +45,7 @@ returns c =
           let all = items.gives array.inner ts array.has in (
             subst (λ i. HaveBodiesIn text found.0.items (Some i)) (sym array.is) all.0,
             all.1,
-            each-map (λ n span. LiesInItems text n span array.inner ts) (λ n span. LiesInArray text n span j ts) 0 found.0.items (λ n span lies. record { items = array.inner; array = array.is; lies = lies }) all.2,
+            each-map (λ n span. LiesInItems text n span array.inner ts) (λ n span. LiesInArray text n span j ts) 0 found.0.items (λ n span lies. record { items = array.inner; array = array.is; holds = lies }) all.2,
           ));
     })
     c.bodies_among.ensures

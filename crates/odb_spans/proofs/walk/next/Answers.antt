@@ -31,4 +31,5 @@ returns-else-closes c =
       first.ensures.boundary,
       λ q t ts inside good e. steps-on c.args.text.now first.result here t ts good c.in-Some.kind c.in-Some.ensures.1 (sym c.closes.ensures ∙ c.if-closes.false) (first.ensures.solid here) (first.ensures.faces q t ts inside good e),
       first.ensures.cut,
+      first.ensures.clears,
     )

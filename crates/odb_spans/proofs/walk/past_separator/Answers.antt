@@ -3,7 +3,7 @@ use Rattle.std.proofs.lemmas.Str.{IsCharBoundary-after_ascii}
 use Rattle.json.specs.Lex.{fresh, after_key, operator, punctuate}
 use Rattle.odb_spans.specs.Walks.{lexemes_from}
 use Rattle.odb_spans.proofs.CutLemmas.{clear-byte, cut-byte}
-use Rattle.odb_spans.proofs.WalkLemmas.{BeginWithToken, begins-token, begins-separator, none-past, face-token, face-separator, no-colon, past-colon, separator-kind}
+use Rattle.odb_spans.proofs.WalkLemmas.{BeginWithToken, begins-token, begins-separator, comes-first, faces-none, none-past, face-token, face-separator, no-colon, past-colon, separator-kind}
 use Rattle.odb_spans.proofs.walk.past_separator.Goals as goal
 
 none-token : (text : List ℕ) (at : ℕ) → length text ≤ at → BeginWithToken (lexemes_from text at)
@@ -84,3 +84,24 @@ returns-then-is_separator-clause-clear c t ts good e from =
     let is = separator-kind c.in-Some.kind _ (sym c.is_separator.ensures ∙ c.if-is_separator.true) c.in-Some.ensures.1 in
     let cut = first.ensures.cut from in
     c.past_blanks.ensures.clear (cut-byte text first.result operator c.in-Some.ensures.0 is.is refl cut) (clear-byte text first.result operator c.in-Some.ensures.0 is.is refl cut)
+
+pub returns-in_default-clause-clears : goal.returns-in_default-clause-clears
+returns-in_default-clause-clears c q t ts inside good inner e from at =
+    let text = c.args.text.now in
+    let first = c.past_blanks-first in
+    faces-none text first.result t ts c.in_default.ensures (face-token text first.result t ts good q _ inside (none-token text first.result c.in_default.ensures) refl (ap (punctuate q) first.ensures.same ∙ e))
+
+pub returns-then-is_separator-clause-clears : goal.returns-then-is_separator-clause-clears
+returns-then-is_separator-clause-clears c q t ts inside good inner e from at =
+    let text = c.args.text.now in
+    let first = c.past_blanks-first in
+    let is = separator-kind c.in-Some.kind _ (sym c.is_separator.ensures ∙ c.if-is_separator.true) c.in-Some.ensures.1 in
+    let cut = first.ensures.cut from in
+    c.past_blanks.ensures.clear (cut-byte text first.result operator c.in-Some.ensures.0 is.is refl cut) (clear-byte text first.result operator c.in-Some.ensures.0 is.is refl cut)
+
+pub returns-else-is_separator-clause-clears : goal.returns-else-is_separator-clause-clears
+returns-else-is_separator-clause-clears c q t ts inside good inner e from at =
+    let text = c.args.text.now in
+    let first = c.past_blanks-first in
+    let begins = begins-token text first.result c.in-Some.kind c.in-Some.ensures.0 c.in-Some.ensures.1 (sym c.is_separator.ensures ∙ c.if-is_separator.false) (first.ensures.solid c.in-Some.ensures.0) in
+    first.ensures.clear from (at (comes-first text first.result t ts good q (lexemes_from text first.result) inside begins (ap (punctuate q) first.ensures.same ∙ e) inner))

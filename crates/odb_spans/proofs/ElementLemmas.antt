@@ -1,0 +1,113 @@
+-- The document with `null` in the place of an element is read with null there, and the other elements as they were.
+use Rattle.std.proofs.Common.{◌≡◌, ◌∙◌, ℕ, ◌≤◌, List, [], ◌++◌, Option, Some, None, option_map, refl, sym, ap, ap₂, subst, arith, append-nil}
+use Rattle.std.specs.Prelude.{IsUtf8, set}
+use Rattle.json.specs.Token.{Token}
+use Rattle.json.specs.Json as json
+use Rattle.json.specs.Find as tree
+use Rattle.json.specs.Tree.{depth, items_tokens, json_tokens, members_tokens}
+use Rattle.serde_json.specs.Data.{Data, array, null, no_members, object}
+use Rattle.serde_json.specs.Find.{get_member}
+use Rattle.serde_json.specs.Read.{max_depth, of_items, of_json, of_members}
+use Rattle.odb_doc.specs.Members.{elements_at, list_of}
+use Rattle.odb_spans.specs.Parts.{HoldsInArray, IsMemberOf, LiesAt, LiesInMemberSome, append_items, append_members}
+use Rattle.odb_spans.specs.Positions.{IsPlaceOfElement}
+use Rattle.odb_spans.specs.Spans.{without}
+use Rattle.odb_spans.specs.declared.span.Span.{Span}
+use Rattle.odb_spans.proofs.DataLemmas.{MapsTo, maps-to}
+use Rattle.odb_spans.proofs.FillLemmas.{Around, BeginsWell, ItemsChanged, ReadsMembers, alone, begins-well-items, in-array, in-object, in_array, in_object, is-utf8, items-changed, items-shallow, last-listed, last-member, members-changed, members-shallow, null-tree, read-last}
+use Rattle.odb_spans.proofs.LookupLemmas.{IsReadAs}
+use Rattle.odb_spans.proofs.ReadLemmas.{IsTreeOf, read-tokens}
+
+module _ (text : List ℕ) (d : Data) (at : ℕ) (span : Span) (name : List ℕ) (ms : json.Members) (value : json.Json) (top : IsTreeOf text d) (is : top.tree ≡ json.object ms) (utf8 : IsUtf8 text)
+    (m : IsMemberOf name ms value None [] (HoldsInArray (LiesAt text span) at)) where
+  abbrev elements : json.Json → json.Json
+  elements i = in_array m.holds.holds.earlier m.holds.holds.later i
+
+  abbrev members : json.Json → json.Members
+  members i = append_members m.earlier (json.member m.key (elements i) m.later)
+
+  abbrev filled : json.Json → json.Json
+  filled i = in_object m.earlier m.key m.later (elements i)
+
+  abbrev element : json.Json
+  element = m.holds.holds.item
+
+  abbrev after : List Token
+  after = items_tokens m.holds.holds.later ++ (members_tokens m.later ++ [])
+
+  part : LiesAt text span element after
+  part = m.holds.holds.holds
+
+  in-elements : value ≡ elements element
+  in-elements = m.holds.array ∙ ap json.array m.holds.holds.is
+
+  in-document : top.tree ≡ filled element
+  in-document = is ∙ ap json.object (m.is ∙ ap (λ x. append_members m.earlier (json.member m.key x m.later)) in-elements)
+
+  nested-after : Around (λ i. filled i) (items_tokens m.holds.holds.later ++ members_tokens m.later)
+  nested-after = in-object m.earlier m.key m.later (λ i. elements i) (items_tokens m.holds.holds.later) (in-array m.holds.holds.earlier m.holds.holds.later (λ i. i) [] alone)
+
+  same-after : items_tokens m.holds.holds.later ++ members_tokens m.later ≡ after
+  same-after = ap (λ l. items_tokens m.holds.holds.later ++ l) (sym (append-nil (members_tokens m.later)))
+
+  around : Around (λ i. filled i) after
+  around = record { before = nested-after.before; spells = λ i. nested-after.spells i ∙ ap (λ l. nested-after.before ++ (json_tokens i ++ l)) same-after }
+
+  next : BeginsWell after
+  next = begins-well-items m.holds.holds.later (members_tokens m.later ++ [])
+
+  shallow : depth (filled json.null) ≤ max_depth
+  shallow =
+      let here : depth json.null ≤ depth element = omega arith in
+      let one : depth (elements json.null) ≤ depth (elements element) = omega (arith, items-shallow m.holds.holds.earlier json.null element m.holds.holds.later here) in
+      let whole : depth (filled element) ≤ max_depth = subst (λ j. depth j ≤ max_depth) in-document top.shallow in
+      omega (arith, whole, members-shallow m.earlier m.key (elements json.null) (elements element) m.later one)
+
+  document-read : MapsTo object (of_members (members element) no_members) d
+  document-read = maps-to object (of_members (members element) no_members) d (sym (ap of_json in-document) ∙ top.reads)
+
+  last-elements : (i : json.Json) → tree.get_member name (members i) ≡ Some (elements i)
+  last-elements i = last-member name m.earlier m.key (elements i) m.later m.named m.rest
+
+  array-read : IsReadAs (elements element) (get_member name document-read.value)
+  array-read = read-last name (elements element) (members element) document-read.value (last-elements element) document-read.some
+
+  abbrev items_with : json.Json → json.Items
+  items_with i = append_items m.holds.holds.earlier (json.item i m.holds.holds.later)
+
+  elements-read : MapsTo array (of_items (items_with element)) array-read.value
+  elements-read = maps-to array (of_items (items_with element)) array-read.value array-read.read
+
+  null-elements : ItemsChanged m.holds.holds.earlier json.null m.holds.holds.later elements-read.value null
+  null-elements = items-changed m.holds.holds.earlier element json.null m.holds.holds.later elements-read.value null refl elements-read.some
+
+  null-array : of_json (elements json.null) ≡ Some (array null-elements.all)
+  null-array = ap (option_map array) null-elements.reads
+
+  null-members : ReadsMembers (members json.null) no_members
+  null-members = members-changed m.earlier m.key (elements element) (elements json.null) m.later no_members no_members document-read.value (array null-elements.all) null-array document-read.some
+
+  elements-before : elements_at name d ≡ list_of elements-read.value
+  elements-before =
+      ap (elements_at name) document-read.is
+      ∙ last-listed name (elements element) (members element) document-read.value elements-read.value (last-elements element) document-read.some (array-read.read ∙ ap Some elements-read.is)
+
+  elements-after : elements_at name (object null-members.0) ≡ list_of null-elements.all
+  elements-after = last-listed name (elements json.null) (members json.null) null-members.0 null-elements.all (last-elements json.null) null-members.1 null-array
+
+  is-place : IsPlaceOfElement text d name at span
+  is-place = record {
+    changed = object null-members.0;
+    reads = (
+      is-utf8 text d span element after part next utf8,
+      read-tokens (without text span) (filled json.null) (null-tree text d span element after part next utf8 (λ i. filled i) around top in-document) shallow ∙ ap (option_map object) null-members.1,
+    );
+    elements = elements-after ∙ null-elements.list ∙ sym (ap₂ (λ l n. set l n null) elements-before (sym m.holds.holds.count));
+  }
+
+-- the span is where the element lies
+pub is-element-place : (text : List ℕ) (d : Data) (at : ℕ) (span : Span) (name : List ℕ) (found : Option Span) (top : IsTreeOf text d) → IsUtf8 text → found ≡ Some span → LiesInMemberSome text found name at top.tree → IsPlaceOfElement text d name at span
+is-element-place text d at span name None top utf8 same lies = absurd (cc (same))
+is-element-place text d at span name (Some s) top utf8 same lies =
+    let one : s ≡ span = cc (same) in
+    subst (IsPlaceOfElement text d name at) one (is-place text d at s name lies.members lies.value top lies.object utf8 lies.member)

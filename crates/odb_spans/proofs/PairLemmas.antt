@@ -1,0 +1,131 @@
+-- A pair of documents in a line.
+use Rattle.std.proofs.Common.{◌≡◌, ◌∙◌, ℕ, ◌≤◌, true, false, cond, List, [], Some, Result, Ok, Err, IfOk, refl, sym, ap, subst, arith}
+use Rattle.std.specs.declared.alloc.AllocError.{AllocError}
+use Rattle.json.specs.Json as json
+use Rattle.json.specs.Tree.{depth}
+use Rattle.serde_json.specs.Data.{Data, number, array, object, no_items, item, no_members}
+use Rattle.serde_json.specs.Read.{max_depth, number_of, of_items, of_json, of_members}
+use Rattle.odb_doc.specs.Documents.{IsJson}
+use Rattle.odb_doc.specs.declared.fault.Place.{Place}
+use Rattle.odb_spans.specs.Parts.{HasValue, IsPairOf}
+use Rattle.odb_spans.specs.Positions.{BeginsInPair, BeginsInPart, IsTextAt, is_in_batch, pair}
+use Rattle.odb_spans.specs.Walks.{IsStart}
+use Rattle.odb_spans.specs.declared.span.Span.{Span}
+use Rattle.odb_spans.proofs.DataLemmas.{item-read, maps-to}
+use Rattle.odb_spans.proofs.ReadLemmas.{tree-of}
+use Rattle.odb_spans.proofs.WholeLemmas.{text-at, whole}
+
+-- ---- the two documents
+
+-- what is read of an array of two
+pub record IsPairRead (one two : json.Json) (d : Data) : Type 0 where
+  pub first : Data
+  pub second : Data
+  pub reads : of_json one ≡ Some first
+  pub more : of_json two ≡ Some second
+  pub is : d ≡ pair first second
+
+abbrev pub two_items : json.Json → json.Json → json.Items
+two_items one two = json.item one (json.item two json.no_items)
+
+pub pair-read : (one two : json.Json) (d : Data) → of_json (json.array (two_items one two)) ≡ Some d → IsPairRead one two d
+pair-read one two d reads =
+    let h = maps-to array (of_items (two_items one two)) d reads in
+    let first = item-read one (json.item two json.no_items) h.value (of_json one) refl h.some in
+    let second = item-read two json.no_items first.others (of_json two) refl first.more in
+    let none : no_items ≡ second.others = cc (second.more) in
+    record {
+      first = first.first;
+      second = second.first;
+      reads = first.reads;
+      more = second.reads;
+      is = h.is ∙ ap array (first.is ∙ ap (item first.first) (second.is ∙ ap (item second.first) (sym none)));
+    }
+
+-- the tree of a pair is an array of two
+pub record IsTreeOfPair (j : json.Json) : Type 0 where
+  pub one : json.Json
+  pub two : json.Json
+  pub is : j ≡ json.array (two_items one two)
+
+two-read : (js : json.Items) (batch second : Data) → of_items js ≡ Some (item batch (item second no_items)) → IsTreeOfPair (json.array js)
+two-read json.no_items batch second e = absurd (cc (e))
+two-read (json.item one json.no_items) batch second e =
+    let h = item-read one json.no_items (item batch (item second no_items)) (of_json one) refl e in
+    let none : no_items ≡ h.others = cc (h.more) in
+    absurd (cc (h.is, none))
+two-read (json.item one (json.item two json.no_items)) batch second e = record { one = one; two = two; is = refl }
+two-read (json.item one (json.item two (json.item three js))) batch second e =
+    let h = item-read one (json.item two (json.item three js)) (item batch (item second no_items)) (of_json one) refl e in
+    let i = item-read two (json.item three js) h.others (of_json two) refl h.more in
+    let k = item-read three js i.others (of_json three) refl i.more in
+    absurd (cc (h.is, i.is, k.is))
+
+pub tree-of-pair : (j : json.Json) (batch second : Data) → of_json j ≡ Some (pair batch second) → IsTreeOfPair j
+tree-of-pair json.null batch second e = absurd (cc (e))
+tree-of-pair (json.boolean b) batch second e = absurd (cc (e))
+tree-of-pair (json.number s) batch second e = let h = maps-to number (number_of s) (pair batch second) e in absurd (cc (h.is))
+tree-of-pair (json.string s) batch second e = absurd (cc (e))
+tree-of-pair (json.object ms) batch second e = let h = maps-to object (of_members ms no_members) (pair batch second) e in absurd (cc (h.is))
+tree-of-pair (json.array js) batch second e =
+    let h = maps-to array (of_items js) (pair batch second) e in
+    let same : h.value ≡ item batch (item second no_items) = cc (h.is) in
+    two-read js batch second (h.some ∙ ap Some same)
+
+record ArePartsOf (line : List ℕ) (first second : Span) (d : Data) : Type 0 where
+  pub one : Data
+  pub two : Data
+  pub is : d ≡ pair one two
+  pub first_text : IsTextAt line first one
+  pub second_text : IsTextAt line second two
+
+module _ (line : List ℕ) (start : ℕ) (at : IsStart line start) where
+  -- the line is no pair where it was not found to be one
+  pub no-pair : ((one two : json.Json) → HasValue line start (json.array (two_items one two)) [] → ⊥) → (batch second : Data) → IsJson line (pair batch second) → ⊥
+  no-pair none batch second is =
+      let top = tree-of line (pair batch second) is.1 in
+      let two = tree-of-pair top.tree batch second top.reads in
+      none two.one two.two (subst (λ j. HasValue line start j []) two.is (whole line start (pair batch second) top is.0 at))
+
+  module _ (first second : Span) (is_pair : (j : json.Json) → HasValue line start j [] → IsPairOf line first second j) where
+    parts : (d : Data) → IsJson line d → ArePartsOf line first second d
+    parts d is =
+        let top = tree-of line d is.1 in
+        let found = is_pair top.tree (whole line start d top is.0 at) in
+        let read = pair-read found.one found.two d (ap of_json (sym found.is) ∙ top.reads) in
+        let shallow : depth (json.array (two_items found.one found.two)) ≤ max_depth = subst (λ j. depth j ≤ max_depth) found.is top.shallow in
+        record {
+          one = read.first;
+          two = read.second;
+          is = read.is;
+          first_text = text-at line first found.one read.first found.first_text read.reads (omega (arith, shallow));
+          second_text = text-at line second found.two read.second found.second_text read.more (omega (arith, shallow));
+        }
+
+    module _ (order : first.end ≤ second.start) (place : Place) (offset : ℕ) where
+      in-one : ((batch other : Data) → IsTextAt line first batch → IsTextAt line second other → cond (is_in_batch place) (BeginsInPart line first offset batch place) (BeginsInPart line second offset other place)) → BeginsInPair line offset place
+      in-one begins = record {
+        pairs = λ batch other is.
+            (let found = parts (pair batch other) is in
+            let one : found.one ≡ batch = cc (found.is) in
+            let two : found.two ≡ other = cc (found.is) in
+            let one_text = subst (IsTextAt line first) one found.first_text in
+            let two_text = subst (IsTextAt line second) two found.second_text in
+            record { first = first; other = second; order = order; first_text = one_text; other_text = two_text; begins = begins batch other one_text two_text });
+        others = λ d is none. (let found = parts d is in absurd (none found.one found.two found.is));
+      }
+
+      begins-first : is_in_batch place ≡ true → ((d : Data) → IsTextAt line first d → BeginsInPart line first offset d place) → BeginsInPair line offset place
+      begins-first same begins = in-one (λ batch other one two. subst (λ b. cond b (BeginsInPart line first offset batch place) (BeginsInPart line second offset other place)) (sym same) (begins batch one))
+
+      begins-second : is_in_batch place ≡ false → ((d : Data) → IsTextAt line second d → BeginsInPart line second offset d place) → BeginsInPair line offset place
+      begins-second same begins = in-one (λ batch other one two. subst (λ b. cond b (BeginsInPart line first offset batch place) (BeginsInPart line second offset other place)) (sym same) (begins other two))
+
+    module _ (order : first.end ≤ second.start) (place : Place) where
+      pub if-first : (r : Result ℕ AllocError) → is_in_batch place ≡ true → IfOk r (λ offset. (d : Data) → IsTextAt line first d → BeginsInPart line first offset d place) → IfOk r (λ offset. BeginsInPair line offset place)
+      if-first (Ok offset) same begins = begins-first order place offset same begins
+      if-first (Err e) same begins = tt
+
+      pub if-second : (r : Result ℕ AllocError) → is_in_batch place ≡ false → IfOk r (λ offset. (d : Data) → IsTextAt line second d → BeginsInPart line second offset d place) → IfOk r (λ offset. BeginsInPair line offset place)
+      if-second (Ok offset) same begins = begins-second order place offset same begins
+      if-second (Err e) same begins = tt

@@ -1,0 +1,219 @@
+//! Where the element that a place names begins.
+
+ghost use Rattle.std.specs.Prelude.{◌≡◌, ◌≤◌, ◌<◌, ◌+◌, length, IfOk, IfSome, OnErr};
+ghost use Rattle.serde_json.specs.Data.{Data};
+ghost use Rattle.odb_doc.specs.Documents.{IsJson};
+ghost use Rattle.odb_spans.specs.Positions.{BeginsIn, BeginsInPair, BeginsInPart, IsTextAt, Stands, StandsInPair, ValueBeginsAt};
+ghost use Rattle.odb_spans.specs.Positions as spec;
+ghost use Rattle.odb_spans.specs.Parts.{FindsElement, GivesPair};
+
+use crate::byte::has_byte;
+use crate::fault::fault_in;
+use crate::item::{item_at, next_item};
+use crate::member::last_member;
+use crate::position::Position;
+use crate::span::Span;
+use crate::walk::value_start;
+use odb_doc::Place;
+use std::alloc::{AllocError, Global};
+
+/// Returns where the element at a position of the array at a member of the document's object lies, none
+/// if there is no such element. `start` is where the document's value begins.
+fn element_in(
+    alloc: Global,
+    document: &[u8],
+    start: usize,
+    name: &str,
+    position: usize,
+) -> Result<Option<Span>, AllocError>
+    requires { start ≤ length document.now }
+    ensures found { IfOk result (λ found. FindsElement name.now document.now start position found) }
+    ensures memory { OnErr result (start < length document.now) }
+{
+    if !has_byte(document, start, b'{') {
+        return Ok(None);
+    }
+    match last_member(alloc, document, start + 1, name)?.0 {
+        Some(value) => Ok(item_at(document, value.start, position)),
+        None => Ok(None),
+    }
+}
+
+/// Returns where the element at a position of the array at a member begins, or the document's value if
+/// there is no such element.
+fn element_offset(
+    alloc: Global,
+    document: &[u8],
+    name: &str,
+    position: usize,
+) -> Result<usize, AllocError>
+    ensures begins { IfOk result (λ offset. (d : Data) → IsJson document.now d
+        → BeginsIn document.now offset name.now position d) }
+    ensures within { IfOk result (λ offset. offset ≤ length document.now) }
+    ensures memory { OnErr result (0 < length document.now) }
+{
+    let start = value_start(document);
+    match element_in(alloc, document, start, name, position)? {
+        Some(element) => Ok(element.start),
+        None => Ok(start),
+    }
+}
+
+/// Returns where the value that a place names begins in a document that is JSON.
+fn value_offset(alloc: Global, document: &[u8], place: Place) -> Result<usize, AllocError>
+    ensures begins { IfOk result (λ offset. (d : Data) → IsJson document.now d
+        → ValueBeginsAt document.now offset d place) }
+    ensures within { IfOk result (λ offset. offset ≤ length document.now) }
+    ensures memory { OnErr result (0 < length document.now) }
+{
+    match place {
+        Place::Batch | Place::Outcomes | Place::Responses | Place::Events => {
+            Ok(value_start(document))
+        }
+        Place::Request(at) => element_offset(alloc, document, "requests", at),
+        Place::Outcome(at) => element_offset(alloc, document, "outcomes", at),
+        Place::Response(at) => element_offset(alloc, document, "responses", at),
+        Place::Event(at) => element_offset(alloc, document, "events", at),
+    }
+}
+
+/// Returns whether the place is in a batch, not in a second document.
+fn is_in_batch(place: Place) -> bool
+    ensures { result ≡ spec.is_in_batch place }
+{
+    matches!(place, Place::Batch | Place::Request(_))
+}
+
+/// Returns where parsing a document fails, for the place of a whole document. A document with a fault at
+/// an element is JSON, so it is not parsed again.
+fn fault_at(alloc: Global, document: &[u8], place: Place) -> Result<Option<usize>, AllocError>
+    ensures within { IfOk result (λ found. IfSome found (λ at. at ≤ length document.now)) }
+    ensures fault { IfOk result (λ found. IfSome found (λ at. (d : Data) → ¬ IsJson document.now d)) }
+    ensures memory { OnErr result (0 < length document.now) }
+{
+    match place {
+        Place::Batch | Place::Outcomes | Place::Responses | Place::Events => {
+            fault_in(alloc, document)
+        }
+        Place::Request(_) | Place::Outcome(_) | Place::Response(_) | Place::Event(_) => Ok(None),
+    }
+}
+
+/// Returns the offset of the position in a document.
+fn offset_of(alloc: Global, document: &[u8], place: Place) -> Result<usize, AllocError>
+    ensures begins { IfOk result (λ offset. (d : Data) → IsJson document.now d
+        → ValueBeginsAt document.now offset d place) }
+    ensures within { IfOk result (λ offset. offset ≤ length document.now) }
+    ensures memory { OnErr result (0 < length document.now) }
+{
+    match fault_at(alloc, document, place)? {
+        Some(fault) => Ok(fault),
+        None => value_offset(alloc, document, place),
+    }
+}
+
+/// Returns where the two documents of a pair lie in its line, none if its value is not an array of two.
+fn pair_in(line: &[u8], start: usize) -> Option<(Span, Span)>
+    requires { start ≤ length line.now }
+    ensures { GivesPair line.now start result }
+{
+    if !has_byte(line, start, b'[') {
+        return None;
+    }
+    let batch = next_item(line, start + 1)?;
+    let second = next_item(line, batch.end)?;
+    match next_item(line, second.end) {
+        Some(_) => None,
+        None => Some((batch, second)),
+    }
+}
+
+/// Returns where the value that a place names begins in a part of a line that is a document.
+fn offset_in_part(alloc: Global, line: &[u8], part: Span, place: Place) -> Result<usize, AllocError>
+    requires order { part.start ≤ part.end }
+    requires within { part.end ≤ length line.now }
+    ensures begins { IfOk result (λ offset. (d : Data) → IsTextAt line.now part d
+        → BeginsInPart line.now part offset d place) }
+    ensures within { IfOk result (λ offset. offset ≤ length line.now) }
+    ensures memory { OnErr result (0 < length line.now) }
+{
+    let offset = value_offset(alloc, part.bytes_in(line), place)?;
+    Ok(part.start + offset)
+}
+
+/// Returns where the value that a place names begins in a line that is JSON and holds a pair, or where
+/// the line's value begins if that is not a pair.
+fn value_offset_in_pair(alloc: Global, line: &[u8], place: Place) -> Result<usize, AllocError>
+    ensures begins { IfOk result (λ offset. BeginsInPair line.now offset place) }
+    ensures within { IfOk result (λ offset. offset ≤ length line.now) }
+    ensures memory { OnErr result (0 < length line.now) }
+{
+    let start = value_start(line);
+    match pair_in(line, start) {
+        Some((batch, second)) => {
+            if is_in_batch(place) {
+                offset_in_part(alloc, line, batch, place)
+            } else {
+                offset_in_part(alloc, line, second, place)
+            }
+        }
+        None => Ok(start),
+    }
+}
+
+/// Returns the offset of the position in a line that holds a pair.
+fn offset_in_pair(alloc: Global, line: &[u8], place: Place) -> Result<usize, AllocError>
+    ensures begins { IfOk result (λ offset. BeginsInPair line.now offset place) }
+    ensures within { IfOk result (λ offset. offset ≤ length line.now) }
+    ensures memory { OnErr result (0 < length line.now) }
+{
+    match fault_at(alloc, line, place)? {
+        Some(fault) => Ok(fault),
+        None => value_offset_in_pair(alloc, line, place),
+    }
+}
+
+/// Returns where the element that a place names begins in a document.
+///
+/// `Request` names an element of `requests`, `Outcome` one of `outcomes`, `Response` one of `responses`
+/// and `Event` one of `events`. If a name repeats in an object, its last member counts. If there is no
+/// such element, and for the place of a whole document, the position is that of the document's value.
+///
+/// If the document is not JSON, the position for a whole document is where parsing fails: at the first
+/// token that cannot be there, at the first byte that is not UTF-8, after a number out of range or a
+/// bracket that nests too deep, or at the end of a document that ends too soon. A document larger than
+/// [`odb_doc::MAX_DOCUMENT_BYTES`] is not parsed: the position is that of its value.
+///
+/// Costs O(n) for a document of n bytes.
+///
+/// # Errors
+///
+/// If memory for the document's value, or for a name while it is compared, cannot be allocated. Not for
+/// an empty document.
+pub fn position_of(alloc: Global, document: &[u8], place: Place) -> Result<Position, AllocError>
+    ensures stands { IfOk result (λ position. Stands document.now place position) }
+    ensures memory { OnErr result (0 < length document.now) }
+{
+    let offset = offset_of(alloc, document, place)?;
+    Ok(Position::at(document, offset))
+}
+
+/// Returns where the element that a place names begins in a line that holds an array of a batch and a
+/// second document: `Batch` and `Request` are places in the first, the others in the second.
+///
+/// In its document the element is found as by [`position_of`]. If the line is not an array of two, the
+/// position is that of the line's value; if it is not JSON, the position for a whole document is where
+/// parsing the line fails.
+///
+/// Costs O(n) for a line of n bytes.
+///
+/// # Errors
+///
+/// As [`position_of`].
+pub fn position_in_pair(alloc: Global, line: &[u8], place: Place) -> Result<Position, AllocError>
+    ensures stands { IfOk result (λ position. StandsInPair line.now place position) }
+    ensures memory { OnErr result (0 < length line.now) }
+{
+    let offset = offset_in_pair(alloc, line, place)?;
+    Ok(Position::at(line, offset))
+}
