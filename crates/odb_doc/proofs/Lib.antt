@@ -31,7 +31,8 @@ pub mod ReadBackLemmas
 pub mod SafeLemmas
 mod RequestLemmas
 mod RuleLemmas
-mod ShapeFaultLemmas
+pub mod ShapeFaultLemmas
+mod SomeBatchLemmas
 mod TextLemmas
 mod TypeLemmas
 mod WatchLemmas

@@ -60,6 +60,15 @@ pub fn one_batch()
     odb_names::laws::one_reading();
 }
 
+/// A value without a fault of shape is a batch: its elements are requests (OData JSON Format 4.01, section
+/// 19.1).
+pub fn some_batch()
+    ensures { (value : Data) → IsWellShaped value
+        → (requests : List Record) × IsBatchOf value requests }
+{
+    odb_names::laws::one_reading();
+}
+
 /// A value has one first fault as a document of outcomes at most, and none if it is a good one; and it
 /// is one list of outcomes at most: their ids, and their statuses, headers and bodies by value. Its
 /// bodies nest at most 124 deep if it nests at most 127 deep, as [`every_value`] says of what is read.

@@ -28,3 +28,5 @@ mod EachLineLemmas
 mod EachLineLawLemmas
 mod FullPlanLemmas
 mod AllFaultLemmas
+mod FirstFaultLemmas
+mod VerdictLemmas

@@ -1,5 +1,6 @@
 -- What public clauses cite: it has to be believed.
 pub mod Cascade
+pub mod FirstFault
 pub mod Inputs
 pub mod Engines
 pub mod Forms

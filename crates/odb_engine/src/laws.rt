@@ -4,7 +4,7 @@
 //! The laws are clauses of functions that change nothing. They speak of the very relations that the
 //! clauses `ends` of the engines cite.
 
-ghost use Rattle.std.specs.Prelude.{◌≡◌, ◌↔◌, ◌<◌, ℕ, Bool, true, false, List, Some};
+ghost use Rattle.std.specs.Prelude.{◌≡◌, ◌↔◌, ◌<◌, ℕ, Bool, true, false, List, [], Some, IfSome, slice_get};
 ghost use Rattle.odb_sched.specs.run.Choosing.{AllowsOrder};
 ghost use Rattle.odb_sched.specs.declared.order.Order.{Order};
 ghost use Rattle.odb_sched.specs.declared.event.Event.{Event};
@@ -12,7 +12,10 @@ ghost use Rattle.odb_sched.specs.declared.policy.Policy.{Policy};
 ghost use Rattle.odb_sched.specs.run.Runs.{event_position};
 ghost use Rattle.odb_sched.specs.run.State.{after, size};
 ghost use Rattle.odb_sched.specs.run.Steps.{may_come};
-ghost use Rattle.odb_engine.specs.Cascade.{Accepts, Answers, IsOne};
+ghost use Rattle.odb_doc.specs.Refusals.{Printed};
+ghost use Rattle.odb_engine.specs.AllFaults.{AreFaultsIn};
+ghost use Rattle.odb_engine.specs.Cascade.{Accepts, Answers, IsLeast, IsOne};
+ghost use Rattle.odb_engine.specs.FirstFault.{IsFirstFault, PrintsFirst, Rule};
 ghost use Rattle.odb_engine.specs.declared.ending.Ended.{Ended};
 ghost use Rattle.odb_engine.specs.declared.form.Form.{Form};
 ghost use Rattle.odb_engine.specs.Contents.Given.{ByReader, InMemory};
@@ -25,6 +28,25 @@ ghost use Rattle.odb_engine.specs.ReadAgain.{IsReadAgain};
 ghost use Rattle.odb_engine.specs.Replayed.{RunsAgain};
 ghost use Rattle.odb_engine.specs.Replays.{Replays};
 ghost use Rattle.odb_engine.specs.Runs.{Runs};
+
+/// The first fault of a batch document, in one order over its rules F01 to F46: by phase, then by position, then by
+/// number (OData JSON Format 4.01, sections 19.1 and 19.2).
+///
+/// It is what is printed of a refused document (`first`). A document is accepted if and only if it has no first
+/// fault (`exists`). Of the list of all faults the first is this one (`head`), and the list is empty if and only if the
+/// document is accepted (`empty`). The relations are those of [`crate::check_batch`] and [`crate::faults_in`].
+pub fn every_verdict()
+    ensures first { (bytes : List ℕ) (refusal : Printed) → IsLeast bytes refusal ↔ PrintsFirst bytes refusal }
+    ensures exists { (bytes : List ℕ) → Accepts bytes (λ _. Unit {0})
+        ↔ ((rule : Rule) (at : ℕ) → ¬ IsFirstFault bytes rule at) }
+    ensures head { (bytes : List ℕ) (refusals : List Printed) → AreFaultsIn bytes refusals
+        → IfSome (slice_get refusals 0) (IsLeast bytes) }
+    ensures empty { (bytes : List ℕ) (refusals : List Printed) → AreFaultsIn bytes refusals
+        → (refusals ≡ []) ↔ Accepts bytes (λ _. Unit {0}) }
+{
+    odb_doc::laws::one_batch();
+    odb_doc::laws::some_batch();
+}
 
 /// A reader that has `left` to give gives one document.
 pub fn one_document()

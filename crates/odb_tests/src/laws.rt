@@ -12,6 +12,7 @@ mod replies;
 mod rests;
 mod runs;
 mod texts;
+mod verdicts;
 
 /// What two calls found, or `None` of one that ran out of memory.
 pub type Two<X> = (Option<X>, Option<X>);

@@ -28,8 +28,12 @@ ghost use Rattle.odb_engine.specs.Cascade.{HasValue};
 ghost use Rattle.odb_tests.specs.Readings.{IsReading, IsSame};
 
 use crate::laws::Two;
-use odb_doc::laws::{every_value, one_batch, one_fault, one_history, one_record, one_text};
-use odb_doc::{Batch, DocFault, EventFault, Events, OutcomeFault, Outcomes, is_whole, parse};
+use odb_doc::laws::{
+    every_value, one_batch, one_fault, one_history, one_record, one_text, some_batch,
+};
+use odb_doc::{
+    Batch, DocFault, EventFault, Events, OutcomeFault, Outcomes, is_whole, parse, shape_faults,
+};
 use odb_names::laws::one_reading;
 use odb_names::{Front, Method, front};
 use serde_json::Value;
@@ -104,6 +108,17 @@ fn batch_twice<'a>(alloc: Global, value: &'a Value) -> Two<Result<Batch<'a>, Doc
     one_batch();
     one_fault();
     (batch_of(alloc, value), batch_of(alloc, value))
+}
+
+/// Returns whether a value has no fault of shape. If it has none, it is a batch.
+fn is_batch(alloc: Global, value: &Value) -> bool
+    ensures { IsTrue result → (requests : List Record) × IsBatchOf (view value.now) requests }
+{
+    some_batch();
+    match shape_faults(alloc, value) {
+        Ok(faults) => faults.is_empty(),
+        Err(_) => false,
+    }
 }
 
 /// Reads a document of outcomes, unless it is not JSON or memory runs out.
@@ -265,6 +280,14 @@ fn is_plain_twice(alloc: Global, url: &str) -> bool {
     )
 }
 
+/// Whether the value of a document is a batch.
+fn is_batch_in(alloc: Global, bytes: &[u8]) -> bool {
+    match parse(alloc, bytes) {
+        Ok(value) => is_batch(alloc, &value),
+        Err(_) => false,
+    }
+}
+
 /// Whether a document is written so.
 fn is_written(alloc: Global, bytes: &[u8], text: &str) -> bool {
     match written(alloc, bytes) {
@@ -304,4 +327,10 @@ fn are_read_back(alloc: Global) -> bool {
 #[test]
 fn a_written_text_is_read_back(rt: HostRuntime) {
     assert!(rt; are_read_back(rt.alloc()));
+}
+
+#[test]
+fn a_value_without_a_fault_of_shape_is_a_batch(rt: HostRuntime) {
+    let alloc = rt.alloc();
+    assert!(rt; is_batch_in(alloc, BATCH) && !is_batch_in(alloc, b"{}"));
 }
