@@ -16,6 +16,7 @@ from support.pages import WITH_LINES
 from support.profiles import share
 
 LONG_BYTES = 16_777_216
+MANY = 100_000
 BATCH = b'{"requests":[{"id":"1","method":"get","url":"A"}]}'
 ACCEPTED = b"ok 1 requests 0 groups\n"
 TOO_LONG = b"fault F01 TooLong batch\n"
@@ -80,6 +81,10 @@ def test_line_as_long_as_a_document_may_be_and_longer(program, more):
     line, answer = BATCH.ljust(LONG_BYTES + more), TOO_LONG if more else ACCEPTED
     assert answered(program, "check", [], line + b"\n" + BATCH + b"\n")[0] == answer + ACCEPTED
     assert answered(program, "check", [], BATCH + b"\n" + line)[0] == ACCEPTED + answer
+
+
+def test_log_of_many_short_lines(program):
+    assert answered(program, "check", [], b'{"requests":[]}\n' * MANY) == (b"ok 0 requests 0 groups\n" * MANY, 0)
 
 
 def test_log_that_ends_in_each_of_its_bytes(program):

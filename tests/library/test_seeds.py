@@ -22,8 +22,9 @@ POLICY = (0, 10_000)
 LINES, STOP, STRICT = 0, 1, 1
 NOTHING_LEFT = '{"requests":[]}\n'  # of a batch whose requests have all succeeded
 
-# The commands, each with the options of its calls.
-OPTIONS = {"check": (), "plan": (), "canon": (), "match": (), "run": POLICY, "replay": (*POLICY, 0, 0)}
+# The commands, each with the options of its calls; a replay comes in each order.
+COMMANDS = [("check", ()), ("plan", ()), ("canon", ()), ("match", ()), ("run", POLICY)]
+COMMANDS += [("replay", (*POLICY, order, 0)) for order in range(3)]
 
 pytestmark = pytest.mark.slow
 
@@ -45,16 +46,25 @@ class Calls:
         assert text.decode() == wanted or name == "odb_run_open", name
         return spent
 
+    def seconds_of_requests(self):
+        """The processor time of the call for what is to be sent, which has to be done, and to give each request."""
+        begun = time.process_time()
+        status, _, found = self.library.call_requests(self.texts["batch"], ROOM, len(self.content.requests))
+        spent = time.process_time() - begun
+        assert (status, len(found)) == (self.library.DONE, len(self.content.requests))
+        return spent
+
     def timed(self, seed):
         """The processor time of each call with a seed, by its name."""
         self.library._SEED, spent, handle = seed, {}, self.library.Handle()
-        for command, options in OPTIONS.items():
+        for command, options in COMMANDS:
             documents = tuple(self.texts[kind] for kind in contents.KINDS[command])
-            spent[f"odb_{command}"] = self.seconds(f"odb_{command}", documents, options)
-            spent[f"odb_{command}_as"] = self.seconds(f"odb_{command}_as", documents, (*options, LINES))
+            for name, numbers in ((f"odb_{command}", options), (f"odb_{command}_as", (*options, LINES))):
+                spent[f"{name}{numbers}"] = self.seconds(name, documents, numbers)
         documents = tuple(self.texts[kind] for kind in contents.KINDS["match"])
         spent["odb_match_with"] = self.seconds("odb_match_with", documents, (STOP, STRICT, LINES))
         spent["odb_rest"] = self.seconds("odb_rest", documents, (STOP, LINES))
+        spent["odb_requests"] = self.seconds_of_requests()
         documents, place = (self.texts["batch"], self.texts["events"]), ctypes.byref(handle)
         spent["odb_run_open"] = self.seconds("odb_run_open", documents, (*POLICY, place))
         self.seconds("odb_run_response", (), (place,))

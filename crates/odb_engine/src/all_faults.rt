@@ -11,7 +11,6 @@ use crate::command::text_of;
 use crate::disposal::DropOrLeak;
 use crate::ending::Ended;
 use crate::form::Form;
-use crate::halt::Halt;
 use crate::input::value_in;
 use crate::setup::Setup;
 use crate::task::Task;
@@ -86,8 +85,7 @@ pub fn faults_in(alloc: Global, document: &[u8], setup: Setup) -> Result<Vec<Ref
 {
     let value = match value_in(alloc, document, Place::Batch) {
         Ok(value) => value,
-        Err(Halt::Refused(refusal)) => return only(alloc, refusal),
-        Err(_) => return Err(AllocError),
+        Err(halt) => return only(alloc, halt.refusal()?),
     };
     let value = DropOrLeak {
         value,
@@ -140,7 +138,9 @@ pub fn check_all_in_memory(
             ended: Ended::Done,
             text: text.into_bytes(),
         }),
-        Err(Halt::Refused(_)) => faults_answer(alloc, document, setup),
-        Err(_) => Err(AllocError),
+        Err(halt) => {
+            halt.refusal()?;
+            faults_answer(alloc, document, setup)
+        }
     }
 }

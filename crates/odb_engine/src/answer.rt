@@ -36,8 +36,7 @@ impl Answer {
     {
         let (ended, text) = match found {
             Ok(text) => (Ended::Done, text),
-            Err(Halt::Refused(refusal)) => (Ended::Refused, fault_text(alloc, form, refusal)?),
-            Err(_) => return Err(AllocError),
+            Err(halt) => (Ended::Refused, fault_text(alloc, form, halt.refusal()?)?),
         };
         Ok(Answer {
             ended,

@@ -33,6 +33,7 @@ pub trait Command {
     ghost use Rattle.odb_doc.specs.batch.Records.{Record};
     ghost use Rattle.odb_doc.specs.batch.Batches.{records};
     ghost use Rattle.odb_check.specs.Plans.{plan_records};
+    ghost use Rattle.odb_check.specs.Seeds.{IsSeeded};
     ghost use Rattle.odb_engine.specs.declared.ending.Ended.{Ended};
     ghost use Rattle.odb_engine.specs.declared.form.Form.{Form};
     ghost use Rattle.odb_engine.specs.declared.halt.Halt.TheVariants as halts;
@@ -43,8 +44,8 @@ pub trait Command {
     /// each form.
     ghost writes: { Self → Given → List Record → Form → Ended → List ℕ → Type 0 };
 
-    /// Returns what is written of a batch and its plan. A command over one document leaves the second source as
-    /// it is.
+    /// Returns what is written of a batch and its plan, which was made with the seed of the setup. A command over
+    /// one document leaves the second source as it is.
     fn text<S: Source>(
         &mut self,
         alloc: Global,
@@ -54,6 +55,7 @@ pub trait Command {
         setup: Setup,
     ) -> Result<String, Halt>
         requires batch { records batch.now ≡ plan_records plan.now }
+        requires seed { IsSeeded setup.seed.number plan.now }
         requires second { S.is_fresh second.old }
         ensures found { Found (writes self.old (S.given second.old) (plan_records plan.now)) setup.form
             result }

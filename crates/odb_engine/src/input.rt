@@ -24,6 +24,8 @@ const _: () = prove!(MAX_READ_BYTES == 16_777_217);
 
 const CHUNK_BYTES: usize = 8192;
 
+const _: () = prove!(CHUNK_BYTES == 8192);
+
 /// The capacity for a document at first. The system provides memory of this size page by page as it
 /// is written, and grows it without a copy.
 const ROOM_BYTES: usize = 262_144;

@@ -1,8 +1,9 @@
 //! Live runs: a run that its caller drives, with what its response needs of the batch.
 
-ghost use Rattle.std.specs.Prelude.{◌≡◌, ◌≢◌, ◌<◌, ◌↔◌, true, All, None, Some, replicate, Err, IfOk, IfErr, OnOk, OnErr, IsOk, IsTrue, string_bytes};
+ghost use Rattle.std.specs.Prelude.{◌≡◌, ◌≢◌, ◌<◌, ◌↔◌, true, false, All, None, Some, replicate, Err, IfOk, IfErr, OnOk, OnErr, IsOk, IsTrue, string_bytes};
 ghost use Rattle.serde_json.specs.Read.{read};
 ghost use Rattle.odb_check.specs.Plans.{plan_records};
+ghost use Rattle.odb_check.specs.Seeds.{IsSeeded};
 ghost use Rattle.odb_reply.specs.BodyTexts.{value_with};
 ghost use Rattle.odb_reply.specs.Readable.{HasShallowValues};
 ghost use Rattle.odb_sched.specs.run.Answers.{answer, undone};
@@ -18,6 +19,7 @@ ghost use Rattle.odb_engine.specs.Live as live;
 mod units;
 
 use crate::command::plan_of;
+use crate::form::Form;
 use crate::halt::Halt;
 use crate::input::value_in;
 use crate::labels::OwnedLabels;
@@ -91,8 +93,15 @@ fn no_texts(alloc: Global, count: u32) -> Result<Vec<Option<JsonText>>, AllocErr
     Ok(texts)
 }
 
-/// Returns the live run of a plan after the recorded events in a document.
-fn open_on(alloc: Global, plan: &Plan<'_>, events: &[u8], policy: Policy) -> Result<LiveRun, Halt>
+/// Returns the live run of a plan, which was made with this seed, after the recorded events in a document.
+fn open_on(
+    alloc: Global,
+    plan: &Plan<'_>,
+    _seed: Seed,
+    events: &[u8],
+    policy: Policy,
+) -> Result<LiveRun, Halt>
+    requires { IsSeeded _seed.number plan.now }
     ensures run { IfOk result (live.IsOpened policy (plan_records plan.now) events.now) }
     ensures least { IfErr result
         (Halted (live.IsLeastAfter policy (plan_records plan.now) events.now)) }
@@ -133,12 +142,9 @@ pub fn open_run(
 {
     let value = value_in(alloc, batch, Place::Batch)?;
     let read = Batch::read(alloc, &value)?;
-    let setup = Setup {
-        seed,
-        ..Setup::plain()
-    };
+    let setup = Setup::new(Form::Lines, seed);
     let plan = plan_of(alloc, &read, setup)?;
-    open_on(alloc, &plan.value, events, policy)
+    open_on(alloc, &plan.value, seed, events, policy)
 }
 
 impl LiveRun {
@@ -241,10 +247,12 @@ impl LiveRun {
     ///
     /// # Errors
     ///
-    /// `Refused` by F66 if the run is not finished, or by F50 if it answers a request by a body that is a
-    /// value with a number that is not whole; `OutOfMemory` if an allocation fails. Never `Read`.
+    /// `Refused` by F66 if the run is not finished, whatever memory there is; or by F50 if it answers a request by a
+    /// body that is a value with a number that is not whole; else `OutOfMemory` if an allocation fails. Never `Read`.
     pub fn response(&self, alloc: Global) -> Result<String, Halt>
         ensures found { (form : Form) → Found (live.Shows self.now) form result }
+        ensures unfinished { IfErr result (λ halt. is_finished self.now.run ≡ false
+            → HaltsBy (live.end_row self.now.run) halt) }
         ensures read { result ≢ Err halts.Read }
         ensures reads_back { IfOk result (λ text. HasShallowValues self.now.texts self.now.run
             → read (string_bytes text)

@@ -7,6 +7,7 @@ ghost use Rattle.odb_engine.specs.Requests.{Sends};
 ghost use Rattle.odb_engine.specs.declared.halt.Halt.TheVariants as halts;
 
 use crate::command::plan_of;
+use crate::form::Form;
 use crate::halt::Halt;
 use crate::input::value_in;
 use crate::setup::Setup;
@@ -34,10 +35,7 @@ pub fn requests_in(alloc: Global, batch: &[u8], seed: Seed) -> Result<Requests, 
 {
     let value = value_in(alloc, batch, Place::Batch)?;
     let read = Batch::read(alloc, &value)?;
-    let setup = Setup {
-        seed,
-        ..Setup::plain()
-    };
+    let setup = Setup::new(Form::Lines, seed);
     let plan = plan_of(alloc, &read, setup)?;
     let found = requests_of(alloc, batch, &plan.value)?;
     Ok(found)

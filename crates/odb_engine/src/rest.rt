@@ -4,6 +4,7 @@ ghost use Rattle.std.specs.Prelude.{◌≡◌, ◌≢◌, ◌↔◌, ◌⊎◌, 
 ghost use Rattle.serde_json.specs.Data.{Data};
 ghost use Rattle.serde_json.specs.View.{view};
 ghost use Rattle.odb_check.specs.Plans.{plan_records};
+ghost use Rattle.odb_check.specs.Seeds.{IsSeeded};
 ghost use Rattle.odb_send.specs.Parts.{IsBatchIn};
 ghost use Rattle.odb_engine.specs.declared.form.Form.{Form};
 ghost use Rattle.odb_engine.specs.declared.halt.Halt.TheVariants as halts;
@@ -17,6 +18,7 @@ ghost use Rattle.odb_engine.specs.Rests.{Rests, RestsBy, RestsIn, RestsValue};
 use crate::command::plan_of;
 use crate::disposal::DropOrLeak;
 use crate::ending::{Ended, EngineFault, end};
+use crate::form::Form;
 use crate::halt::Halt;
 use crate::input::{read_document, value_in};
 use crate::match_responses::decided;
@@ -33,7 +35,7 @@ use std::alloc::Global;
 use std::io::{Read, Write};
 
 /// Returns the text of the rest of the batch in a document by the responses in a value, by whether an error stops
-/// the service. No newline ends it.
+/// the service. The plan was made with the seed of the setup. No newline ends it.
 ///
 /// # Errors
 ///
@@ -47,7 +49,8 @@ pub fn rest_written(
     mode: Mode,
     setup: Setup,
 ) -> Result<String, Halt>
-    requires { (d : Data) × IsBatchIn document.now d (plan_records plan.now) }
+    requires document { (d : Data) × IsBatchIn document.now d (plan_records plan.now) }
+    requires seed { IsSeeded setup.seed.number plan.now }
     ensures found { (form : Form) → Found (RestsValue mode document.now (plan_records plan.now) (view value))
         form result }
     ensures read { result ≢ Err halts.Read }
@@ -123,10 +126,7 @@ pub fn rest_in(
     ensures read { result ≢ Err halts.Read }
 {
     let mut responses = responses;
-    let setup = Setup {
-        seed,
-        ..Setup::plain()
-    };
+    let setup = Setup::new(Form::Lines, seed);
     rest_by(alloc, batch, &mut responses, mode, setup)
 }
 

@@ -1,9 +1,10 @@
 //! The command `run`: the response of a run with recorded events.
 
-ghost use Rattle.std.specs.Prelude.{◌≡◌, ◌≢◌, ◌⊎◌, false, Err, IsTrue, IfErr, IfOk};
+ghost use Rattle.std.specs.Prelude.{◌≡◌, ◌≢◌, ◌⊎◌, true, false, Some, Err, IsTrue, IfErr, IfOk, OnErr, OnOk};
 ghost use Rattle.serde_json.specs.View.{view};
 ghost use Rattle.odb_doc.specs.recorded.EventLists.{entries};
 ghost use Rattle.odb_check.specs.Plans.{plan_records};
+ghost use Rattle.odb_sched.specs.run.Steps.{is_finished};
 ghost use Rattle.odb_reply.specs.NotWhole.{HasWholeBodies};
 ghost use Rattle.odb_engine.specs.declared.ending.Ended.TheVariants as ends;
 ghost use Rattle.odb_engine.specs.declared.form.Form.{Form};
@@ -14,7 +15,7 @@ ghost use Rattle.odb_engine.specs.Engines.{Ends};
 ghost use Rattle.odb_engine.specs.Inputs.{AskedFor, IsFresh, ReadsFew, SomeDocument};
 ghost use Rattle.odb_text.specs.Lines.{response_line};
 ghost use Rattle.odb_engine.specs.Runs as runs;
-ghost use Rattle.odb_engine.specs.Halts.{Found, Halted};
+ghost use Rattle.odb_engine.specs.Halts.{Found, Halted, HaltsBy};
 
 use crate::command::answer_task;
 use crate::disposal::{Disposal, DropOrLeak};
@@ -27,7 +28,7 @@ use odb_check::Plan;
 use odb_doc::{Events, Place, Refusal};
 use odb_io::{Input, Output};
 use odb_reply::laws::every_response;
-use odb_sched::{Done, Policy, resolve, run};
+use odb_sched::{Done, Policy, Scheduler, resolve, run};
 use serde_json::Value;
 use std::alloc::Global;
 use std::io::{Read, Write};
@@ -53,6 +54,27 @@ fn events_of(alloc: Global, value: Value, disposal: Disposal) -> Result<Events, 
     Ok(events)
 }
 
+/// Returns a run that is finished.
+///
+/// # Errors
+///
+/// `Refused` by F66 if and only if it is not.
+fn finished<'p>(scheduler: Scheduler<'p>, disposal: Disposal) -> Result<Done<'p>, Halt>
+    ensures done { IfOk result (λ done. done ≡ scheduler.entry) }
+    ensures finished { OnOk result (is_finished scheduler.entry ≡ true) }
+    ensures least { IfErr result (HaltsBy (Some runs.unfinished)) }
+    ensures unfinished { OnErr result (is_finished scheduler.entry ≡ false) }
+{
+    if !scheduler.is_finished() {
+        drop(DropOrLeak {
+            value: scheduler,
+            disposal,
+        });
+        return Err(UNFINISHED);
+    }
+    Ok(scheduler.close())
+}
+
 /// Returns the finished run of a plan by recorded events.
 fn done_of<'a: 'p, 'p>(
     alloc: Global,
@@ -72,14 +94,7 @@ fn done_of<'a: 'p, 'p>(
     let _count = events.len();
     let resolved = resolve(alloc, plan, events)?;
     let scheduler = run(alloc, plan, policy, resolved)?;
-    if !scheduler.is_finished() {
-        drop(DropOrLeak {
-            value: scheduler,
-            disposal,
-        });
-        return Err(UNFINISHED);
-    }
-    let done = scheduler.close();
+    let done = finished(scheduler, disposal)?;
     every_response(&done);
     Ok(done)
 }

@@ -24,6 +24,19 @@ pub struct Setup {
 }
 
 impl Setup {
+    /// Returns the setup with this form and this seed, by which the documents are dropped.
+    pub fn new(form: Form, seed: Seed) -> Setup
+        ensures form { result.form ≡ form }
+        ensures seed { result.seed ≡ seed }
+        ensures disposal { result.disposal ≡ Drop }
+    {
+        Setup {
+            form,
+            seed,
+            disposal: Disposal::Drop,
+        }
+    }
+
     /// Returns the setup of an engine that takes none: lines of words, no seed, and the documents are
     /// dropped.
     pub fn plain() -> Setup
@@ -31,10 +44,6 @@ impl Setup {
         ensures seed { result.seed.number ≡ None }
         ensures disposal { result.disposal ≡ Drop }
     {
-        Setup {
-            form: Form::Lines,
-            seed: Seed::none(),
-            disposal: Disposal::Drop,
-        }
+        Setup::new(Form::Lines, Seed::none())
     }
 }

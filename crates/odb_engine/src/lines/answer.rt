@@ -1,6 +1,6 @@
 //! Answers the lines of an input, one after the other.
 
-ghost use Rattle.std.specs.Prelude.{◌≡◌, ◌≢◌, ◌↔◌, ◌+◌, ◌^◌, ◌<◌, ◌≤◌, [], false, length, Err, IsTrue, Ok, OnOk};
+ghost use Rattle.std.specs.Prelude.{◌≡◌, ◌≢◌, ◌↔◌, ◌+◌, ◌^◌, ◌<◌, ◌≤◌, [], true, false, length, Err, IsTrue, Ok, OnOk};
 ghost use Rattle.std.specs.Io.KnownBytes.{IsAtEnd, Keeps};
 ghost use Rattle.odb_engine.specs.declared.ending.EngineFault.TheVariants as faults;
 ghost use Rattle.odb_engine.specs.Inputs.{most_read};
@@ -42,6 +42,7 @@ fn look<R: Read, W: Write>(
     ensures left { Keeps (left R.remaining input.old) (left R.remaining input.new) }
     ensures written { Keeps (W.contents output.old.writer) (W.contents output.new.writer) }
     ensures end { result ≡ Ok false → IsAtEnd (left R.remaining input.old) }
+    ensures more { result ≡ Ok true → ahead input.new ≢ [] }
     ensures fills { OnOk result (input.new.fills ≡ input.old.fills + 1) }
     ensures bound { OnOk result (input.new.fills < 2 ^ 64) }
 {

@@ -11,6 +11,8 @@ use std::marker::Model;
 
 const BUFFER_BYTES: usize = 65_536;
 
+const _: () = prove!(BUFFER_BYTES == 65_536);
+
 /// A reader of lines: it reads 65,536 bytes ahead at most, and remembers whether a read failed.
 ///
 /// An interrupted read is a failed one, and so is a read after 18,446,744,073,709,551,615 lines and
@@ -41,6 +43,7 @@ impl<R: Read> LineInput<R> {
         R: Drop,
         ensures works { IfOk result (λ input. input.failed ≡ false) }
         ensures unread { IfOk result (λ input. left R.remaining input ≡ R.remaining reader) }
+        ensures unfilled { IfOk result (λ input. input.fills ≡ 0) }
     {
         match BufReader::with_capacity(alloc, BUFFER_BYTES, reader) {
             Ok(reader) => Ok(LineInput {
@@ -78,6 +81,7 @@ impl<R: Read> LineInput<R> {
         ensures kept { Keeps (left R.remaining self.old) (left R.remaining self.new) }
         ensures end { OnOk result (ahead self.new ≡ [] → IsAtEnd (left R.remaining self.old)) }
         ensures fills { OnOk result (self.new.fills ≡ self.old.fills + 1) }
+        ensures counted { self.old.fills + 1 < 2 ^ 64 → self.new.fills ≡ self.old.fills + 1 }
         ensures bound { self.new.fills < 2 ^ 64 }
     {
         if self.fills == u64::MAX {

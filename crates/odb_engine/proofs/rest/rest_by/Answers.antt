@@ -44,8 +44,8 @@ returns-in_err-responses-clause-found g c =
     (Refuses-weaker (P batch) (Answers P bytes) form _ (λ ended text writes. accepted-answers P bytes _ batch form ended text c.in_ok-value_in.ensures.value c.in_ok-read.ensures.good c.in_ok-read.ensures.records c.in_ok-plan.ensures.good writes)
     (given-halt given Responses (RestsValue c.args.mode bytes batch) form _ c.in_err-responses.ensures.value))
 
-pub rest_written-requires : goal.rest_written-requires
-rest_written-requires g c = (_, in-document c.args.batch.now _ (records c.in_ok-read.field-0) (plan_records c.in_ok-plan.plan.value) c.in_ok-value_in.ensures.value c.in_ok-read.ensures.records c.in_ok-plan.ensures.plan)
+pub rest_written-requires-clause-document : goal.rest_written-requires-clause-document
+rest_written-requires-clause-document g c = (_, in-document c.args.batch.now _ (records c.in_ok-read.field-0) (plan_records c.in_ok-plan.plan.value) c.in_ok-value_in.ensures.value c.in_ok-read.ensures.records c.in_ok-plan.ensures.plan)
 
 pub returns-clause-found : goal.returns-clause-found
 returns-clause-found g c =

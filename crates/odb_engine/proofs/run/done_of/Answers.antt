@@ -15,7 +15,7 @@ use Rattle.odb_engine.specs.Halts.{Halted}
 use Rattle.odb_text.specs.Lines.{response_line}
 use Rattle.odb_engine.specs.Runs.{IsLeastOfRun, end_of}
 use Rattle.odb_engine.specs.Runs.IsLeastOfRun.{OfEnd}
-use Rattle.odb_engine.proofs.EngineLemmas.{at-exit, halted-by}
+use Rattle.odb_engine.proofs.EngineLemmas.{at-exit, exit-error, halted-by}
 use Rattle.odb_engine.proofs.RunLemmas.{unknown-event, barred-event, readable-answers, whole-bodies}
 use Rattle.odb_sched.proofs.RunLemmas.{requests-after_all}
 use Rattle.odb_engine.proofs.run.done_of.Goals as goal
@@ -40,10 +40,12 @@ returns-in_err-scheduler-clause-least c =
     at-exit (λ r. IfErr r (Halted least)) _ _ c.from_residual-in_err-scheduler.ensures.1
     (halted-by least _ (barred-event policy batch named c.in_ok-resolved.resolved.items cause c.in_ok-resolved.ensures.events c.in_err-scheduler.ensures.refused))
 
-pub returns-then-not-is_finished-clause-least : goal.returns-then-not-is_finished-clause-least
-returns-then-not-is_finished-clause-least c =
-    OfEnd c.in_ok-resolved.resolved.items c.in_ok-resolved.ensures.events c.in_ok-scheduler.ensures.run
-    (ap (λ (s : State). is_finished s) (sym c.in_ok-scheduler.ensures.state) ∙ sym c.if-not-is_finished.ensures.value) refl
+pub returns-in_err-done-clause-least : goal.returns-in_err-done-clause-least
+returns-in_err-done-clause-least c =
+    let least = IsLeastOfRun c.args.policy (plan_records c.args.plan.now) (entries c.args.events) in
+    let unfinished = ap (λ (s : State). is_finished s) (sym c.in_ok-scheduler.ensures.state) ∙ c.in_err-done.ensures.unfinished in
+    exit-error (λ r. IfErr r (Halted least)) _ _ c.from_residual-in_err-done.ensures.1
+    (halted-by least _ (λ refusal same. OfEnd c.in_ok-resolved.resolved.items c.in_ok-resolved.ensures.events c.in_ok-scheduler.ensures.run unfinished (cc same)) _ c.in_err-done.ensures.least)
 
 pub returns-clause-result : goal.returns-clause-result
 returns-clause-result c =
@@ -51,14 +53,14 @@ returns-clause-result c =
     let batch = plan_records c.args.plan.now in
     let events = c.in_ok-resolved.resolved.items in
     let first = first_state batch policy in
-    let done = c.close-done.result in
-    let same : done ≡ end_of policy batch events = c.close-done.ensures.state ∙ c.in_ok-scheduler.ensures.state in
+    let done = c.in_ok-done.done in
+    let same : done ≡ end_of policy batch events = c.in_ok-done.ensures.done ∙ c.in_ok-scheduler.ensures.state in
     record {
       ends = refl;
       events = events;
       resolved = c.in_ok-resolved.ensures.events;
       run = c.in_ok-scheduler.ensures.run;
-      finished = ap (λ (s : State). is_finished s) (sym c.in_ok-scheduler.ensures.state) ∙ sym c.if-not-is_finished.ensures.value;
+      finished = ap (λ (s : State). is_finished s) (sym c.in_ok-scheduler.ensures.state) ∙ c.in_ok-done.ensures.finished;
       result = ap response_line same;
       dependencies_first = c.in_ok-scheduler.ensures.dependencies_first;
       one_per_id = subst (λ rs. HasOnePerId rs (response_value (end_of policy batch events))) (requests-after_all first events)
@@ -79,7 +81,7 @@ returns-clause-whole c =
     let policy = c.args.policy in
     let batch = plan_records c.args.plan.now in
     let events = c.in_ok-resolved.resolved.items in
-    let same : c.close-done.result ≡ end_of policy batch events = c.close-done.ensures.state ∙ c.in_ok-scheduler.ensures.state in
+    let same : c.in_ok-done.done ≡ end_of policy batch events = c.in_ok-done.ensures.done ∙ c.in_ok-scheduler.ensures.state in
     subst (λ (s : State). HasWholeBodies s) (sym same)
     (whole-bodies policy batch (entries c.args.events) events c.in_ok-resolved.ensures.events c.len-count.ensures.well_formed)
 
