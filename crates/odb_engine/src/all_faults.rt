@@ -4,10 +4,11 @@ ghost use Rattle.std.specs.Prelude.{◌≡◌, ◌∷◌, [], IfOk, map, string_
 ghost use Rattle.std.specs.List.{filter_map};
 ghost use Rattle.serde_json.specs.View.{view};
 ghost use Rattle.odb_doc.specs.Refusals.{printed};
-ghost use Rattle.odb_engine.specs.AllFaults.{AreFaultsIn, AreFaultsOf, ChecksAll, PrintsFaults, faults_text};
+ghost use Rattle.odb_engine.specs.declared.ending.Ended.TheVariants as ends;
+ghost use Rattle.odb_engine.specs.AllFaults.{AreFaultsIn, AreFaultsOf, ChecksAll, faults_text};
 
 use crate::answer::Answer;
-use crate::command::text_of;
+use crate::command::text_in;
 use crate::disposal::DropOrLeak;
 use crate::ending::Ended;
 use crate::form::Form;
@@ -104,12 +105,12 @@ fn faults_text(alloc: Global, form: Form, refusals: &[Refusal]) -> Result<String
     }
 }
 
-/// Returns all faults of a batch document in memory, in the form of the setup.
-fn faults_answer(alloc: Global, document: &[u8], setup: Setup) -> Result<Answer, AllocError>
-    ensures { IfOk result (λ answer. PrintsFaults document.now setup.form answer.ended answer.text.items) }
+/// Returns the answer that prints these faults.
+fn faults_answer(alloc: Global, form: Form, refusals: &[Refusal]) -> Result<Answer, AllocError>
+    ensures { IfOk result (λ answer. (answer.ended ≡ ends.Refused)
+        × (answer.text.items ≡ faults_text form (map printed refusals.now))) }
 {
-    let faults = faults_in(alloc, document, setup)?;
-    let text = faults_text(alloc, setup.form, &faults)?;
+    let text = faults_text(alloc, form, refusals)?;
     Ok(Answer {
         ended: Ended::Refused,
         text: text.into_bytes(),
@@ -119,7 +120,8 @@ fn faults_answer(alloc: Global, document: &[u8], setup: Setup) -> Result<Answer,
 /// Checks a batch document in memory: returns what [`Task::Check`] writes if it is accepted, and else all its
 /// faults, as [`faults_in`] lists them, in the form of the setup.
 ///
-/// An accepted document costs no more than the task does. One with a fault is read twice.
+/// An accepted document costs no more than the task does. One with a fault is parsed once, and its requests are
+/// read twice.
 ///
 /// # Errors
 ///
@@ -131,16 +133,29 @@ pub fn check_all_in_memory(
 ) -> Result<Answer, AllocError>
     ensures { IfOk result (λ answer. ChecksAll document.now setup.form answer.ended answer.text.items) }
 {
-    let (mut first, mut none): (_, &[u8]) = (document, &[]);
-    let mut task = Task::Check;
-    match text_of(alloc, &mut first, &mut none, &mut task, setup) {
+    let value = match value_in(alloc, document, Place::Batch) {
+        Ok(value) => value,
+        Err(Halt::Refused(refusal)) => return faults_answer(
+            alloc,
+            setup.form,
+            &only(alloc, refusal)?,
+        ),
+        Err(_) => return Err(AllocError),
+    };
+    let value = DropOrLeak {
+        value,
+        disposal: setup.disposal,
+    };
+    let (mut none, mut check): (&[u8], _) = (&[], Task::Check);
+    match text_in(alloc, &value.value, &mut none, &mut check, setup) {
         Ok(text) => Ok(Answer {
             ended: Ended::Done,
             text: text.into_bytes(),
         }),
-        Err(halt) => {
-            halt.refusal()?;
-            faults_answer(alloc, document, setup)
+        Err(Halt::Refused(_)) => {
+            let faults = faults_of(alloc, &value.value, setup)?;
+            faults_answer(alloc, setup.form, &faults)
         }
+        Err(_) => Err(AllocError),
     }
 }

@@ -88,8 +88,8 @@ pub fn plan_of<'a: 'b, 'b>(
     })
 }
 
-/// Returns what a command writes of the batch in a value.
-fn text_in<S: Source, C: Command>(
+/// Returns what a command writes of the batch in a value. The second source is read only if the check accepts it.
+pub(crate) fn text_in<S: Source, C: Command>(
     alloc: Global,
     value: &Value,
     second: &mut S,
