@@ -24,8 +24,7 @@ use Rattle.odb_engine.specs.declared.form.Form.TheVariants.{Lines}
 use Rattle.odb_engine.specs.declared.live.LiveRun.{LiveRun}
 use Rattle.odb_engine.specs.Labels.{position_of}
 use Rattle.odb_engine.specs.Live.{Opens, IsLeastOfOpening, Shows, with_run, with_text}
-use Rattle.odb_ffi.specs.Positions.{Are, GivesPositions}
-use Rattle.odb_ffi.specs.Returns.{IsOutOfMemory, Returns}
+use Rattle.odb_ffi.specs.Returns.{Fills, IsOutOfMemory, Returns}
 
 -- What is returned if a live run is to be opened, and what is in its place then. Where it is not opened, the text is the
 -- line of the least fault.
@@ -36,7 +35,7 @@ pub data Opening (policy : Policy) (batch events : List ℕ) (is : Option LiveRu
 -- What a call returns that gives the undone positions of a run, from the last to the first: it gives them only of a finished
 -- run. Otherwise their number is 0, and the buffer is as it was.
 pub data GivesUndone (run : State) (status count : ℕ) (old new : List ℕ) : Type 0 where
-  Undone : is_finished run ≡ true → GivesPositions (Are (undone run)) status count old new → GivesUndone run status count old new
+  Undone : is_finished run ≡ true → Fills (undone run) 0 status count old new → GivesUndone run status count old new
   Unfinished : is_finished run ≡ false → status ≡ 1 → count ≡ 0 → new ≡ old → GivesUndone run status count old new
   OutOfMemory : is_finished run ≡ true → IsOutOfMemory status count old new → GivesUndone run status count old new
 

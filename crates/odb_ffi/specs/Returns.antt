@@ -13,33 +13,15 @@ abbrev pub status_of : Ended → ℕ
 status_of Done = 0
 status_of Refused = 1
 
--- this text, at this end
-abbrev pub Is : Ended → List ℕ → Writes
-Is ended text ended₁ text₁ = (ended₁ ≡ ended) × (text₁ ≡ text)
-
 -- what a task writes of the documents in these bytes, in a form; the second is one only if the task takes one
 abbrev pub Does : Task → Form → List ℕ → List ℕ → Writes
 Does task form batch second = Answers (OfTask task (InMemory second)) batch form
 
--- The whole text is at the start of the buffer, and its length is returned; the rest of the buffer is as it was.
-pub record IsWhole (P : Writes) (status text_length : ℕ) (old new : List ℕ) : Type 0 where
-  pub ended : Ended
-  pub text : List ℕ
-  pub so : P ended text
-  pub is : status ≡ status_of ended
-  pub counts : text_length ≡ length text
-  pub fits : length text ≤ length old
-  pub begins : new ≡ text ++ drop (length text) old
-
--- The text is longer than the buffer, and its length is returned; the buffer is as it was.
-pub record IsTooLong (P : Writes) (status text_length : ℕ) (old new : List ℕ) : Type 0 where
-  pub ended : Ended
-  pub text : List ℕ
-  pub so : P ended text
-  pub is : status ≡ 5
-  pub counts : text_length ≡ length text
-  pub longer : length old < length text
-  pub same : new ≡ old
+-- The items are at the start of the buffer, and the rest of it is as it was; or there is no room for them, and all of it is as it
+-- was. How many there are is returned in both cases.
+pub data Fills (items : List ℕ) (done status count : ℕ) (old new : List ℕ) : Type 0 where
+  Whole : length items ≤ length old → status ≡ done → count ≡ length items → new ≡ items ++ drop (length items) old → Fills items done status count old new
+  TooLong : length old < length items → status ≡ 5 → count ≡ length items → new ≡ old → Fills items done status count old new
 
 -- an allocation failed, and nothing is written
 pub record IsOutOfMemory (status text_length : ℕ) (old new : List ℕ) : Type 0 where
@@ -55,8 +37,7 @@ pub record IsWrongOption (status text_length : ℕ) (old new : List ℕ) : Type 
 
 -- what a call returns
 pub data Returns (P : Writes) (status text_length : ℕ) (old new : List ℕ) : Type 0 where
-  Whole : IsWhole P status text_length old new → Returns P status text_length old new
-  TooLong : IsTooLong P status text_length old new → Returns P status text_length old new
+  Given : (ended : Ended) (text : List ℕ) → P ended text → Fills text (status_of ended) status text_length old new → Returns P status text_length old new
   OutOfMemory : IsOutOfMemory status text_length old new → Returns P status text_length old new
 
 -- what a call with options returns: what it does by the options that its numbers name, or that they name none

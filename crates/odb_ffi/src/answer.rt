@@ -2,7 +2,7 @@
 
 ghost use Rattle.std.specs.Prelude.{◌≡◌, IfOk, OnErr};
 ghost use Rattle.odb_ffi.specs.Options as options;
-ghost use Rattle.odb_ffi.specs.Returns.{Does, Is, IsOutOfMemory, IsWrongOption, Returns, ReturnsBy};
+ghost use Rattle.odb_ffi.specs.Returns.{Does, Fills, IsOutOfMemory, IsWrongOption, Returns, ReturnsBy, status_of};
 
 use crate::options::{form_of, seed_of};
 use crate::status::{OUT_OF_MEMORY, SMALL_BUFFER, WRONG_OPTION, of_end};
@@ -12,7 +12,7 @@ use std::alloc::{AllocError, Global};
 /// Copies the text of an answer to the buffer if it fits, sets its length, and returns the status;
 /// that of out of memory if there is no answer.
 pub fn give(answer: Result<Answer, AllocError>, buffer: &mut [u8], text_length: &mut usize) -> u32
-    ensures ok { IfOk answer (λ answer. Returns (Is answer.ended answer.text.items)
+    ensures ok { IfOk answer (λ answer. Fills answer.text.items (status_of answer.ended)
         result text_length.new buffer.old buffer.new) }
     ensures err { OnErr answer (IsOutOfMemory result text_length.new buffer.old buffer.new) }
 {

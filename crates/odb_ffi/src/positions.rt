@@ -1,7 +1,7 @@
 //! How positions reach the buffer of the caller.
 
 ghost use Rattle.std.specs.Prelude.{◌≡◌, ◌≤◌, ◌-◌, ◌++◌, length, drop};
-ghost use Rattle.odb_ffi.specs.Positions.{Are, GivesPositions};
+ghost use Rattle.odb_ffi.specs.Returns.{Fills};
 ghost use Rattle.odb_ffi.specs.Units.{GivesSpan, HasNumbers};
 
 use crate::status::{DONE, SMALL_BUFFER};
@@ -16,7 +16,7 @@ fn copy_to(buffer: &mut [u32], numbers: &[u32])
 
 /// Copies the positions to the buffer if they fit, sets how many there are, and returns the status.
 pub fn give_positions(found: &[u32], buffer: &mut [u32], count: &mut usize) -> u32
-    ensures { GivesPositions (Are found.now) result count.new buffer.old buffer.new }
+    ensures { Fills found.now 0 result count.new buffer.old buffer.new }
 {
     *count = found.len();
     if found.len() > buffer.len() {
