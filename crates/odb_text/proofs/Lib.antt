@@ -9,3 +9,4 @@ mod SamePlanLemmas
 mod PlanTextLemmas
 mod QuotedLemmas
 mod ArrowLemmas
+mod PlaceLemmas
