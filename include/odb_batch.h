@@ -59,8 +59,8 @@ unsigned char __stdcall SystemFunction036(void *buffer, unsigned long size);
 /* What a call returns. */
 enum {
     ODB_DONE = 0,          /* the text is the result */
-    ODB_REFUSED = 1,       /* a document is refused; the text is the line of its fault */
-    ODB_WRONG_OPTION = 2,  /* an option is none of its values, or no request has the position or id; no text */
+    ODB_REFUSED = 1,       /* a document is refused; the text is the line of its fault, or of each */
+    ODB_WRONG_OPTION = 2,  /* an option or a place is none of its values, or no request has the position or id; no text */
     ODB_OUT_OF_MEMORY = 4, /* an allocation failed; no text */
     ODB_SMALL_BUFFER = 5   /* the text is longer than the buffer; nothing is written */
 };
@@ -108,6 +108,11 @@ uint32_t odb_version(void);
 uint32_t odb_check(const uint8_t *batch, size_t batch_size,
                    uint8_t *text, size_t text_size, size_t *text_length, uint64_t seed);
 
+/* Checks a batch as `odb_check` does. If it is refused, the text has a line for each fault of the first phase that has any:
+ * the document, the form of its requests, ids and groups, names and references. Returns what `odb_check` does. */
+uint32_t odb_check_all(const uint8_t *batch, size_t batch_size,
+                       uint8_t *text, size_t text_size, size_t *text_length, uint64_t seed);
+
 /* Plans a batch. The result has a line per request: position, id, level, group and dependencies.
  * Returns what `odb_check` does. */
 uint32_t odb_plan(const uint8_t *batch, size_t batch_size,
@@ -144,6 +149,8 @@ uint32_t odb_replay(const uint8_t *batch, size_t batch_size,
  * returns what the call without a form does. */
 uint32_t odb_check_as(const uint8_t *batch, size_t batch_size, uint32_t form,
                       uint8_t *text, size_t text_size, size_t *text_length, uint64_t seed);
+uint32_t odb_check_all_as(const uint8_t *batch, size_t batch_size, uint32_t form,
+                          uint8_t *text, size_t text_size, size_t *text_length, uint64_t seed);
 uint32_t odb_plan_as(const uint8_t *batch, size_t batch_size, uint32_t form,
                      uint8_t *text, size_t text_size, size_t *text_length, uint64_t seed);
 uint32_t odb_canon_as(const uint8_t *batch, size_t batch_size, uint32_t form,
@@ -175,6 +182,23 @@ uint32_t odb_match_with(const uint8_t *batch, size_t batch_size, const uint8_t *
 uint32_t odb_rest(const uint8_t *batch, size_t batch_size, const uint8_t *responses, size_t responses_size,
                   uint32_t mode, uint32_t form,
                   uint8_t *text, size_t text_size, size_t *text_length, uint64_t seed);
+
+/* Where an element begins in a document. */
+typedef struct odb_position {
+    size_t line;   /* from 1 */
+    size_t column; /* from 1, in characters of UTF-8 */
+    size_t offset; /* in bytes, from 0 */
+} odb_position;
+
+/* Sets `*position` to where the element that a place names begins in a document. `place` is the last word in the line of a
+ * fault: `batch`, `outcomes`, `responses` or `events` for a document, or the path to an element, as `/requests/3`. `batch`
+ * and `/requests/3` are in the batch, all others in the second document. If there is no such element, the position is that
+ * of the document's value. If the document is not JSON (F02) and the place is a document, it is that of the first byte that
+ * cannot be there, or of the end. Returns ODB_DONE; or, with `*position` as it was, ODB_WRONG_OPTION if the text is no
+ * place, or ODB_OUT_OF_MEMORY. `position` must not be NULL, nor overlap the document or the place. Takes O(n) time for a
+ * document of n bytes. */
+uint32_t odb_where(const uint8_t *document, size_t document_size,
+                   const uint8_t *place, size_t place_size, odb_position *position);
 
 /* Where a part of a request lies: `length` bytes from `start` on. `start` is ODB_NONE and `length` 0 if the request has
  * no such part. */
@@ -353,6 +377,12 @@ static inline uint32_t odb_inline_check(ODB_INLINE_IN(batch), ODB_INLINE_TEXT, u
     return odb_check(ODB_INLINE_SLICE(batch), ODB_INLINE_SLICE(text), text_length, seed);
 }
 
+static inline uint32_t odb_inline_check_all(ODB_INLINE_IN(batch), ODB_INLINE_TEXT, uint64_t seed)
+{
+    uint8_t none = 0;
+    return odb_check_all(ODB_INLINE_SLICE(batch), ODB_INLINE_SLICE(text), text_length, seed);
+}
+
 static inline uint32_t odb_inline_plan(ODB_INLINE_IN(batch), ODB_INLINE_TEXT, uint64_t seed)
 {
     uint8_t none = 0;
@@ -393,6 +423,12 @@ static inline uint32_t odb_inline_check_as(ODB_INLINE_IN(batch), uint32_t form, 
 {
     uint8_t none = 0;
     return odb_check_as(ODB_INLINE_SLICE(batch), form, ODB_INLINE_SLICE(text), text_length, seed);
+}
+
+static inline uint32_t odb_inline_check_all_as(ODB_INLINE_IN(batch), uint32_t form, ODB_INLINE_TEXT, uint64_t seed)
+{
+    uint8_t none = 0;
+    return odb_check_all_as(ODB_INLINE_SLICE(batch), form, ODB_INLINE_SLICE(text), text_length, seed);
 }
 
 static inline uint32_t odb_inline_plan_as(ODB_INLINE_IN(batch), uint32_t form, ODB_INLINE_TEXT, uint64_t seed)
@@ -446,6 +482,12 @@ static inline uint32_t odb_inline_replay_as(ODB_INLINE_IN(batch), ODB_INLINE_IN(
     uint8_t none = 0;
     return odb_replay_as(ODB_INLINE_SLICE(batch), ODB_INLINE_SLICE(outcomes), mode, width, order, trace, form,
                          ODB_INLINE_SLICE(text), text_length, seed);
+}
+
+static inline uint32_t odb_inline_where(ODB_INLINE_IN(document), ODB_INLINE_IN(place), odb_position *position)
+{
+    uint8_t none = 0;
+    return odb_where(ODB_INLINE_SLICE(document), ODB_INLINE_SLICE(place), position);
 }
 
 static inline uint32_t odb_inline_requests(ODB_INLINE_IN(batch), ODB_INLINE_TEXT, odb_request *requests,
@@ -519,12 +561,14 @@ static inline uint32_t odb_inline_run_response(odb_live_run *run, ODB_INLINE_TEX
 }
 
 #define odb_check odb_inline_check
+#define odb_check_all odb_inline_check_all
 #define odb_plan odb_inline_plan
 #define odb_canon odb_inline_canon
 #define odb_match odb_inline_match
 #define odb_run odb_inline_run
 #define odb_replay odb_inline_replay
 #define odb_check_as odb_inline_check_as
+#define odb_check_all_as odb_inline_check_all_as
 #define odb_plan_as odb_inline_plan_as
 #define odb_canon_as odb_inline_canon_as
 #define odb_match_as odb_inline_match_as
@@ -532,6 +576,7 @@ static inline uint32_t odb_inline_run_response(odb_live_run *run, ODB_INLINE_TEX
 #define odb_rest odb_inline_rest
 #define odb_run_as odb_inline_run_as
 #define odb_replay_as odb_inline_replay_as
+#define odb_where odb_inline_where
 #define odb_requests odb_inline_requests
 #define odb_run_open odb_inline_run_open
 #define odb_run_ready odb_inline_run_ready

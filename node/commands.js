@@ -3,10 +3,13 @@
 // The commands. index.d.ts says what each takes and returns.
 
 const { bytesOf, eventsOf, kindOf } = require('./documents.js')
-const { DONE, REFUSED, settle } = require('./faults.js')
+const { DONE, REFUSED, faultOf, settle } = require('./faults.js')
 const library = require('./library.js')
 
 const COMMANDS = ['check', 'plan', 'canon', 'match', 'run', 'replay', 'rest']
+const CHECK_ALL = 'check --all'
+// What the library calls, by its number.
+const CALLS = [...COMMANDS, CHECK_ALL]
 const MODES = ['continue', 'stop']
 const ORDERS = ['first', 'last', 'wide']
 const FORMS = ['lines', 'json']
@@ -48,16 +51,16 @@ function numbersOf(options) {
   return [numberOf(MODES, 'mode', mode), width, numberOf(ORDERS, 'order', order), ...flags, numberOf(FORMS, 'form', form)]
 }
 
-/** The pair of the status and the text of a command. */
+/** The pair of the status and the text of a command over the bytes of documents. */
 function call(command, batch, second, options) {
-  const numbers = numbersOf(options)
-  return library.call(COMMANDS.indexOf(command), bytesOf(batch), bytesOf(second), ...numbers)
+  return library.call(CALLS.indexOf(command), batch, second, ...numbersOf(options))
 }
 
 /** The text that a command writes; throws what else it returns. */
 function answer(command, batch, second, options = {}) {
-  const [status, text] = call(command, batch, second, options)
-  settle(command, status, text)
+  const documents = [batch, second].map(bytesOf)
+  const [status, text] = call(command, ...documents, options)
+  settle(command, status, text, ...documents)
   return text
 }
 
@@ -69,6 +72,14 @@ function linesOf(text) {
 function check(batch) {
   const [, requests, , groups] = answer('check', batch, NONE).toString().split(' ')
   return { requests: Number(requests), groups: Number(groups) }
+}
+
+function faults(batch) {
+  const document = bytesOf(batch)
+  const [status, text] = call(CHECK_ALL, document, bytesOf(NONE), {})
+  if (status === REFUSED) return linesOf(text).map((line) => faultOf(line, [document]))
+  settle(CHECK_ALL, status, text)
+  return []
 }
 
 function plan(batch) {
@@ -124,10 +135,10 @@ function output(command, batch, second, options = {}) {
   if (takesTwo !== (second !== undefined && second !== null)) {
     throw new TypeError(`${command} takes ${takesTwo ? 'a' : 'no'} second document`)
   }
-  const given = takesTwo ? eventsOf(second) : NONE
-  const [status, text] = call(command, batch, given, { mode, width, order, trace, strict, form })
+  const given = takesTwo ? eventsOf(second) : bytesOf(NONE)
+  const [status, text] = call(command, bytesOf(batch), given, { mode, width, order, trace, strict, form })
   if (status !== REFUSED) settle(command, status, text)
   return { accepted: status === DONE, text }
 }
 
-module.exports = { OF_RUN, canon, check, match, numbersOf, optionsOf, output, plan, replay, rest, run }
+module.exports = { OF_RUN, canon, check, faults, match, numbersOf, optionsOf, output, plan, replay, rest, run }

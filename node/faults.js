@@ -3,23 +3,56 @@
 // Why a call does not do what it is asked for.
 
 const explanations = require('./explanations.json')
+const library = require('./library.js')
+
+const NUMBERS = 3 // of an odb_position
 
 const DONE = 0
 const REFUSED = 1
 const OUT_OF_MEMORY = 4
 
 class Fault extends Error {
-  constructor(code, faultName, place) {
+  // The bytes of the document, if there is one, and where the place is in it, once that was asked for.
+  #document
+  #position
+
+  constructor(code, faultName, place, document) {
     super(`${code} ${faultName} ${place}`)
     this.name = 'Fault'
     this.code = code
     this.faultName = faultName
     this.place = place
+    this.#document = document
+  }
+
+  get line() {
+    return this.#numbers[0]
+  }
+
+  get column() {
+    return this.#numbers[1]
+  }
+
+  get offset() {
+    return this.#numbers[2]
   }
 
   get explanation() {
     return explanations[this.code] ?? ''
   }
+
+  get #numbers() {
+    this.#position ??= this.#document === undefined ? [] : positionOf(this.#document, this.place)
+    return this.#position
+  }
+}
+
+/** The line, the column and the offset of a place in a document; nothing if it is none. */
+function positionOf(document, place) {
+  const numbers = new Float64Array(NUMBERS)
+  const status = library.where(document, Buffer.from(place), numbers)
+  if (status === OUT_OF_MEMORY) throw errorOf('ERR_ODB_OUT_OF_MEMORY', 'out of memory')
+  return status === DONE ? [...numbers] : []
 }
 
 class Refused extends Error {
@@ -41,12 +74,19 @@ function errorOf(code, message, Kind = Error) {
   return Object.assign(new Kind(message), { code })
 }
 
-/** Throws what a call returns but that it is done. */
-function settle(name, status, text) {
+/** The fault of a line, in one of the documents: the batch, and maybe a second one. */
+function faultOf(line, documents) {
+  const [, code, name, place] = line.split(' ')
+  const isInBatch = place === 'batch' || place.startsWith('/requests/')
+  return new Fault(code, name, place, documents[isInBatch ? 0 : documents.length - 1])
+}
+
+/** Throws what a call over documents returns but that it is done. */
+function settle(name, status, text, ...documents) {
   if (status === DONE) return
-  if (status === REFUSED) throw new Fault(...text.toString().trimEnd().split(' ').slice(1))
+  if (status === REFUSED) throw faultOf(text.toString().trimEnd(), documents)
   if (status === OUT_OF_MEMORY) throw errorOf('ERR_ODB_OUT_OF_MEMORY', 'out of memory')
   throw errorOf('ERR_ODB_STATUS', `${name} returned the status ${status}`)
 }
 
-module.exports = { DONE, Fault, REFUSED, Refused, errorOf, settle }
+module.exports = { DONE, Fault, REFUSED, Refused, errorOf, faultOf, settle }

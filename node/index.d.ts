@@ -98,9 +98,17 @@ export interface Replay {
   undone: string[]
 }
 
-/** A document is refused, by its first fault. */
+/**
+ * A document is refused: by its first fault, or by one of all that {@link faults} returns.
+ *
+ * Where its place begins in the document is looked up when `line`, `column` or `offset` is asked for, in a time in proportion
+ * to the document: do not change the bytes of that before. In a document that is not JSON (F02) they are those of the first
+ * byte that cannot be there, or of its end. Of an object they are those in the text that `JSON.stringify` writes of it. They
+ * are undefined for a fault that a live run has found.
+ */
 export class Fault extends Error {
-  constructor(code: string, faultName: string, place: string)
+  /** @param document The bytes of the document, which a fault keeps. */
+  constructor(code: string, faultName: string, place: string, document?: Uint8Array)
   /** Its code, as `F41`, `S4` or `P2`. */
   readonly code: string
   /** Its name, as `ForwardName`. */
@@ -110,6 +118,12 @@ export class Fault extends Error {
    * the body of a report of a live run.
    */
   readonly place: string
+  /** The line in which the place begins, from 1. */
+  readonly line: number | undefined
+  /** The column in that line, from 1, in characters. */
+  readonly column: number | undefined
+  /** How many bytes of the document come before the place. */
+  readonly offset: number | undefined
   /** What the fault means, and how it is repaired. */
   readonly explanation: string
 }
@@ -132,6 +146,13 @@ export class Refused extends Error {
  * with the code `ERR_ODB_OUT_OF_MEMORY` if an allocation fails.
  */
 export function check(batch: Document): Counts
+
+/**
+ * Returns the faults of a batch; none if {@link check} accepts it. The first is the one that `check` throws. They are those of
+ * the first phase that has any: the document, the form of each request, ids and groups, names and references. A rule is listed
+ * once for a request.
+ */
+export function faults(batch: Document): Fault[]
 
 /** Plans a batch: its requests in order, with their levels and dependencies. */
 export function plan(batch: Document): PlannedRequest[]

@@ -2,7 +2,7 @@
 
 // odb_batch in this process. index.d.ts says what each call takes and returns.
 
-const { canon, check, match, output, plan, replay, rest, run } = require('./commands.js')
+const { canon, check, faults, match, output, plan, replay, rest, run } = require('./commands.js')
 const { Fault, Refused } = require('./faults.js')
 const { version: number } = require('./library.js')
 const { GroupFailed, Refusal } = require('./messages.js')
@@ -21,6 +21,7 @@ module.exports = {
   Run,
   canon,
   check,
+  faults,
   match,
   output,
   perform,

@@ -7,20 +7,21 @@ const DONE = 0
 const OUT_OF_MEMORY = 4
 const SMALL_BUFFER = 5
 
-// The calls of the commands, and which of the numbers each takes.
+// The calls of the commands, how many documents each takes, and which of the numbers.
 const COMMANDS = [
-  ['odb_check_as', 'form'],
-  ['odb_plan_as', 'form'],
-  ['odb_canon_as', 'form'],
-  ['odb_match_with', 'mode', 'strict', 'form'],
-  ['odb_run_as', 'mode', 'width', 'form'],
-  ['odb_replay_as', 'mode', 'width', 'order', 'trace', 'form'],
-  ['odb_rest', 'mode', 'form'],
+  ['odb_check_as', 1, 'form'],
+  ['odb_plan_as', 1, 'form'],
+  ['odb_canon_as', 1, 'form'],
+  ['odb_match_with', 2, 'mode', 'strict', 'form'],
+  ['odb_run_as', 2, 'mode', 'width', 'form'],
+  ['odb_replay_as', 2, 'mode', 'width', 'order', 'trace', 'form'],
+  ['odb_rest', 2, 'mode', 'form'],
+  ['odb_check_all_as', 1, 'form'],
 ]
-const TAKES_ONE = 3 // so many of them take one document
 
 const WORD = 8 // bytes of a pointer or a size
 const NUMBERS = 15 // words of an odb_request
+const OF_POSITION = 3 // words of an odb_position
 const NONE = 2 ** 32 - 1 // each half of ODB_NONE
 const SHORTEST = 32 // how short a request may be in a document,
 const MOST = 10000 // and how many a batch may have
@@ -141,14 +142,24 @@ function numbersOf(it, at, count) {
 function commandsOf(use, seed) {
   return {
     call(command, batch, second, mode, width, order, trace, strict, form) {
-      const [name, ...taken] = COMMANDS[command]
+      const [name, count, ...taken] = COMMANDS[command]
       const numbers = taken.map((it) => ({ mode, width, order, trace, strict, form })[it])
-      const documents = command < TAKES_ONE ? [batch] : [batch, second]
+      const documents = [batch, second].slice(0, count)
       const answer = use((it) => it.with((take) => {
         const given = it.put(take, documents)
         return it.written(take, lengthOf(documents) + MORE, (text) => it.call(name, ...given, ...numbers, ...text, seed))
       }))
       return answer ?? [OUT_OF_MEMORY, Buffer.from(NOTHING)]
+    },
+
+    where(document, place, numbers) {
+      const status = use((it) => it.with((take) => {
+        const [given, at] = [it.put(take, [document, place]), take(OF_POSITION * WORD)]
+        const found = it.call('odb_where', ...given, at)
+        if (found === DONE) numbers.set(Array.from({ length: OF_POSITION }, (_, i) => it.word(at + BigInt(i * WORD))))
+        return found
+      }))
+      return status ?? OUT_OF_MEMORY
     },
 
     requests(batch) {

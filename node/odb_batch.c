@@ -3,8 +3,12 @@
  *
  *   call(command, batch, second, mode, width, order, trace, strict, form) -> [status, text]
  *
- * `command` is the place of a command in `commands`, `batch` and `second` are Uint8Arrays, and the other
- * arguments numbers; what a command does not take is ignored. commands.js makes the calls of it. */
+ * `command` is the place of a command in `CALLS` of commands.js, `batch` and `second` are Uint8Arrays, and the other
+ * arguments numbers; what a command does not take is ignored. commands.js makes the calls of it.
+ *
+ *   where(document, place, numbers) -> status
+ *
+ * Both are Uint8Arrays; the line, the column and the offset are written to `numbers`, a Float64Array of three. */
 
 #include <stdlib.h>
 
@@ -42,8 +46,10 @@ static uint32_t make(void *given, struct bytes text, size_t *length)
     case 5:
         return odb_replay_as(a.at, a.size, b.at, b.size, it->mode, it->width, it->order, it->trace, it->form,
                              text.at, text.size, length, it->seed);
-    default:
+    case 6:
         return odb_rest(a.at, a.size, b.at, b.size, it->mode, it->form, text.at, text.size, length, it->seed);
+    default:
+        return odb_check_all_as(a.at, a.size, it->form, text.at, text.size, length, it->seed);
     }
 }
 
@@ -134,6 +140,26 @@ static napi_value call(napi_env env, napi_callback_info info)
     return written(env, make, &given, given.batch.size + given.second.size + MORE);
 }
 
+static napi_value where(napi_env env, napi_callback_info info)
+{
+    struct bytes document, place;
+    napi_typedarray_type type;
+    size_t size = 0;
+    napi_value it[3], result;
+    void *numbers = NULL;
+    if (!read_arguments(env, info, it, 3) || !read_bytes(env, it[0], &document) || !read_bytes(env, it[1], &place)
+        || napi_get_typedarray_info(env, it[2], &type, &size, &numbers, NULL, NULL) != napi_ok
+        || type != napi_float64_array || size < 3)
+        return wrong_arguments(env);
+    odb_position position = {0, 0, 0};
+    uint32_t status = odb_where(document.at, document.size, place.at, place.size, &position);
+    double *found = numbers;
+    found[0] = (double)position.line;
+    found[1] = (double)position.column;
+    found[2] = (double)position.offset;
+    return napi_create_uint32(env, status, &result) == napi_ok ? result : NULL;
+}
+
 static void end_instance(napi_env env, void *instance, void *hint)
 {
     (void)env;
@@ -141,7 +167,7 @@ static void end_instance(napi_env env, void *instance, void *hint)
     release_instance(instance);
 }
 
-/* Makes the instance, with a seed that nobody can see, and exports `call`, `version`, `requests` and the runs. */
+/* Makes the instance, with a seed that nobody can see, and exports `call`, `where`, `version`, `requests` and the runs. */
 NAPI_MODULE_INIT()
 {
     napi_value function, version;
@@ -155,6 +181,8 @@ NAPI_MODULE_INIT()
     instance->seed = odb_seed();
     if (napi_create_function(env, "call", NAPI_AUTO_LENGTH, call, NULL, &function) == napi_ok
         && napi_set_named_property(env, exports, "call", function) == napi_ok
+        && napi_create_function(env, "where", NAPI_AUTO_LENGTH, where, NULL, &function) == napi_ok
+        && napi_set_named_property(env, exports, "where", function) == napi_ok
         && napi_create_uint32(env, odb_version(), &version) == napi_ok
         && napi_set_named_property(env, exports, "version", version) == napi_ok
         && export_requests(env, exports) == napi_ok)

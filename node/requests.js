@@ -28,7 +28,7 @@ function requests(batch) {
   const given = bytesOf(batch)
   const document = Buffer.from(given.buffer, given.byteOffset, given.length)
   const [status, text, all] = library.requests(document)
-  settle('requests', status, text)
+  settle('requests', status, text, given)
   const partOf = partsOf(text)
   const found = Array.from({ length: all.length / NUMBERS }, (_, at) => requestOf(document, partOf, all, NUMBERS * at))
   found.forEach((request, at) => {

@@ -67,7 +67,7 @@ class Run {
     // How many bytes the response is made of.
     this.#size = given.length + happened.length
     const [status, text, opened] = library.open(given, happened, modeNumber, widthNumber)
-    settle('open', status, text)
+    settle('open', status, text, given, happened)
     this.#run = opened
     // For who asks what is to be sent of the requests.
     this.#batch = given

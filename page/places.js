@@ -1,8 +1,8 @@
 'use strict'
 
-// Where in a text a fault is: as ranges of the text, and as line and column.
+// Where in a text a fault is, as ranges of the text, and where the lines of a text are.
 
-const { elementsAt, firstError, membersAt, skipSpace } = require('./json.js')
+const { elementsAt, membersAt, skipSpace } = require('./json.js')
 
 // The member of an element that the rule of a fault is about.
 const MEMBER = {
@@ -14,7 +14,7 @@ const MEMBER = {
 const LONGEST_ID = 100 // characters of an id that is shown
 const OF_ELEMENT = /^\/(\w+)\/(\d+)$/
 
-/** The lines of a text: of a place in it the line and the column, which count from 1; columns are characters. */
+/** The lines of a text, which count from 1. */
 class Lines {
   #starts = [0]
 
@@ -41,13 +41,6 @@ class Lines {
       else high = middle
     }
     return low + 1
-  }
-
-  at(offset) {
-    const line = this.lineOf(offset)
-    let column = 1
-    for (let at = this.start(line); at < offset; column++) at += this.text.codePointAt(at) > 0xffff ? 2 : 1
-    return { line, column }
   }
 }
 
@@ -101,34 +94,33 @@ class Places {
     return this.#elements.get(name)
   }
 
-  /** The range of what a fault names, its id, the range in it that the rule is about, and its line and column. */
-  of({ code, place, offset }) {
-    const found = this.#rangeOf(code, place, offset)
+  /** The range of what a fault names, its id, and the range in it that the rule is about. */
+  of(fault) {
+    const found = this.#rangeOf(fault)
     const whole = { start: found.start, end: found.end }
-    return { whole, part: found.part ?? whole, id: found.id, ...this.lines.at(whole.start) }
+    return { whole, part: found.part ?? whole, id: found.id }
   }
 
-  #rangeOf(code, place, offset) {
+  #rangeOf(fault) {
+    const { code, place } = fault
     const [, name, position] = OF_ELEMENT.exec(place) ?? []
     const elements = name && this.#elementsOf(name)
     const element = elements?.at(Number(position))
     if (element) return { ...element, ...elements.about(Number(position), MEMBER[code]) }
     if (code === 'F01') return { start: 0, end: 0 }
-    if (code !== 'F02') return this.#firstValue()
-    return (offset === undefined ? firstError(this.#text) : this.#characterAt(offset)) ?? this.#firstValue()
+    return this.#characterAt(code === 'F02' ? this.#beforeByte(fault.offset) : skipSpace(this.#text, 0))
   }
 
-  /** The character at a byte of the text. */
-  #characterAt(offset) {
+  /** How much of the text is before one of its bytes. */
+  #beforeByte(offset) {
     const before = new TextEncoder().encode(this.#text).subarray(0, offset)
-    const start = new TextDecoder('utf-8', { ignoreBOM: true }).decode(before).length
-    return { start, end: Math.min(start + 1, this.#text.length) }
+    return new TextDecoder('utf-8', { ignoreBOM: true }).decode(before).length
   }
 
-  /** The first character of the document. */
-  #firstValue() {
-    const start = Math.min(skipSpace(this.#text, 0), this.#text.length)
-    return { start, end: Math.min(start + 1, this.#text.length) }
+  /** The range of the character there, which is empty at the end of the text. */
+  #characterAt(start) {
+    const width = this.#text.codePointAt(start) > 0xffff ? 2 : 1
+    return { start, end: Math.min(start + width, this.#text.length) }
   }
 }
 

@@ -3,25 +3,21 @@
 // What the library says of a document: the line that the program prints of it, and its faults with their places.
 
 const commands = require('../node/commands.js')
-const { Fault } = require('../node/faults.js')
+const { faultOf } = require('../node/faults.js')
 const explanations = require('../node/explanations.json')
+
+const MOST_LISTED = 200 // faults, by the page
 
 /** The words of an explanation, without the ends of its lines. */
 function explain(code) {
   return (explanations[code] ?? '').replaceAll('\n', ' ')
 }
 
-/** All faults of a batch that is refused, if the library lists them; else the first one. */
-function faultsOf(batch, first) {
-  const found = commands.faults?.(batch) ?? []
-  return found.length > 0 ? [...found] : [first]
-}
-
-/** A fault for the page: what it is, why, and where. */
-function shown(fault, places) {
-  const { code, faultName: name, place, offset } = fault
-  const where = places.of({ code, place, offset })
-  return { code, name, place, explanation: explain(code), ...where }
+/** A fault for the page: what it is, why, and where; one that is listed with its line and its column. */
+function shown(fault, places, isListed) {
+  const { code, faultName: name, place } = fault
+  const { line, column } = isListed ? fault : {}
+  return { code, name, place, explanation: explain(code), line, column, ...places.of(fault) }
 }
 
 /** What a command makes of documents: its text, and the faults by which they are refused. */
@@ -38,9 +34,8 @@ function verdictOf(command, documents, places, options = {}) {
 }
 
 function refused(line, documents, places) {
-  const first = new Fault(...line.split(' ').slice(1))
-  const faults = documents.length === 1 ? faultsOf(documents[0], first) : [first]
-  return { accepted: false, text: line, faults: faults.map((it) => shown(it, places)) }
+  const faults = documents.length === 1 ? commands.faults(documents[0]) : [faultOf(line, documents)]
+  return { accepted: false, text: line, faults: faults.map((it, at) => shown(it, places, at < MOST_LISTED)) }
 }
 
-module.exports = { explain, shown, verdictOf }
+module.exports = { explain, verdictOf }

@@ -30,6 +30,7 @@ TYPES = {
     "&mut [u8]": ["uint8_t *{}", "size_t {}_size"],
     "&mut [u32]": ["uint32_t *{}", "size_t {}_size"],
     "&mut [Request]": ["odb_request *{}", "size_t {}_size"],
+    "&mut Position": ["odb_position *{}"],
     "Handle": ["odb_live_run {}"],
     "&mut Handle": ["odb_live_run *{}"],
     "&mut Slot": ["odb_live_run *{}"],
@@ -44,8 +45,7 @@ HANDLES = {
 }
 
 # The structs of the source that have the same fields for C.
-STRUCTS = {"Part": "odb_part", "Request": "odb_request"}
-STRUCTS_PATH = "crates/odb_ffi/src/request.rt"
+STRUCTS = {"Part": "odb_part", "Request": "odb_request", "Position": "odb_position"}
 FIELDS = {"usize": "size_t", **STRUCTS}
 
 # A number of the header, and the constant or the definition of the source that has it.
@@ -115,9 +115,9 @@ def one(pattern, text, what):
 
 def struct_differences(header):
     """The structs that have other fields in the header than in the source, a line each."""
-    text = text_of(STRUCTS_PATH)
+    text = source(EXPORTS)
     for name, typedef in STRUCTS.items():
-        wanted = one(rf"#\[repr\(C\)\](?:\s*#\[[^]]*\])*\s*pub struct {name} \{{([^}}]*)\}}", text, STRUCTS_PATH)
+        wanted = one(rf"#\[repr\(C\)\](?:\s*#\[[^]]*\])*\s*pub struct {name} \{{([^}}]*)\}}", text, EXPORTS)
         found = one(rf"typedef struct {typedef} \{{([^}}]*)\}} {typedef};", header, HEADER)
         fields = [f"{FIELDS[kind]} {field}" for field, kind in re.findall(r"(?m)^\s*pub (\w+): (\w+),$", wanted)]
         if re.findall(r"(?m)^\s*(\w+ \w+);", found) != fields:

@@ -2,7 +2,7 @@
 
 import {
   Bytes, Counts, Document, Fault, Output, PlannedRequest, Refused, Replay, Request, Run, RunEvent,
-  canon, check, match, output, plan, replay, requests, rest, run, version,
+  canon, check, faults, match, output, plan, replay, requests, rest, run, version,
 } from '../index'
 
 interface Batch { requests: { id: string; method: string; url: string }[] }
@@ -11,6 +11,7 @@ const documents: Document[] = [batch, JSON.stringify(batch), new Uint8Array(), n
 const events: RunEvent[] = [{ step: 'start', id: 'a' }, { step: 'report', id: 'a', status: 200, headers: new Map([['ETag', '7']]) }]
 
 const counts: Counts = check(documents[0])
+const lines: number[] = faults(batch).map(({ line, column, offset }: Fault) => (line ?? 0) + (column ?? 0) + (offset ?? 0))
 const planned: PlannedRequest[] = plan(batch)
 const statuses: Map<string, number> = match(batch, run(batch, events, { mode: 'stop', width: 2 }))
 const stopped: Map<string, number> = match(batch, '', { mode: 'stop', strict: true })
@@ -21,7 +22,7 @@ const replayed: Replay = replay(batch, '', { order: 'wide', mode: 'continue', tr
 const printed: Output = output('run', batch, events, { form: 'lines' })
 const text: string = canon(batch).toString() + version
 const bytes: Uint8Array = replayed.response
-const length: number = printed.text.length + bytes.length + counts.groups + planned.length + statuses.size + stopped.size + left.length + text.length + lengths.length
+const length: number = printed.text.length + bytes.length + counts.groups + planned.length + statuses.size + stopped.size + left.length + text.length + lengths.length + lines.length
 
 // @ts-expect-error
 run(batch, events, { mode: 'stopp' })

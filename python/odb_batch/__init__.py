@@ -16,6 +16,8 @@ Counts(requests=2, groups=0)
 ...     print(fault)
 F04 NoRequests batch
 
+:func:`faults` has all faults of a batch, and each has the ``line`` and the ``column`` of its place.
+
 :func:`output` has the text that a command prints, as JSON or as lines, for who passes it on:
 
 >>> from odb_batch import output
@@ -46,6 +48,7 @@ from ._commands import (
     Replay,
     canon,
     check,
+    faults,
     match,
     output,
     plan,
@@ -96,6 +99,7 @@ __all__ = [
     "__version__",
     "canon",
     "check",
+    "faults",
     "match",
     "output",
     "perform",

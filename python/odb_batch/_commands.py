@@ -4,7 +4,7 @@ from typing import Any, Dict, Iterator, List, Literal, NamedTuple, Optional, Seq
 
 from . import _library
 from ._documents import Document, Events, Report, Start, bytes_of, events_of
-from ._faults import fault_of
+from ._faults import Fault, fault_of
 
 #: The values of options, each at the place that is its number, and the commands.
 Mode = Literal["continue", "stop"]
@@ -156,7 +156,7 @@ def answer(name: str, *documents: Document, options: Tuple[Any, ...] = (), more:
     if status == _library.DONE:
         return text
     if status == _library.REFUSED:
-        raise fault_of(text)
+        raise fault_of(text, *given)
     raise failure_of(name, status)
 
 
@@ -169,6 +169,33 @@ def check(batch: Document) -> Counts:
     """
     words = answer("odb_check", batch).split()
     return Counts(int(words[1]), int(words[3]))
+
+
+def faults(batch: Document) -> Tuple[Fault, ...]:
+    """Returns the faults of a batch; none if :func:`check` accepts it. The first is the one that :func:`check` raises.
+
+    >>> from odb_batch import faults
+    >>> batch = '''{"requests": [
+    ...     {"id": "a", "method": "get", "url": "Books", "dependsOn": ["c"]},
+    ...     {"id": "b", "method": "get", "url": "Loans", "dependsOn": ["b"]}]}'''
+    >>> for fault in faults(batch):
+    ...     print(fault, fault.line, fault.column)
+    F40 UnknownName /requests/0 2 5
+    F41 ForwardName /requests/1 3 5
+
+    They are those of the first phase that has any: the document, the form of each request, ids and groups, names and
+    references. A rule is listed once for a request.
+
+    Raises:
+        MemoryError: An allocation failed.
+    """
+    document = bytes_of(batch)
+    status, text = _library.call("odb_check_all", (document,), (), len(document) + _MORE)
+    if status == _library.DONE:
+        return ()
+    if status == _library.REFUSED:
+        return tuple(fault_of(line, document) for line in text.splitlines())
+    raise failure_of("odb_check_all", status)
 
 
 def _planned(line: str) -> PlannedRequest:

@@ -1,6 +1,18 @@
 """Why a document is refused, or a start or a report of a live run."""
 
+from functools import cached_property
+from typing import NamedTuple, Optional
+
+from . import _library
 from ._explanations import EXPLANATIONS
+
+
+class _Position(NamedTuple):
+    """Where an element begins in a document, as an odb_position has it."""
+
+    line: int
+    column: int
+    offset: int
 
 
 class OdbError(Exception):
@@ -31,9 +43,12 @@ class OdbError(Exception):
 
 
 class Fault(OdbError, ValueError):
-    """A document is refused, by its first fault.
+    """A document is refused: by its first fault, or by one of all that :func:`faults` returns.
 
-    Its text is the code, the name and the place, as ``F41 ForwardName /requests/0``.
+    Its text is the code, the name and the place, as ``F41 ForwardName /requests/0``. Where that begins in the document, as
+    ``line``, ``column`` and ``offset`` say, is looked up when one of them is asked for; a fault keeps its document for that.
+    In a document that is not JSON (F02) they are those of the first byte that cannot be there, or of its end. Of a mapping
+    they are those in the JSON that ``json`` writes of it. They are None for a fault that a live run has found.
 
     Attributes:
         place: The document, as ``batch``, or its element, as ``/requests/0``, counted from 0; ``report``
@@ -41,10 +56,35 @@ class Fault(OdbError, ValueError):
     """
 
     place: str
+    _document: Optional[bytes] = None
 
     def __init__(self, code: str, name: str, place: str) -> None:
         super().__init__(code, name, place)
         self.place = place
+
+    @cached_property
+    def _position(self) -> Optional[_Position]:
+        if self._document is None:
+            return None
+        status, numbers = _library.call_where(self._document, self.place.encode())
+        if status == _library.OUT_OF_MEMORY:
+            raise MemoryError("odb_where ran out of memory")
+        return _Position(*numbers) if status == _library.DONE else None
+
+    @property
+    def line(self) -> Optional[int]:
+        """The line of the document in which the element begins, from 1."""
+        return self._position and self._position.line
+
+    @property
+    def column(self) -> Optional[int]:
+        """The column in that line, from 1, in characters."""
+        return self._position and self._position.column
+
+    @property
+    def offset(self) -> Optional[int]:
+        """How many bytes of the document come before the element."""
+        return self._position and self._position.offset
 
 
 class Refused(OdbError):
@@ -64,7 +104,10 @@ class Refused(OdbError):
         self.id = id
 
 
-def fault_of(line: bytes) -> Fault:
-    """The fault of a line ``fault CODE NAME PLACE``."""
+def fault_of(line: bytes, *documents: bytes) -> Fault:
+    """The fault of a line ``fault CODE NAME PLACE``, in one of the documents: the batch, and maybe a second one."""
     _, code, name, place = line.decode().rstrip("\n").split(" ", 3)
-    return Fault(code, name, place)
+    fault = Fault(code, name, place)
+    if documents:
+        fault._document = documents[0 if place == "batch" or place.startswith("/requests/") else -1]
+    return fault

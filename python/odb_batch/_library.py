@@ -19,6 +19,9 @@ NONE = 2 ** (8 * ctypes.sizeof(ctypes.c_size_t)) - 1
 # How many numbers an odb_request has: a start and a length for each of seven parts, and a position.
 _NUMBERS = 15
 
+# How many numbers an odb_position has: a line, a column and an offset.
+_OF_POSITION = 3
+
 # The version that this package is made for; the library may have another patch.
 MAJOR, MINOR = 0, 2
 
@@ -47,6 +50,8 @@ _PARAMETERS: Dict[str, List[Any]] = {
     "odb_run": [*_BYTES, *_BYTES, *_NUMBER * 2, *_SEEDED],
     "odb_replay": [*_BYTES, *_BYTES, *_NUMBER * 4, *_SEEDED],
     "odb_check_as": [*_BYTES, *_NUMBER, *_SEEDED],
+    "odb_check_all": [*_BYTES, *_SEEDED],
+    "odb_check_all_as": [*_BYTES, *_NUMBER, *_SEEDED],
     "odb_plan_as": [*_BYTES, *_NUMBER, *_SEEDED],
     "odb_canon_as": [*_BYTES, *_NUMBER, *_SEEDED],
     "odb_match_as": [*_BYTES, *_BYTES, *_NUMBER, *_SEEDED],
@@ -54,6 +59,7 @@ _PARAMETERS: Dict[str, List[Any]] = {
     "odb_rest": [*_BYTES, *_BYTES, *_NUMBER * 2, *_SEEDED],
     "odb_run_as": [*_BYTES, *_BYTES, *_NUMBER * 3, *_SEEDED],
     "odb_replay_as": [*_BYTES, *_BYTES, *_NUMBER * 5, *_SEEDED],
+    "odb_where": [*_BYTES, *_BYTES, ctypes.c_void_p],
     "odb_requests": [*_BYTES, *_TEXT, ctypes.c_void_p, ctypes.c_size_t, _SIZE, ctypes.c_uint64],
     "odb_run_open": [*_BYTES, *_BYTES, *_NUMBER * 2, *_RUN, *_SEEDED],
     "odb_run_ready": [*_RUN, *_POSITIONS],
@@ -147,6 +153,13 @@ def call_requests(batch: bytes, room: int, most: int) -> Tuple[int, bytes, List[
             found = iter(numbers[: _NUMBERS * count.value])
             return status, ctypes.string_at(text, length.value), list(zip(*[found] * _NUMBERS))
         room, most = max(length.value, room), max(count.value, most)
+
+
+def call_where(document: bytes, place: bytes) -> Tuple[int, List[int]]:
+    """The status of a call for the position of a place in a document, and the line, the column and the offset."""
+    numbers = (ctypes.c_size_t * _OF_POSITION)()
+    status = _LIBRARY.odb_where(document, len(document), place, len(place), numbers)
+    return status, list(numbers)
 
 
 def call_run(name: str, handle: Handle, *arguments: Any) -> int:

@@ -80,7 +80,7 @@ def requests(batch: Document) -> Tuple[Request, ...]:
         document, len(document) + _MORE, min(len(document) // _SHORTEST + 1, _MOST)
     )
     if status == _library.REFUSED:
-        raise fault_of(text)
+        raise fault_of(text, document)
     if status != _library.DONE:
         raise failure_of("odb_requests", status)
     found = [_request(document, text, numbers) for numbers in parts]

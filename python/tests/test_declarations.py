@@ -16,8 +16,9 @@ KINDS = {
     "uint32_t": ctypes.c_uint32,
     "uint32_t *": ctypes.POINTER(ctypes.c_uint32),
     "uint64_t": ctypes.c_uint64,
-    # The package reads an odb_request as its numbers.
+    # The package reads an odb_request and an odb_position as their numbers.
     "odb_request *": ctypes.c_void_p,
+    "odb_position *": ctypes.c_void_p,
     "odb_live_run": _library.Handle,
     "odb_live_run *": ctypes.POINTER(_library.Handle),
     "void": None,

@@ -19,6 +19,7 @@ from odb_batch import (
     Start,
     canon,
     check,
+    faults,
     match,
     output,
     plan,
@@ -32,6 +33,8 @@ batch: Document = MappingProxyType({"requests": [ChainMap({"id": "a"}, {"method"
 mode: Mode = "stop"
 
 counts: Counts = check(batch)
+found: Tuple[Fault, ...] = faults(batch)
+lines: List[int] = [fault.line or 0 for fault in found]
 planned: Plan = plan(bytearray(canon(batch)))
 sequence: Sequence[PlannedRequest] = planned
 first: PlannedRequest = planned[0]
@@ -58,6 +61,7 @@ judge("", "chain")  # type: ignore[call-arg]
 serving("library:app")  # type: ignore[arg-type]
 
 planned.requests = ()  # type: ignore[misc]
+found[0].line = 7  # type: ignore[misc]
 planned[0] = first  # type: ignore[index]
 run(batch, "", mode="stopp")  # type: ignore[arg-type]
 match(batch, "", mode="half")  # type: ignore[arg-type]

@@ -18,6 +18,7 @@
 #define MOST_REQUESTS 10000
 #define MOST_STEPS 60
 #define LONGEST_BATCH 100000 /* of a live run */
+#define CHECK_ALL 7          /* no command of a file */
 #define PARTS (sizeof(odb_request) / sizeof(size_t))
 #define COUNT(array) (sizeof(array) / sizeof *(array))
 
@@ -105,6 +106,8 @@ static uint32_t answer_once(const call *it, uint32_t form)
     case 5:
         return odb_replay_as(a.at, a.size, b.at, b.size, it->mode, it->width, it->order, it->trace, form,
                              text, text_size, &length, seed);
+    case CHECK_ALL:
+        return odb_check_all_as(a.at, a.size, form, text, text_size, &length, seed);
     default:
         return odb_rest(a.at, a.size, b.at, b.size, it->mode, form, text, text_size, &length, seed);
     }
@@ -152,15 +155,38 @@ static void print_requests(bytes batch)
     print_line(head, 2, numbers, count * PARTS * sizeof *numbers);
 }
 
+/* Prints what a call answers in each form. */
+static void print_forms(const call *it)
+{
+    for (uint32_t form = ODB_LINES; form <= ODB_JSON; form++) {
+        uint32_t status = answer(it, form);
+        print_line(&status, 1, text, length);
+    }
+}
+
+/* Prints where some places are in a batch. */
+static void print_places(bytes batch)
+{
+    static const char *const places[] = {"batch", "/requests/0", "/requests/7"};
+    for (size_t i = 0; i < COUNT(places); i++) {
+        odb_position at = {0, 0, 0};
+        long before = live_blocks;
+        uint32_t status = odb_where(batch.at, batch.size, (const uint8_t *)places[i], strlen(places[i]), &at);
+        expect_blocks(before);
+        uint32_t numbers[] = {status, (uint32_t)at.line, (uint32_t)at.column, (uint32_t)at.offset};
+        print_line(numbers, COUNT(numbers), NULL, 0);
+    }
+}
+
 static void print_answers(bytes file)
 {
     call it;
     while (next_call(&file, &it)) {
-        for (uint32_t form = ODB_LINES; form <= ODB_JSON; form++) {
-            uint32_t status = answer(&it, form);
-            print_line(&status, 1, text, length);
-        }
+        print_forms(&it);
         print_requests(it.batch);
+        it.command = CHECK_ALL;
+        print_forms(&it);
+        print_places(it.batch);
     }
 }
 

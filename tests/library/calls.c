@@ -76,6 +76,16 @@ static uint32_t check_as(const struct arguments *it, uint8_t *text, size_t size,
     return odb_check_as(it->batch.bytes, it->batch.size, it->form, text, size, length, it->seed);
 }
 
+static uint32_t check_all(const struct arguments *it, uint8_t *text, size_t size, size_t *length)
+{
+    return odb_check_all(it->batch.bytes, it->batch.size, text, size, length, it->seed);
+}
+
+static uint32_t check_all_as(const struct arguments *it, uint8_t *text, size_t size, size_t *length)
+{
+    return odb_check_all_as(it->batch.bytes, it->batch.size, it->form, text, size, length, it->seed);
+}
+
 static uint32_t plan_as(const struct arguments *it, uint8_t *text, size_t size, size_t *length)
 {
     return odb_plan_as(it->batch.bytes, it->batch.size, it->form, text, size, length, it->seed);
@@ -119,6 +129,8 @@ static uint32_t replay_as(const struct arguments *it, uint8_t *text, size_t size
 #define ONE "{\"id\":\"a\",\"method\":\"GET\",\"url\":\"X\"}"
 #define TWO "{\"id\":\"b\",\"method\":\"get\",\"url\":\"Y\",\"dependsOn\":[\"a\"],\"atomicityGroup\":\"g\"}"
 #define BATCH "{\"requests\":[" ONE "," TWO "]}"
+#define WRONG "{\"requests\":[7," ONE ",{\"id\":\"b\"}]}"
+#define UNFIT "{\"requests\":[" TWO "," TWO "]}"
 #define OUTCOMES "{\"outcomes\":[{\"id\":\"a\",\"status\":200},{\"id\":\"b\",\"status\":409}]}"
 #define RESPONSES "{\"responses\":[{\"id\":\"a\",\"status\":200}," \
     "{\"atomicityGroup\":\"g\",\"id\":\"b\",\"status\":409}]}"
@@ -188,6 +200,19 @@ static const struct trial trials[] = {
     {"a check in no form", check_as, BATCH, NULL, 0, 0, 0, 0, 2, ODB_WRONG_OPTION, ""},
     {"a check in a form far off", check_as, BATCH, NULL, 0, 0, 0, 0, UINT32_MAX, ODB_WRONG_OPTION, ""},
     {"a check of nothing in no form", check_as, NULL, NULL, 0, 0, 0, 0, 2, ODB_WRONG_OPTION, ""},
+    {"a check for all faults", check_all, BATCH, NULL, 0, 0, 0, 0, 0, ODB_DONE, "ok 2 requests 1 groups\n"},
+    {"all faults of a shape", check_all, WRONG, NULL, 0, 0, 0, 0, 0, ODB_REFUSED,
+     "fault F10 NotRequestObject /requests/0\nfault F14 BadMethod /requests/2\nfault F15 BadUrl /requests/2\n"},
+    {"all faults of names", check_all, UNFIT, NULL, 0, 0, 0, 0, 0, ODB_REFUSED, "fault F30 IdTwice /requests/1\n"},
+    {"all faults of nothing", check_all, NULL, NULL, 0, 0, 0, 0, 0, ODB_REFUSED, NOT_JSON},
+    {"a check for all faults in JSON", check_all_as, BATCH, NULL, 0, 0, 0, 0, ODB_JSON, ODB_DONE, "{\"groups\":1,\"requests\":2}\n"},
+    {"all faults of a shape in JSON", check_all_as, WRONG, NULL, 0, 0, 0, 0, ODB_JSON, ODB_REFUSED,
+     "{\"faults\":[{\"code\":\"F10\",\"name\":\"NotRequestObject\",\"place\":\"/requests/0\"},"
+     "{\"code\":\"F14\",\"name\":\"BadMethod\",\"place\":\"/requests/2\"},"
+     "{\"code\":\"F15\",\"name\":\"BadUrl\",\"place\":\"/requests/2\"}]}\n"},
+    {"all faults of nothing in lines", check_all_as, NULL, NULL, 0, 0, 0, 0, ODB_LINES, ODB_REFUSED, NOT_JSON},
+    {"a check for all faults in no form", check_all_as, BATCH, NULL, 0, 0, 0, 0, 2, ODB_WRONG_OPTION, ""},
+    {"all faults in a form far off", check_all_as, NULL, NULL, 0, 0, 0, 0, UINT32_MAX, ODB_WRONG_OPTION, ""},
     {"a plan in lines", plan_as, BATCH, NULL, 0, 0, 0, 0, ODB_LINES, ODB_DONE,
      "0 a level 0 group * needs *\n1 b level 1 group g needs a\n"},
     {"a plan in JSON", plan_as, BATCH, NULL, 0, 0, 0, 0, ODB_JSON, ODB_DONE,

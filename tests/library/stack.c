@@ -84,6 +84,24 @@ static int check_in_json(void)
     return is_done(odb_check_as(bytes(batch), strlen(batch), ODB_JSON, text, sizeof text, &length, 7));
 }
 
+static int check_for_all_faults(void)
+{
+    return is_done(odb_check_all(bytes(batch), strlen(batch), text, sizeof text, &length, 7));
+}
+
+static int all_faults_in_json(void)
+{
+    return odb_check_all_as(bytes(batch), strlen(batch), ODB_JSON, text, sizeof text, &length, 7) == ODB_REFUSED;
+}
+
+/* Looks for the document, which is read for that, and for its first request. */
+static int find(void)
+{
+    odb_position found;
+    return is_done(odb_where(bytes(batch), strlen(batch), bytes("batch"), 5, &found))
+        && is_done(odb_where(bytes(batch), strlen(batch), bytes("/requests/0"), 11, &found));
+}
+
 static int plan_in_json(void)
 {
     return is_done(odb_plan_as(bytes(batch), strlen(batch), ODB_JSON, text, sizeof text, &length, 7));
@@ -337,6 +355,8 @@ static void measure_deep(void)
     measure("a check of a deep body", check);
     measure("a check of a deep body without a seed", check_without_a_seed);
     measure("a check of a deep body in JSON", check_in_json);
+    measure("a check of a deep body for all faults", check_for_all_faults);
+    measure("where a deep body is", find);
     measure("a plan of a deep body", plan);
     measure("a plan of a deep body in JSON", plan_in_json);
     measure("a canonical text of a deep body", canon);
@@ -359,6 +379,8 @@ static void measure_deep(void)
     make_deep(100000);
     measure("a check of a body that is too deep", refused);
     measure("a check of a body that is too deep in JSON", refused_in_json);
+    measure("all faults of a body that is too deep", all_faults_in_json);
+    measure("where a body is too deep", find);
 }
 
 /* Makes each call on a batch in which each request needs the one before it. */
@@ -368,6 +390,7 @@ static void measure_chain(void)
     measure("a check of a chain", check);
     measure("a check of a chain without a seed", check_without_a_seed);
     measure("a check of a chain in JSON", check_in_json);
+    measure("a check of a chain for all faults", check_for_all_faults);
     measure("a plan of a chain", plan);
     measure("a plan of a chain in JSON", plan_in_json);
     measure("a canonical text of a chain in JSON", canon_in_json);

@@ -15,7 +15,7 @@ from support.program import ROOT, SHARED
 
 
 MODULES = (
-    "", "._groups", "._messages", "._perform", "._perform_async", "._runs", ".client", ".testing", ".wsgi",
+    "", "._commands", "._groups", "._messages", "._perform", "._perform_async", "._runs", ".client", ".testing", ".wsgi",
 )  # fmt: skip
 
 

@@ -61,6 +61,9 @@ class Calls:
             documents = tuple(self.texts[kind] for kind in contents.KINDS[command])
             for name, numbers in ((f"odb_{command}", options), (f"odb_{command}_as", (*options, LINES))):
                 spent[f"{name}{numbers}"] = self.seconds(name, documents, numbers)
+        batch = (self.texts["batch"],)
+        spent["odb_check_all"] = self.seconds("odb_check_all", batch, ())
+        spent["odb_check_all_as"] = self.seconds("odb_check_all_as", batch, (LINES,))
         documents = tuple(self.texts[kind] for kind in contents.KINDS["match"])
         spent["odb_match_with"] = self.seconds("odb_match_with", documents, (STOP, STRICT, LINES))
         spent["odb_rest"] = self.seconds("odb_rest", documents, (STOP, LINES))

@@ -15,7 +15,7 @@ from support.program import ROOT
 
 HERE = os.path.dirname(os.path.abspath(__file__))
 WRAPPED = "-Wl,--wrap=malloc,--wrap=realloc,--wrap=free"
-PROGRAMS = ("calls", "live", "positions", "requests", "units")
+PROGRAMS = ("calls", "live", "places", "positions", "requests", "units")
 
 # The libraries of the system that may be needed.
 NEEDED = {

@@ -1,4 +1,4 @@
-"""All faults that the library lists are listed and placed; by a library that lists none, the first one is."""
+"""All faults that the library lists are placed, by the page's own scanner and by what the library says of a place."""
 
 import json
 import subprocess
@@ -7,31 +7,33 @@ import pytest
 
 from support.program import ROOT
 
-BATCH = '{"requests": [\n  {"id": "a", "method": "got", "url": "ä"},\n  {"id": "b", "method": "get", "url": "x", "body": 1}\n]}'
+BATCH = '{"requests": [\n  {"id": "a", "method": "got", "url": "\u00e4"},\n  {"id": "b", "method": "get", "url": "x", "body": 1}\n]}'
+# A library of which each answer is these lines, and each place has this offset.
 SCRIPT = """
-const root = process.argv[1]
-const { Fault } = require(root + '/node/faults.js')
-const listed = JSON.parse(process.argv[3])
-const output = () => ({ accepted: false, text: 'fault F14 BadMethod /requests/0\\n' })
-const faults = listed && (() => listed.map(([code, name, place, offset]) => Object.assign(new Fault(code, name, place), { offset })))
-const stub = { id: 'stub', loaded: true, exports: { output, faults } }
-require.cache[require.resolve(root + '/node/commands.js')] = stub
+const [root, text, lines, offset] = process.argv.slice(1)
+const exports = {
+  call: () => [1, Buffer.from(lines)],
+  where: (document, place, numbers) => { numbers.set([7, 8, Number(offset)]); return 0 },
+}
+require.cache[require.resolve(root + '/node/library.js')] = { id: 'stub', loaded: true, exports }
 const { verdictOf } = require(root + '/page/verdict.js')
 const { Places } = require(root + '/page/places.js')
-const text = process.argv[2]
-const { faults: found } = verdictOf('check', [text], new Places(text))
-console.log(JSON.stringify(found.map(({ code, id, line, column, part }) => [code, id ?? null, line, column, text.slice(part.start, part.end)])))"""
+const { faults, text: first } = verdictOf('check', [Buffer.from(text)], new Places(text))
+if (first !== lines.trimEnd()) console.error(first)
+console.log(JSON.stringify(faults.map(({ code, id, line, column, part }) => [code, id ?? null, line, column, text.slice(part.start, part.end)])))"""
 
-FIRST = ["F14", "a", 2, 3, '"method": "got"']
+METHOD, BODY = ("F14 BadMethod /requests/0", '"method": "got"'), ("F20 BodyNotAllowed /requests/1", '"body": 1')
 
 
 @pytest.mark.needs("node")
-@pytest.mark.parametrize("text, listed, wanted", [
-    (BATCH, None, [FIRST]),
-    (BATCH, [], [FIRST]),
-    (BATCH, [["F14", "BadMethod", "/requests/0"], ["F20", "BodyNotAllowed", "/requests/1"]], [FIRST, ["F20", "b", 3, 3, '"body": 1']]),
-    ('{"ä": tru}', [["F02", "NotJson", "batch", 10]], [["F02", None, 1, 10, "}"]]),
+@pytest.mark.parametrize("text, lines, offset, wanted", [
+    (BATCH, [METHOD[0]], 0, [["F14", "a", 7, 8, METHOD[1]]]),
+    (BATCH, [METHOD[0], BODY[0]], 0, [["F14", "a", 7, 8, METHOD[1]], ["F20", "b", 7, 8, BODY[1]]]),
+    ('{"\u00e4": tru}', ["F02 NotJson batch"], 10, [["F02", None, 7, 8, "}"]]),
+    ('{"\u00e4": \U0001f4da}', ["F02 NotJson batch"], 7, [["F02", None, 7, 8, "\U0001f4da"]]),
+    ("[", ["F02 NotJson batch"], 1, [["F02", None, 7, 8, ""]]),
 ])  # fmt: skip
-def test_faults(text, listed, wanted):
-    done = subprocess.run(["node", "-e", SCRIPT, ROOT, text, json.dumps(listed)], capture_output=True, text=True)
-    assert (json.loads(done.stdout or "null"), done.stderr) == (wanted, "")
+def test_faults(text, lines, offset, wanted):
+    words = ["node", "-e", SCRIPT, ROOT, text, "".join(f"fault {line}\n" for line in lines), str(offset)]
+    done = subprocess.run(words, capture_output=True, text=True)
+    assert json.loads(done.stdout or "null") == wanted, done.stderr

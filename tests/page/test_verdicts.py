@@ -1,4 +1,4 @@
-"""The page says of every document of the worked cases what the program says, and its scanner of JSON agrees on what is JSON."""
+"""The page says of every document of the worked cases what the program says, and its scanner of JSON finds the elements."""
 
 import json
 import subprocess
@@ -103,8 +103,8 @@ def is_of(command, data):
 
 
 @pytest.mark.needs("node")
-def test_the_scanner_agrees_on_what_is_json(program, tmp_path):
-    """Of all batches it finds a place exactly if the program says F02, and the elements of the others are those of the JSON."""
+def test_the_scanner_finds_the_elements(program, tmp_path):
+    """Of all batches that are JSON the element that a fault names is that of the JSON."""
     documents = [it for it in {call.documents[0]: None for call in CALLS} if short(it)]
     cases = []
     for data in documents:
@@ -113,16 +113,14 @@ def test_the_scanner_agrees_on_what_is_json(program, tmp_path):
         except UnicodeDecodeError:
             continue
         verdict = output(program, tmp_path, "check", [data])
-        cases.append({"text": text, "isJson": "F02" not in verdict, "place": verdict.rpartition(" ")[2]})
+        cases.append({"text": text, "place": verdict.rpartition(" ")[2]})
     (tmp_path / "cases.json").write_text(json.dumps(cases))
     script = """
-        const { firstError } = require(process.argv[1] + '/page/json.js')
         const { Places } = require(process.argv[1] + '/page/places.js')
         const { isDeepStrictEqual } = require('node:util')
-        for (const { text, isJson, place } of JSON.parse(require('fs').readFileSync(process.argv[2]))) {
-          if ((firstError(text) === undefined) !== isJson) console.log('JSON', text.slice(0, 100))
+        for (const { text, place } of JSON.parse(require('fs').readFileSync(process.argv[2]))) {
           const [, at] = /^.requests.(\\d+)$/.exec(place) ?? []
-          if (at === undefined || !isJson) continue
+          if (at === undefined) continue
           const { start, end } = new Places(text).of({ code: 'F10', place }).whole
           if (!isDeepStrictEqual(JSON.parse(text.slice(start, end)), JSON.parse(text).requests[at])) console.log('place', text)
         }"""

@@ -6,6 +6,7 @@ pub mod Live
 pub mod Units
 pub mod Requests
 pub mod Rests
+pub mod Places
 pub mod Handles
 pub mod Sessions
 -- What a slot owns.

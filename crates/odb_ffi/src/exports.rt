@@ -5,7 +5,7 @@
 //! `--json` of the command writes. [`odb_match_with`] takes a mode and a flag beside the form.
 //!
 //! A call sets `text_length` to the length of the text, and returns
-//! - 0 if the text is the result, and 1 if it is the line of a fault: then `text` begins with it;
+//! - 0 if the text is the result, and 1 if it is the line of a fault, or of each: then `text` begins with it;
 //! - 5 if the text is longer than `text`;
 //! - 2, with the length 0, if an option is none of its numbers;
 //! - 4, with the length 0, if an allocation fails.
@@ -15,6 +15,7 @@
 
 ghost use Rattle.std.specs.Prelude.{◌≡◌, [], false};
 ghost use Rattle.odb_sched.specs.declared.policy.Mode.TheVariants as modes;
+ghost use Rattle.odb_engine.specs.AllFaults.{ChecksAll};
 ghost use Rattle.odb_engine.specs.declared.form.Form.TheVariants as forms;
 ghost use Rattle.odb_engine.specs.declared.task.Task.TheVariants as tasks;
 ghost use Rattle.odb_ffi.specs.Options as options;
@@ -22,6 +23,7 @@ ghost use Rattle.odb_ffi.specs.Rests.{RestLine};
 ghost use Rattle.odb_ffi.specs.Returns.{Does, Returns, ReturnsBy};
 
 use crate::answer::{answer, answer_as, wrong_option};
+use crate::check_all::{check_all, check_all_as};
 use crate::options::{match_of, mode_of, replay_of, run_of};
 use crate::rest::rest_as;
 use odb_engine::Form::Lines;
@@ -67,6 +69,37 @@ pub extern "C" fn odb_check_as(
         result text_length.new text.old text.new }
 {
     answer_as(alloc, batch, b"", Check, form, seed, text, text_length)
+}
+
+/// Does what [`odb_check`] does, and of a batch that is refused writes all its faults, as `odb_batch check --all` does.
+#[unsafe(no_mangle)]
+pub extern "C" fn odb_check_all(
+    alloc: Global,
+    batch: &[u8],
+    text: &mut [u8],
+    text_length: &mut usize,
+    seed: u64,
+) -> u32
+    ensures { Returns (ChecksAll batch.now forms.Lines) result text_length.new text.old text.new }
+{
+    check_all(alloc, batch, Lines, seed, text, text_length)
+}
+
+/// Does what [`odb_check_all`] does, and writes the text in a form.
+#[unsafe(no_mangle)]
+pub extern "C" fn odb_check_all_as(
+    alloc: Global,
+    batch: &[u8],
+    form: u32,
+    text: &mut [u8],
+    text_length: &mut usize,
+    seed: u64,
+) -> u32
+    ensures { ReturnsBy (options.IsForm form) (options.NamesNoForm form)
+        (λ form. Returns (ChecksAll batch.now form))
+        result text_length.new text.old text.new }
+{
+    check_all_as(alloc, batch, form, seed, text, text_length)
 }
 
 /// Plans the batch in a document, as `odb_batch plan` does.

@@ -5,14 +5,17 @@
 //! engine states. A call of a command keeps nothing; a live run is a handle that its caller closes.
 //! `include/odb_batch.h` declares the exports for C.
 //!
-//! [`exports`], [`request_exports`], [`run_exports`] and [`unit_exports`] have the exports alone. What they do over slices and numbers is beside them:
-//! `options` and `status` name the numbers, `answer` does a task and copies a text to the caller's buffer, `rest` gives the
-//! rest of a batch, `live` and `units` drive a run, and `requests` copies what is to be sent. [`request`] is that of one request. What needs a pointer is in `address`, [`handle`], `lent` and [`slot`].
+//! [`exports`], [`place_exports`], [`request_exports`], [`run_exports`] and [`unit_exports`] have the exports alone. What they do
+//! over slices and numbers is beside them: `options` and `status` name the numbers, `answer` does a task and copies a text to
+//! the caller's buffer, `check_all` and `rest` give all faults and the rest of a batch, `live` and `units` drive a run, and
+//! `requests` copies what is to be sent. [`request`] is that of one request, and [`position`] where an element begins. What
+//! needs a pointer is in `address`, [`handle`], `lent` and [`slot`].
 //! What holds of every list of calls on a live run is in [`laws`].
 #![tactic(auto)]
 
 mod address;
 mod answer;
+mod check_all;
 pub mod exports;
 mod filled;
 pub mod handle;
@@ -21,6 +24,8 @@ mod lent;
 mod live;
 pub mod options;
 mod outcome;
+pub mod place_exports;
+pub mod position;
 mod positions;
 pub mod request;
 pub mod request_exports;

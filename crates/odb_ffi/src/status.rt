@@ -13,7 +13,7 @@ pub const DONE: u32 = 0;
 /// A document is refused, and the text is the line of its fault.
 pub const REFUSED: u32 = 1;
 
-/// An option is a number that it may not be, or there is no request at a position or with an id.
+/// An option is a number that it may not be, a text is no place, or there is no request at a position or with an id.
 pub const WRONG_OPTION: u32 = 2;
 
 /// An allocation failed.

@@ -10,3 +10,4 @@ mod PlanTextLemmas
 mod QuotedLemmas
 mod ArrowLemmas
 mod DrawnLineLemmas
+mod PlaceLemmas

@@ -1,5 +1,6 @@
 -- What public clauses cite: it has to be believed.
 pub mod Lines
+pub mod Places
 pub mod Drawings
 pub mod Rows
 pub mod Shown

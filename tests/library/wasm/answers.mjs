@@ -2,6 +2,8 @@
 // to be the same for each form of the library, and those of ../answers.c. For Node and for browsers.
 
 const FORMS = [0, 1]
+const CHECK_ALL = 7
+const PLACES = ['batch', '/requests/0', '/requests/7']
 const NUMBERS = 8 // before the documents of a call, each of 32 bits
 const MOST_REQUESTS = 10000
 const MOST_STEPS = 60
@@ -53,17 +55,29 @@ function expectFreed() {
   if (left !== 0n) throw new Error(`${left} bytes are allocated after a call`)
 }
 
-/** The lines of the answers to the calls, in both forms, and of the requests of their batches. */
+/** The lines of what a call answers in each form. */
+function* forms(library, ...values) {
+  for (const form of FORMS) {
+    const [status, text] = library.call(...values, form)
+    expectFreed()
+    yield lineOf([status], text)
+  }
+}
+
+/** The lines of the answers to the calls, and of the requests, all faults and some places of their batches. */
 function* answers(library, file) {
   for (const { numbers: [command, ...options], batch, second } of callsOf(file)) {
-    for (const form of FORMS) {
-      const [status, text] = library.call(command, batch, second, ...options, form)
-      expectFreed()
-      yield lineOf([status], text)
-    }
+    yield* forms(library, command, batch, second, ...options)
     const [status, text, parts] = library.requests(batch)
     expectFreed()
     yield lineOf([status, text.length], new Uint8Array(parts.buffer))
+    yield* forms(library, CHECK_ALL, batch, second, ...options)
+    for (const place of PLACES) {
+      const numbers = new Float64Array(3)
+      const status = library.where(batch, bytesOf(place), numbers)
+      expectFreed()
+      yield lineOf([status, ...numbers], new Uint8Array())
+    }
   }
 }
 

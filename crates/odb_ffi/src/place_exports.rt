@@ -1,0 +1,36 @@
+//! The call for C that says where the element of a place begins.
+
+ghost use Rattle.odb_ffi.specs.Places.{GivesPlace};
+
+use crate::position::Position;
+use crate::status::{DONE, OUT_OF_MEMORY, WRONG_OPTION};
+use odb_spans::position_of;
+use odb_text::place_of;
+use std::alloc::Global;
+
+/// Says where the element begins in a document that a place names, as the line of a fault has it: `batch`, `outcomes`,
+/// `responses` or `events` for the document, or the path to an element, as `/requests/3`.
+///
+/// Returns 0, and `position` is that of the element, or of the document's value if there is no such element. In a document
+/// that is not JSON it is that of the first byte that cannot be there, if the place is the document. Returns 2 if the text is
+/// no place, and 4 if an allocation fails: then `position` is as it was.
+#[unsafe(no_mangle)]
+pub extern "C" fn odb_where(
+    alloc: Global,
+    document: &[u8],
+    place: &[u8],
+    position: &mut Position,
+) -> u32
+    ensures { GivesPlace document.now place.now result position.old position.new }
+{
+    let Some(place) = place_of(place) else {
+        return WRONG_OPTION;
+    };
+    match position_of(alloc, document, place) {
+        Ok(found) => {
+            *position = Position::of(found);
+            DONE
+        }
+        Err(_) => OUT_OF_MEMORY,
+    }
+}
