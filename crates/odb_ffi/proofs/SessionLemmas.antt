@@ -58,9 +58,9 @@ module _ (requests : List Record) where
   reported old new i status headers body returned (ReportTaken outcome within is (BodyTaken text of (OutcomeRefused cause first done same))) = inr ((λ none. omega (arith, done, none)), same)
   reported old new i status headers body returned (ReportTaken outcome within is (BodyRefused bad done same)) = inr ((λ none. omega (arith, done, none)), same)
   reported old new i status headers body returned (ReportTaken outcome within is (BodyOutOfMemory some done same)) = inr ((λ none. omega (arith, done, none)), same)
-  reported old new i status headers body returned (ReportRefused bad done same) = inr ((λ none. omega (arith, done, none)), same)
+  reported old new i status headers body returned (ReportRefused within bad done same) = inr ((λ none. omega (arith, done, none)), same)
   reported old new i status headers body returned (ReportUnknown past done same) = inr ((λ none. omega (arith, done, none)), same)
-  reported old new i status headers body returned (ReportOutOfMemory some done same) = inr ((λ none. omega (arith, done, none)), same)
+  reported old new i status headers body returned (ReportOutOfMemory within some done same) = inr ((λ none. omega (arith, done, none)), same)
 
   by_call : (call : Call) (old new : Live) → IsPlan old.run.plan_graph → IsPlanGraphOf requests old.run.plan_graph → Does call old new → IsEvent requests call old new ⊎ (IsNoEvent call × (new ≡ old))
   by_call (Start i status) old new laws graph does = started old new i status does

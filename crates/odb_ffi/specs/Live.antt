@@ -93,9 +93,10 @@ pub data TakesBody (old new : LiveRun) (i : ℕ) (outcome : Outcome) (body : Lis
   Refused : IsNoBody body → returned ≡ 1 → new ≡ old → TakesBody old new i outcome body returned
   OutOfMemory : body ≢ [] → returned ≡ 4 → new ≡ old → TakesBody old new i outcome body returned
 
--- What the report of a request returns. Nothing has changed but with 0. A report of a status alone needs no memory.
+-- What the report of a request returns: the position is looked at before the headers, and they before the body. Nothing has
+-- changed but with 0. A report of a status alone needs no memory.
 pub data Reports (old new : LiveRun) (i status : ℕ) (headers body : List ℕ) (returned : ℕ) : Type 0 where
   Taken : (outcome : Outcome) → i < size old.run → IsReported status headers outcome → TakesBody old new i outcome body returned → Reports old new i status headers body returned
-  Refused : HasNoHeaders headers → returned ≡ 1 → new ≡ old → Reports old new i status headers body returned
+  Refused : i < size old.run → HasNoHeaders headers → returned ≡ 1 → new ≡ old → Reports old new i status headers body returned
   NoRequest : size old.run ≤ i → returned ≡ 2 → new ≡ old → Reports old new i status headers body returned
-  OutOfMemory : headers ≢ [] → returned ≡ 4 → new ≡ old → Reports old new i status headers body returned
+  OutOfMemory : i < size old.run → headers ≢ [] → returned ≡ 4 → new ≡ old → Reports old new i status headers body returned

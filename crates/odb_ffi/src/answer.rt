@@ -4,9 +4,9 @@ ghost use Rattle.std.specs.Prelude.{◌≡◌, IfOk, OnErr};
 ghost use Rattle.odb_ffi.specs.Options as options;
 ghost use Rattle.odb_ffi.specs.Returns.{Does, Fills, IsOutOfMemory, IsWrongOption, Returns, ReturnsBy, status_of};
 
-use crate::options::{form_of, seed_of};
+use crate::options::{form_of, setup_of};
 use crate::status::{OUT_OF_MEMORY, SMALL_BUFFER, WRONG_OPTION, of_end};
-use odb_engine::{Answer, Form, Setup, Task, answer_in_memory};
+use odb_engine::{Answer, Form, Task, answer_in_memory};
 use std::alloc::{AllocError, Global};
 
 /// Copies the text of an answer to the buffer if it fits, sets its length, and returns the status;
@@ -53,12 +53,7 @@ pub fn answer(
     ensures { Returns (Does task form batch.now second.now)
         result text_length.new buffer.old buffer.new }
 {
-    let setup = Setup {
-        form,
-        seed: seed_of(seed),
-        ..Setup::plain()
-    };
-    let answer = answer_in_memory(alloc, batch, second, task, setup);
+    let answer = answer_in_memory(alloc, batch, second, task, setup_of(form, seed));
     give(answer, buffer, text_length)
 }
 

@@ -8,7 +8,7 @@ ghost use Rattle.odb_sched.specs.run.State as state;
 ghost use Rattle.odb_sched.specs.run.Steps.{report_number};
 ghost use Rattle.odb_ffi.specs.Live as calls;
 
-use crate::outcome::{NoOutcome, body_of, outcome_of};
+use crate::outcome::{body_of, outcome_of};
 use crate::status;
 use odb_doc::Outcome;
 use odb_engine::{Answer, Ended, Form, LiveRun};
@@ -54,8 +54,7 @@ fn take_body(live: &mut LiveRun, alloc: Global, position: u32, outcome: Outcome,
 {
     match body_of(alloc, body) {
         Ok(text) => take(live, position, outcome, text),
-        Err(NoOutcome::Refused) => status::REFUSED,
-        Err(NoOutcome::OutOfMemory) => status::OUT_OF_MEMORY,
+        Err(cause) => status::of_no_outcome(cause),
     }
 }
 
@@ -75,8 +74,7 @@ pub fn report(
     }
     match outcome_of(alloc, status, headers) {
         Ok(outcome) => take_body(live, alloc, position, outcome, body),
-        Err(NoOutcome::Refused) => status::REFUSED,
-        Err(NoOutcome::OutOfMemory) => status::OUT_OF_MEMORY,
+        Err(cause) => status::of_no_outcome(cause),
     }
 }
 

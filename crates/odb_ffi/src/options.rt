@@ -4,7 +4,7 @@ ghost use Rattle.std.specs.Prelude.{◌≡◌, ◌≢◌, Some, None, IfSome};
 ghost use Rattle.odb_ffi.specs.Options as options;
 
 use odb_check::Seed;
-use odb_engine::{Form, Task};
+use odb_engine::{Form, Setup, Task};
 use odb_sched::{MAX_WIDTH, Mode, Order, Policy};
 
 /// Returns the seed that a number is. 0 is no seed.
@@ -17,6 +17,15 @@ pub fn seed_of(seed: u64) -> Seed
     } else {
         Seed::new(seed)
     }
+}
+
+/// Returns the setup with this form and with the seed that a number is.
+pub fn setup_of(form: Form, seed: u64) -> Setup
+    ensures form { result.form ≡ form }
+    ensures none { seed ≡ 0 → result.seed.number ≡ None }
+    ensures some { seed ≢ 0 → result.seed.number ≡ Some seed }
+{
+    Setup::new(form, seed_of(seed))
 }
 
 /// Returns the mode that a number names, or `None` if it may not be.

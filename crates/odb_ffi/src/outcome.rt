@@ -1,9 +1,10 @@
 //! An outcome of headers as JSON, and its body as JSON text.
 
-ghost use Rattle.std.specs.Prelude.{◌≡◌, ◌≢◌, [], None, Some, Err, min, IfOk};
+ghost use Rattle.std.specs.Prelude.{◌≡◌, ◌≢◌, ◌↔◌, [], None, Some, Ok, Err, min, IfOk};
 ghost use Rattle.serde_json.specs.View.{view};
 ghost use Rattle.odb_doc.specs.declared.fault.DocFault.TheVariants as faults;
 ghost use Rattle.odb_doc.specs.Headers.{IsHeaders};
+ghost use Rattle.odb_doc.specs.declared.recorded.outcome.Outcome.{Outcome};
 ghost use Rattle.odb_doc.specs.recorded.Parts.{HasParts};
 ghost use Rattle.odb_reply.specs.BodyTexts.{IsNoBody};
 ghost use Rattle.odb_ffi.specs.Live.{HasNoHeaders, IsReported, IsReportedBody};
@@ -12,7 +13,7 @@ ghost use Rattle.odb_ffi.specs.declared.outcome.NoOutcome.TheVariants as none;
 use odb_doc::{DocFault, Outcome, parse};
 use odb_reply::{BodyFault, JsonText};
 use serde_json::Value;
-use std::alloc::Global;
+use std::alloc::{AllocError, Global};
 use std::collections::BTreeMap;
 
 /// Why a report has no outcome.
@@ -37,11 +38,34 @@ fn status_of(status: u32) -> u16
 
 /// Returns why there is no outcome by the fault of its headers.
 fn without(fault: DocFault) -> NoOutcome
-    ensures { result ≡ none.Refused → fault ≢ faults.OutOfMemory }
+    ensures { (result ≡ none.Refused) ↔ (fault ≢ faults.OutOfMemory) }
 {
     match fault {
         DocFault::OutOfMemory => NoOutcome::OutOfMemory,
         _ => NoOutcome::Refused,
+    }
+}
+
+/// Returns why there is no text by the fault of a body.
+fn without_text(fault: BodyFault) -> NoOutcome
+    ensures { (result ≡ none.Refused) ↔ (fault ≡ BodyFault.Refused) }
+{
+    match fault {
+        BodyFault::Refused => NoOutcome::Refused,
+        BodyFault::OutOfMemory => NoOutcome::OutOfMemory,
+    }
+}
+
+/// Returns the outcome that was made of parts. If there is none, the parts are not of the right form.
+fn made(found: Result<Option<Outcome>, AllocError>) -> Result<Outcome, NoOutcome>
+    ensures some { (outcome : Outcome) → found ≡ Ok (Some outcome) → result ≡ Ok outcome }
+    ensures refused { (result ≡ Err none.Refused) ↔ (found ≡ Ok None) }
+    ensures ok { IfOk result (λ outcome. found ≡ Ok (Some outcome)) }
+{
+    match found {
+        Ok(Some(outcome)) => Ok(outcome),
+        Ok(None) => Err(NoOutcome::Refused),
+        Err(_) => Err(NoOutcome::OutOfMemory),
     }
 }
 
@@ -61,11 +85,7 @@ fn outcome_with(alloc: Global, status: u16, headers: Value) -> Result<Outcome, N
     ensures some { IfOk result (HasParts status (Some (view headers)) None) }
     ensures refused { result ≡ Err none.Refused → ¬ IsHeaders (Some (view headers)) }
 {
-    match Outcome::of_parts(alloc, status, Some(headers), None) {
-        Ok(Some(outcome)) => Ok(outcome),
-        Ok(None) => Err(NoOutcome::Refused),
-        Err(_) => Err(NoOutcome::OutOfMemory),
-    }
+    made(Outcome::of_parts(alloc, status, Some(headers), None))
 }
 
 /// Returns the outcome with this status, with the headers in these bytes, which may be none, and with no
@@ -95,7 +115,6 @@ pub fn body_of(alloc: Global, bytes: &[u8]) -> Result<Option<JsonText>, NoOutcom
     }
     match JsonText::read(alloc, bytes) {
         Ok(text) => Ok(text),
-        Err(BodyFault::Refused) => Err(NoOutcome::Refused),
-        Err(BodyFault::OutOfMemory) => Err(NoOutcome::OutOfMemory),
+        Err(fault) => Err(without_text(fault)),
     }
 }

@@ -3,7 +3,9 @@
 ghost use Rattle.std.specs.Prelude.{◌≡◌, ◌+◌};
 ghost use Rattle.odb_sched.specs.run.Steps.{report_number, start_number};
 ghost use Rattle.odb_ffi.specs.Returns as returns;
+ghost use Rattle.odb_ffi.specs.declared.outcome.NoOutcome.TheVariants as none;
 
+use crate::outcome::NoOutcome;
 use odb_engine::Ended;
 use odb_sched::{ReportRefusal, StartRefusal};
 
@@ -29,6 +31,17 @@ pub fn of_end(ended: Ended) -> u32
     match ended {
         Ended::Done => DONE,
         Ended::Refused => REFUSED,
+    }
+}
+
+/// Returns the status of a report that has no outcome.
+pub fn of_no_outcome(cause: NoOutcome) -> u32
+    ensures refused { cause ≡ none.Refused → result ≡ 1 }
+    ensures memory { cause ≡ none.OutOfMemory → result ≡ 4 }
+{
+    match cause {
+        NoOutcome::Refused => REFUSED,
+        NoOutcome::OutOfMemory => OUT_OF_MEMORY,
     }
 }
 

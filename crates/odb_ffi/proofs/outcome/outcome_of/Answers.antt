@@ -23,4 +23,4 @@ pub returns-in-Ok-clause-refused : goal.returns-in-Ok-clause-refused
 returns-in-Ok-clause-refused c = λ same. OfValue _ (Present _ c.in-Ok.ensures.ok) (c.outcome_with.ensures.refused same)
 
 pub returns-in-Err-clause-refused : goal.returns-in-Err-clause-refused
-returns-in-Err-clause-refused c = λ same. OfDocument c.in-Err.fault (c.without.ensures (same-error _ none.Refused same)) c.in-Err.ensures.err
+returns-in-Err-clause-refused c = λ same. OfDocument c.in-Err.fault (c.without.ensures.0 (same-error _ none.Refused same)) c.in-Err.ensures.err
