@@ -22,7 +22,8 @@ use Rattle.odb_engine.specs.declared.ending.Ended.{Ended}
 use Rattle.odb_engine.specs.declared.ending.EngineFault.{EngineFault}
 use Rattle.odb_engine.specs.declared.halt.Halt.{Halt}
 use Rattle.odb_engine.specs.declared.halt.Halt.TheVariants as halts
-use Rattle.odb_engine.specs.AllFaults.{AreFaultsIn, AreFaultsOf, answer_found}
+use Rattle.odb_engine.specs.AllFaults.{AreFaultsIn, AreFaultsOf}
+use Rattle.odb_engine.specs.Answered.{answer_found}
 use Rattle.odb_engine.specs.Cascade.{RefusesBytes, Writes}
 use Rattle.odb_engine.specs.Engines.{Ends}
 use Rattle.odb_engine.proofs.EngineLemmas.{Ends-weaker}
