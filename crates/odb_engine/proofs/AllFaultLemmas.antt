@@ -24,7 +24,8 @@ use Rattle.odb_engine.specs.declared.halt.Halt.{Halt}
 use Rattle.odb_engine.specs.declared.halt.Halt.TheVariants as halts
 use Rattle.odb_engine.specs.declared.ending.Ended.TheVariants.{Refused}
 use Rattle.odb_engine.specs.declared.form.Form.{Form}
-use Rattle.odb_engine.specs.AllFaults.{AreFaultsIn, AreFaultsOf, ChecksAll, answer_found, faults_text}
+use Rattle.odb_engine.specs.AllFaults.{AreFaultsIn, AreFaultsOf, ChecksAll, faults_text}
+use Rattle.odb_engine.specs.Answered.{answer_found}
 use Rattle.odb_engine.specs.Cascade.{AnswersValue, RefusesBytes, Writes}
 use Rattle.odb_engine.specs.Commands.{Counts}
 use Rattle.odb_engine.specs.Forms.{fault_text}
@@ -59,7 +60,7 @@ faults-of-shape value faults refusals bad are is = inl (bad, record { faults = f
 
 pub faults-of-names : (value : Data) (batch : List Record) (faults : List CheckFault) (refusals : List Printed) → IsWellShaped value → IsBatchOf value batch → AreNameFaults batch faults → refusals ≡ filter_map check_row faults
     → AreFaultsOf value refusals
-faults-of-names value batch faults refusals shaped is_batch are is = inr (record { batch = batch; plan_graph = shaped; is_batch = is_batch; holds = record { faults = faults; are = are; is = is } })
+faults-of-names value batch faults refusals shaped is_batch are is = inr (record { batch = batch; shaped = shaped; is_batch = is_batch; holds = record { faults = faults; are = are; is = is } })
 
 pub faults-alone : (bytes : List ℕ) (refusal : Refusal) (found : List Refusal) → RefusesBytes Batch bytes (printed refusal) → found ≡ refusal ∷ [] → AreFaultsIn bytes (map printed found)
 faults-alone bytes refusal found refuses is = inl (record { refusal = printed refusal; refuses = refuses; is = ap (map printed) is })

@@ -99,12 +99,12 @@ halt-shape P form value fault least = halt-fault IsLeastFault document_row (Answ
 
 -- the names of its requests have a fault
 pub halt-names : (P : List Record → WritesIn) (form : Form) (value : Data) (batch : List Record) → IsWellShaped value → IsBatchOf value batch → (halt : Halt) → Halted (RefusesNamesOf batch) halt → Refuses (AnswersValue P value) form halt
-halt-names P form value batch plan_graph is_batch = Halted-weaker (RefusesNamesOf batch) (λ refusal. AnswersValue P value form Refused (fault_text form refusal))
-    (λ refusal refuses. inl (reports (IsLeastOfBatch value) form refusal (inr (record { fault = refuses.fault; refuses = record { batch = batch; plan_graph = plan_graph; is_batch = is_batch; holds = refuses.refuses }; is = refuses.is }))))
+halt-names P form value batch shaped is_batch = Halted-weaker (RefusesNamesOf batch) (λ refusal. AnswersValue P value form Refused (fault_text form refusal))
+    (λ refusal refuses. inl (reports (IsLeastOfBatch value) form refusal (inr (record { fault = refuses.fault; refuses = record { batch = batch; shaped = shaped; is_batch = is_batch; holds = refuses.refuses }; is = refuses.is }))))
 
 -- the value is a batch that the check accepts
 pub accepted-value : (value : Data) (batch planned : List Record) (P : List Record → Type 0) → IsWellShaped value → IsBatchOf value batch → HasGoodNames batch → planned ≡ batch → P planned → AcceptsValue value P
-accepted-value value batch planned P plan_graph is_batch names same so = record { batch = batch; plan_graph = plan_graph; is_batch = is_batch; holds = (names, subst P same so) }
+accepted-value value batch planned P shaped is_batch names same so = record { batch = batch; shaped = shaped; is_batch = is_batch; holds = (names, subst P same so) }
 
 -- what may be written in less cases may be written
 pub Refuses-weaker : (P Q : WritesIn) (form : Form) (halt : Halt) → ((ended : Ended) (text : List ℕ) → P form ended text → Q form ended text) → Refuses P form halt → Refuses Q form halt

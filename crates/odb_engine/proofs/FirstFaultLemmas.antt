@@ -127,7 +127,7 @@ least_from bytes refusal (Names rule) at first has is =
         fault = check.Request at rule;
         refuses = record {
           batch = batch;
-          plan_graph = well_shaped bytes has.value has.document rule at first;
+          shaped = well_shaped bytes has.value has.document rule at first;
           is_batch = is_batch;
           holds = least_name bytes has.value has.document rule at batch is_batch first broken;
         };
@@ -250,7 +250,7 @@ module _ (one : IsOneBatch) (bytes : List ℕ) (value : Data) (document : IsDocu
 
   first_in_value : (refusal : Printed) → IsLeastOfBatch value refusal → PrintsFirst bytes refusal
   first_in_value refusal (inl found) = first_shape refusal found.fault found.refuses found.is
-  first_in_value refusal (inr found) = first_name refusal found.refuses.batch found.fault found.refuses.plan_graph found.refuses.is_batch found.refuses.holds found.is
+  first_in_value refusal (inr found) = first_name refusal found.refuses.batch found.fault found.refuses.shaped found.refuses.is_batch found.refuses.holds found.is
 
 pub least-first : IsOneBatch → (bytes : List ℕ) (refusal : Printed) → IsLeast bytes refusal → PrintsFirst bytes refusal
 least-first one bytes refusal (inl refused) = first_refused bytes refusal refused.fault refused.refuses refused.is

@@ -24,8 +24,8 @@ use Rattle.odb_engine.proofs.MemoryLemmas.{one_value}
 
 -- the laws of the lower crates on their own relations
 pub record AreFunctional : Type 0 where
-  pub one_plan_graph : (value : Data) (fault other : DocFault) → IsSome (document_row fault) → IsSome (document_row other) → IsLeastFault fault value → IsLeastFault other value → fault ≡ other
-  pub no_plan_graph : (value : Data) (fault : DocFault) → IsSome (document_row fault) → IsLeastFault fault value → ¬ IsWellShaped value
+  pub one_shape : (value : Data) (fault other : DocFault) → IsSome (document_row fault) → IsSome (document_row other) → IsLeastFault fault value → IsLeastFault other value → fault ≡ other
+  pub no_shape : (value : Data) (fault : DocFault) → IsSome (document_row fault) → IsLeastFault fault value → ¬ IsWellShaped value
   pub one_batch : (value : Data) (batch other : List Record) → IsBatchOf value batch → IsBatchOf value other → batch ≡ other
   pub one_name : (requests : List Record) (fault other : CheckFault) → IsSome (check_row fault) → IsSome (check_row other) → RefusesNames fault requests → RefusesNames other requests
       → fault ≡ other
@@ -86,15 +86,15 @@ document_one place P bytes form one a b s t (inr x) (inr y) =
 
 least_one : AreFunctional → (value : Data) (s t : Printed) → IsLeastOfBatch value s → IsLeastOfBatch value t → s ≡ t
 least_one law value s t (inl one) (inl two) =
-    same_Some s t (sym one.is ∙ ap document_row (law.one_plan_graph value one.fault two.fault (ap is_some one.is) (ap is_some two.is) one.refuses two.refuses) ∙ two.is)
-least_one law value s t (inl one) (inr two) = absurd (law.no_plan_graph value one.fault (ap is_some one.is) one.refuses two.refuses.plan_graph)
-least_one law value s t (inr one) (inl two) = absurd (law.no_plan_graph value two.fault (ap is_some two.is) two.refuses one.refuses.plan_graph)
+    same_Some s t (sym one.is ∙ ap document_row (law.one_shape value one.fault two.fault (ap is_some one.is) (ap is_some two.is) one.refuses two.refuses) ∙ two.is)
+least_one law value s t (inl one) (inr two) = absurd (law.no_shape value one.fault (ap is_some one.is) one.refuses two.refuses.shaped)
+least_one law value s t (inr one) (inl two) = absurd (law.no_shape value two.fault (ap is_some two.is) two.refuses one.refuses.shaped)
 least_one law value s t (inr one) (inr two) =
     let same = law.one_batch value _ _ one.refuses.is_batch two.refuses.is_batch in
     same_Some s t (sym one.is ∙ ap check_row (law.one_name two.refuses.batch one.fault two.fault (ap is_some one.is) (ap is_some two.is) (subst (RefusesNames one.fault) same one.refuses.holds) two.refuses.holds) ∙ two.is)
 
 least_not_value : AreFunctional → (value : Data) (P : List Record → Type 0) (refusal : Printed) → IsLeastOfBatch value refusal → AcceptsValue value P → ⊥
-least_not_value law value P refusal (inl one) is = law.no_plan_graph value one.fault (ap is_some one.is) one.refuses is.plan_graph
+least_not_value law value P refusal (inl one) is = law.no_shape value one.fault (ap is_some one.is) one.refuses is.shaped
 least_not_value law value P refusal (inr one) is =
     law.no_name is.batch one.fault (ap is_some one.is) (subst (RefusesNames one.fault) (law.one_batch value _ _ one.refuses.is_batch is.is_batch) one.refuses.holds) is.holds.0
 

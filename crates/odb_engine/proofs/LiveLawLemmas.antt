@@ -176,7 +176,7 @@ module _ (law : AreFunctional) (history : AreOneHistory) (policy : Policy) where
         document = opens.document;
         holds = record {
           batch = batched.batch;
-          plan_graph = batched.plan_graph;
+          shaped = batched.shaped;
           is_batch = batched.is_batch;
           holds = (batched.holds.0, record { labels = is.labels; texts = is.texts; after = after-next batched.batch events more live.run e is.after (subst (λ rs. RecordsOneMore rs events more e) (same_batch law batch _ _ next opens) next.holds.holds.1) within may });
         };

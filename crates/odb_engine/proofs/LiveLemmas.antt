@@ -82,7 +82,7 @@ same-graph (Err cause) old next new same ok err = ap (λ (s : State). s.plan_gra
 -- the batch that was read is accepted
 pub accepted : (bytes : List ℕ) (value : Data) (batch planned : List Record) (P : List Record → Type 0) → IsDocument bytes value → IsWellShaped value → IsBatchOf value batch → HasGoodNames batch
     → planned ≡ batch → P planned → Accepts bytes P
-accepted bytes value batch planned P is plan_graph is_batch names same so = record { value = value; document = is; holds = accepted-value value batch planned P plan_graph is_batch names same so }
+accepted bytes value batch planned P is shaped is_batch names same so = record { value = value; document = is; holds = accepted-value value batch planned P shaped is_batch names same so }
 
 -- a fault of the shape of a batch document
 pub least-shape : (bytes : List ℕ) (fault : DocFault) (value : Data) → IsDocument bytes value → IsLeastFault fault value → (shown : Printed) → document_row fault ≡ Some shown → IsLeast bytes shown
@@ -90,5 +90,5 @@ least-shape bytes fault value is least shown row = inr (record { value = value; 
 
 -- a fault of the names of its requests
 pub least-names : (bytes : List ℕ) (value : Data) (batch : List Record) → IsDocument bytes value → IsWellShaped value → IsBatchOf value batch → (shown : Printed) → RefusesNamesOf batch shown → IsLeast bytes shown
-least-names bytes value batch is plan_graph is_batch shown refuses =
-    inr (record { value = value; document = is; holds = inr (record { fault = refuses.fault; refuses = record { batch = batch; plan_graph = plan_graph; is_batch = is_batch; holds = refuses.refuses }; is = refuses.is }) })
+least-names bytes value batch is shaped is_batch shown refuses =
+    inr (record { value = value; document = is; holds = inr (record { fault = refuses.fault; refuses = record { batch = batch; shaped = shaped; is_batch = is_batch; holds = refuses.refuses }; is = refuses.is }) })

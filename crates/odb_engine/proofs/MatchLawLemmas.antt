@@ -21,7 +21,7 @@ use Rattle.odb_reply.specs.StatusFaults.{RefusesStatuses, status_at, status_row}
 use Rattle.odb_doc.specs.Refusals.{Printed}
 use Rattle.odb_engine.specs.Cascade.{IsOne}
 use Rattle.odb_engine.specs.Forms.{fault_text}
-use Rattle.odb_engine.specs.Matches.{AreImpossible, IsAnswered, MatchesEntries, MatchesValue, Misfits, WritesStatuses, decided}
+use Rattle.odb_engine.specs.Matches.{AreImpossible, IsAnswered, MatchesValue, Misfits, OfEntries, WritesStatuses, decided}
 use Rattle.odb_engine.specs.Inputs.{BySecond}
 use Rattle.odb_engine.specs.declared.form.Form.{Form}
 use Rattle.odb_engine.proofs.LawLemmas.{document_one}
@@ -59,7 +59,7 @@ statuses_one law strict batch statuses form a b s t (inl x) (inr y) = absurd (no
 statuses_one law strict batch statuses form a b s t (inr x) (inl y) = absurd (not_answered law strict batch statuses y.refusal y.is x.0)
 statuses_one law strict batch statuses form a b s t (inr x) (inr y) = (x.1.0 ∙ sym y.1.0, x.1.1 ∙ sym y.1.1)
 
-entries_one : AreOneMatch → (strict : Bool) (batch : List Record) (entries : List Entry) (form : Form) → IsOne (MatchesEntries strict batch entries form)
+entries_one : AreOneMatch → (strict : Bool) (batch : List Record) (entries : List Entry) (form : Form) → IsOne (OfEntries (λ places statuses. WritesStatuses strict batch statuses) batch entries form)
 entries_one law strict batch entries form a b s t (inl x) (inl y) = (x.ends ∙ sym y.ends, x.prints ∙ ap (fault_text form) (one_misfits law batch entries x.refusal y.refusal x.is y.is) ∙ sym y.prints)
 entries_one law strict batch entries form a b s t (inl x) (inr y) = absurd (law.no_misfit batch entries x.is.fault (ap is_some x.is.is) x.is.least y.fits)
 entries_one law strict batch entries form a b s t (inr x) (inl y) = absurd (law.no_misfit batch entries y.is.fault (ap is_some y.is.is) y.is.least x.fits)
@@ -70,4 +70,4 @@ entries_one law strict batch entries form a b s t (inr x) (inr y) =
 -- a batch and the value of a response document have one text
 pub matches_value_one : AreOneMatch → (mode : Mode) (strict : Bool) (batch : List Record) (value : Data) (form : Form) → IsOne (MatchesValue mode strict batch value form)
 matches_value_one law mode strict batch = reading_one response_documents.responses_row RefusesResponses IsResponseDocument (λ value. AllZip ReadsAs (responses_in value))
-    (record { one_fault = law.one_fault; no_fault = law.no_fault; one_reading = λ value. law.one_list (responses_in value) }) (λ entries. MatchesEntries strict batch (decided mode batch entries)) (λ entries. entries_one law strict batch (decided mode batch entries))
+    (record { one_fault = law.one_fault; no_fault = law.no_fault; one_reading = λ value. law.one_list (responses_in value) }) (λ entries. OfEntries (λ places statuses. WritesStatuses strict batch statuses) batch (decided mode batch entries)) (λ entries. entries_one law strict batch (decided mode batch entries))

@@ -31,7 +31,7 @@ value-of place P bytes value is form ended text (inr has) = subst (λ v. P v for
 -- what is written of some requests may be written in more cases
 answers-weaker : (P Q : List Record → WritesIn) (value : Data) (form : Form) (ended : Ended) (text : List ℕ) → ((batch : List Record) → P batch form ended text → Q batch form ended text) → AnswersValue P value form ended text → AnswersValue Q value form ended text
 answers-weaker P Q value form ended text to (inl x) = inl x
-answers-weaker P Q value form ended text to (inr x) = inr (record { batch = x.batch; plan_graph = x.plan_graph; is_batch = x.is_batch; holds = (x.holds.0, to x.batch x.holds.1) })
+answers-weaker P Q value form ended text to (inr x) = inr (record { batch = x.batch; shaped = x.shaped; is_batch = x.is_batch; holds = (x.holds.0, to x.batch x.holds.1) })
 
 module _ (second : List ℕ) (value : Data) (is : IsDocument second value) (form : Form) (ended : Ended) (text : List ℕ) (batch : List Record) where
   -- by a second document in memory as by its value

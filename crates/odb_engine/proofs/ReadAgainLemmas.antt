@@ -27,7 +27,7 @@ pub record AreReadings : Type 0 where
 -- a result is written of a value, and of a batch that is accepted
 value-done : (P : List Record → WritesIn) (Q : List Record → Type 0) (value : Data) (form : Form) (text : List ℕ) → ((batch : List Record) → P batch form Done text → Q batch) → AnswersValue P value form Done text → AcceptsValue value Q
 value-done P Q value form text so (inl x) = absurd (cc (x.ends))
-value-done P Q value form text so (inr x) = record { batch = x.batch; plan_graph = x.plan_graph; is_batch = x.is_batch; holds = (x.holds.0, so x.batch x.holds.1) }
+value-done P Q value form text so (inr x) = record { batch = x.batch; shaped = x.shaped; is_batch = x.is_batch; holds = (x.holds.0, so x.batch x.holds.1) }
 
 answers-done : (P : List Record → WritesIn) (Q : List Record → Type 0) (bytes text : List ℕ) (form : Form) → ((batch : List Record) → P batch form Done text → Q batch) → Answers P bytes form Done text → Accepts bytes Q
 answers-done P Q bytes text form so (inl x) = absurd (cc (x.ends))

@@ -101,7 +101,7 @@ module _ (law : AreReadings) (allows : Allowance) (policy : Policy) (traced : Bo
               let recordable = law.outcomes has.value entries (law.held whole has.value reads) (law.nests whole has.value reads) is.1 in
               record {
                 batch = x.batch;
-                plan_graph = x.plan_graph;
+                shaped = x.shaped;
                 is_batch = x.is_batch;
                 holds = (
                   x.holds.0,
@@ -117,7 +117,7 @@ module _ (law : AreReadings) (allows : Allowance) (policy : Policy) (traced : Bo
                       document = document;
                       holds = inr (record {
                         batch = x.batch;
-                        plan_graph = x.plan_graph;
+                        shaped = x.shaped;
                         is_batch = x.is_batch;
                         holds = (
                           x.holds.0,

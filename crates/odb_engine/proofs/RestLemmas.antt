@@ -89,7 +89,7 @@ least-answers P bytes form refusal (inr has) = inr (record { value = has.value; 
 
 -- what is written of a batch that is accepted
 pub accepted-answers : (P : List Record → WritesIn) (bytes : List ℕ) (value : Data) (batch : List Record) (form : Form) (ended : Ended) (text : List ℕ) → IsDocument bytes value → IsWellShaped value → IsBatchOf value batch → HasGoodNames batch → P batch form ended text → Answers P bytes form ended text
-accepted-answers P bytes value batch form ended text document shaped is good writes = inr (record { value = value; document = document; holds = inr (record { batch = batch; plan_graph = shaped; is_batch = is; holds = (good, writes) }) })
+accepted-answers P bytes value batch form ended text document shaped is good writes = inr (record { value = value; document = document; holds = inr (record { batch = batch; shaped = shaped; is_batch = is; holds = (good, writes) }) })
 
 -- the second reader was asked only after the first
 pub asked-after : {S : Type 0} (was_read : Type 0) (bytes : List ℕ) (old new : S) → was_read → (new ≡ old) ⊎ Accepts bytes (λ _. Unit {0}) → IsAskedFor was_read (Bytes bytes) old new

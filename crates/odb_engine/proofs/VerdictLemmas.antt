@@ -99,14 +99,14 @@ accepted some bytes none =
     ) in
     let batch = some value shaped in
     let good : HasGoodNames batch.0 = λ rule at broken. none (Names rule) at (has bytes value is (Names rule) at (λ early. omega (arith, early, later_phase rule)) (batch.0, batch.1, broken)) in
-    record { value = value; document = is; holds = record { batch = batch.0; plan_graph = shaped; is_batch = batch.1; holds = (good, tt) } }
+    record { value = value; document = is; holds = record { batch = batch.0; shaped = shaped; is_batch = batch.1; holds = (good, tt) } }
 
 unbroken : IsOneBatch → (bytes : List ℕ) → Accepts bytes (λ _. Unit {0}) → (rule : Rule) (at : ℕ) → ¬ Breaks bytes rule at
 unbroken one bytes is rule at broken = never rule (value_breaks bytes is.value rule at is.document broken)
   where
     never : (rule : Rule) → ¬ BreaksValue is.value rule at
-    never (Document rule) bad = is.holds.plan_graph.0 rule bad
-    never (Request rule) bad = is.holds.plan_graph.1 rule at bad
+    never (Document rule) bad = is.holds.shaped.0 rule bad
+    never (Request rule) bad = is.holds.shaped.1 rule at bad
     never (Names rule) bad = is.holds.holds.0 rule at (name_broken one is.value is.holds.batch rule at is.holds.is_batch bad)
 
 pub accepted-none : IsOneBatch → IsSomeBatch → (bytes : List ℕ) → Accepts bytes (λ _. Unit {0}) ↔ ((rule : Rule) (at : ℕ) → ¬ IsFirstFault bytes rule at)
@@ -127,7 +127,7 @@ module _ (one : IsOneBatch) (bytes : List ℕ) (value : Data) (document : IsDocu
   shape_head (fault ∷ rest) refusals bad are is = at fault refl ((are.exact fault).0 (Contains-head fault rest)) (shape_first value (fault ∷ rest) are)
     where
       never : ¬ Accepts bytes (λ _. Unit {0})
-      never so = bad (subst IsWellShaped (one_value bytes so.value value so.document document) so.holds.plan_graph)
+      never so = bad (subst IsWellShaped (one_value bytes so.value value so.document document) so.holds.shaped)
 
       at : (other : DocFault) → fault ≡ other → IsShapeFault value other → IsLeastFault fault value → HasLeast bytes refusals
       at (doc.Document rule) same shape least = headed bytes _ (filter_map document_row rest) refusals (is ∙ ap (λ f. filter_map document_row (f ∷ rest)) same) (inr (record { value = value; document = document; holds = inl (record { fault = fault; refuses = least; is = ap document_row same }) })) never
@@ -136,7 +136,7 @@ module _ (one : IsOneBatch) (bytes : List ℕ) (value : Data) (document : IsDocu
 
   name_head : (batch : List Record) (faults : List CheckFault) (refusals : List Printed) → IsWellShaped value → IsBatchOf value batch → AreNameFaults batch faults → refusals ≡ filter_map check_row faults → HasLeast bytes refusals
   name_head batch [] refusals shaped is_batch are is =
-      (subst (λ rs. IfSome (slice_get rs 0) (IsLeast bytes)) (sym is) tt, (λ none. record { value = value; document = document; holds = record { batch = batch; plan_graph = shaped; is_batch = is_batch; holds = ((name_none batch [] are).0 refl, tt) } }, λ so. is))
+      (subst (λ rs. IfSome (slice_get rs 0) (IsLeast bytes)) (sym is) tt, (λ none. record { value = value; document = document; holds = record { batch = batch; shaped = shaped; is_batch = is_batch; holds = ((name_none batch [] are).0 refl, tt) } }, λ so. is))
   name_head batch (fault ∷ rest) refusals shaped is_batch are is = at fault refl ((are.exact fault).0 (Contains-head fault rest)) (name_first batch (fault ∷ rest) are)
     where
       never : ¬ Accepts bytes (λ _. Unit {0})
@@ -148,12 +148,12 @@ module _ (one : IsOneBatch) (bytes : List ℕ) (value : Data) (document : IsDocu
       at : (other : CheckFault) → fault ≡ other → IsNameFault batch other → RefusesNames fault batch → HasLeast bytes refusals
       at (check.Request i rule) same name least =
           headed bytes _ (filter_map check_row rest) refusals (is ∙ ap (λ f. filter_map check_row (f ∷ rest)) same)
-          (inr (record { value = value; document = document; holds = inr (record { fault = fault; refuses = record { batch = batch; plan_graph = shaped; is_batch = is_batch; holds = least }; is = ap check_row same }) })) never
+          (inr (record { value = value; document = document; holds = inr (record { fault = fault; refuses = record { batch = batch; shaped = shaped; is_batch = is_batch; holds = least }; is = ap check_row same }) })) never
       at check.OutOfMemory same name least = absurd name
 
   value_head : (refusals : List Printed) → AreFaultsOf value refusals → HasLeast bytes refusals
   value_head refusals (inl (bad, found)) = shape_head found.faults refusals bad found.are found.is
-  value_head refusals (inr found) = name_head found.batch found.holds.faults refusals found.plan_graph found.is_batch found.holds.are found.holds.is
+  value_head refusals (inr found) = name_head found.batch found.holds.faults refusals found.shaped found.is_batch found.holds.are found.holds.is
 
 pub listed-least : IsOneBatch → (bytes : List ℕ) (refusals : List Printed) → AreFaultsIn bytes refusals → HasLeast bytes refusals
 listed-least one bytes refusals (inl alone) = headed bytes alone.refusal [] refusals alone.is (inl alone.refuses) (λ so. refused_no_value Batch bytes alone.refusal (λ value. AcceptsValue value (λ _. Unit {0})) alone.refuses so)

@@ -1,5 +1,5 @@
 -- All faults of a batch document as they are printed, and what is written of a document whose faults are all listed.
-use Rattle.std.specs.Prelude.{◌≡◌, ◌⊎◌, ℕ, List, [], ◌∷◌, Option, Result, Ok, Err}
+use Rattle.std.specs.Prelude.{◌≡◌, ◌⊎◌, ℕ, List, [], ◌∷◌, Option}
 use Rattle.std.specs.List.{filter_map}
 use Rattle.serde_json.specs.Data.{Data}
 use Rattle.odb_doc.specs.declared.fault.Place.TheVariants.{Batch}
@@ -11,13 +11,11 @@ use Rattle.odb_check.specs.AllNameFaults.{AreNameFaults}
 use Rattle.odb_check.specs.FaultTable.{check_row}
 use Rattle.odb_text.specs.Lines.{fault_lines}
 use Rattle.odb_text.specs.Results.{faults_value, json_line}
-use Rattle.odb_engine.specs.declared.answer.Answer.{Answer}
 use Rattle.odb_engine.specs.declared.ending.Ended.{Ended}
 use Rattle.odb_engine.specs.declared.ending.Ended.TheVariants.{Done, Refused}
 use Rattle.odb_engine.specs.declared.form.Form.{Form}
 use Rattle.odb_engine.specs.declared.form.Form.TheVariants.{Lines, Json}
-use Rattle.odb_engine.specs.declared.halt.Halt.{Halt}
-use Rattle.odb_engine.specs.Cascade.{Answers, HasBatch, HasValue, RefusesBytes, Writes, WritesIn}
+use Rattle.odb_engine.specs.Cascade.{Answers, HasBatch, HasValue, RefusesBytes, WritesIn}
 use Rattle.odb_engine.specs.Commands.{Counts}
 
 -- the list has what is printed of such faults
@@ -57,8 +55,3 @@ pub record PrintsFaults (bytes : List ℕ) (form : Form) (ended : Ended) (text :
 abbrev pub ChecksAll : List ℕ → WritesIn
 ChecksAll bytes form ended text =
     ((ended ≡ Done) × Answers Counts bytes form Done text) ⊎ (((line : List ℕ) × Answers Counts bytes form Refused line) × PrintsFaults bytes form ended text)
-
--- what is written of an answer, if there is one
-abbrev pub answer_found : Result Answer Halt → Writes
-answer_found (Ok answer) ended text = (ended ≡ answer.ended) × (text ≡ answer.text.items)
-answer_found (Err halt) ended text = ⊥

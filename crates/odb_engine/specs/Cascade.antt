@@ -69,7 +69,7 @@ IsLeastOf place Is bytes refusal = RefusesBytes place bytes refusal ⊎ HasValue
 -- the value has no fault of shape, and its requests have this property
 pub record HasBatch (value : Data) (P : List Record → Type 0) : Type 0 where
   pub batch : List Record
-  pub plan_graph : IsWellShaped value
+  pub shaped : IsWellShaped value
   pub is_batch : IsBatchOf value batch
   pub holds : P batch
 

@@ -21,5 +21,6 @@ pub mod Live
 pub mod Requests
 pub mod lines
 -- For invariants and private clauses.
+pub mod Answered
 pub mod LabelTables
 pub mod LiveRuns

@@ -64,22 +64,25 @@ pub record AreImpossible (strict : Bool) (batch : List Record) (statuses : List 
 abbrev pub WritesStatuses : Bool → List Record → List ℕ → WritesIn
 WritesStatuses strict batch statuses form ended text = Reports (AreImpossible strict batch statuses) form ended text ⊎ (IsAnswered strict batch statuses × Prints (match_text form batch statuses) ended text)
 
--- the responses fit the batch, and this is written of their statuses
-pub record WritesFit (strict : Bool) (batch : List Record) (entries : List Entry) (form : Form) (ended : Ended) (text : List ℕ) : Type 0 where
+-- the responses fit the batch, and this is written by the place and the status of the response to each request
+pub record WritesFit (W : List ℕ → List ℕ → WritesIn) (batch : List Record) (entries : List Entry) (form : Form) (ended : Ended) (text : List ℕ) : Type 0 where
   pub fits : Fits batch entries
   pub places : List ℕ
   pub statuses : List ℕ
   pub table : IsTableOf batch entries places statuses
-  pub writes : WritesStatuses strict batch statuses form ended text
+  pub writes : W places statuses form ended text
 
--- what is written of a batch and of responses
-abbrev pub MatchesEntries : Bool → List Record → List Entry → WritesIn
-MatchesEntries strict batch entries form ended text = Reports (Misfits batch entries) form ended text ⊎ WritesFit strict batch entries form ended text
+-- what is written of a batch and of responses: why they do not fit, or else this
+abbrev pub OfEntries : (List ℕ → List ℕ → WritesIn) → List Record → List Entry → WritesIn
+OfEntries W batch entries form ended text = Reports (Misfits batch entries) form ended text ⊎ WritesFit W batch entries form ended text
 
--- what is written of a batch and the value of a response document, by whether an error stops the service, and whether some
--- finished run has to answer the statuses
+-- what is written of a batch and the value of a response document, by whether an error stops the service
+abbrev pub OfResponses : (List ℕ → List ℕ → WritesIn) → Mode → List Record → Data → WritesIn
+OfResponses W mode batch value form ended text = Reports (IsFaultOfResponses value) form ended text ⊎ ((entries : List Entry) × Lists value entries × OfEntries W batch (decided mode batch entries) form ended text)
+
+-- what a match writes of these, by whether some finished run has to answer the statuses
 abbrev pub MatchesValue : Mode → Bool → List Record → Data → WritesIn
-MatchesValue mode strict batch value form ended text = Reports (IsFaultOfResponses value) form ended text ⊎ ((entries : List Entry) × Lists value entries × MatchesEntries strict batch (decided mode batch entries) form ended text)
+MatchesValue mode strict batch = OfResponses (λ places statuses. WritesStatuses strict batch statuses) mode batch
 
 -- the same of the bytes of a response document
 abbrev pub MatchesIn : Mode → Bool → List Record → List ℕ → WritesIn

@@ -7,8 +7,6 @@ use Rattle.odb_doc.specs.batch.Records.{Record}
 use Rattle.odb_doc.specs.Refusals.{Printed}
 use Rattle.odb_check.specs.Texts.{newline}
 use Rattle.odb_sched.specs.declared.policy.Mode.{Mode}
-use Rattle.odb_reply.specs.Fits.{Fits, IsTableOf}
-use Rattle.odb_reply.specs.ResponseDocuments.{Entry}
 use Rattle.odb_rest.specs.declared.fault.RestFault.{RestFault}
 use Rattle.odb_rest.specs.declared.rest.Rest.{Rest}
 use Rattle.odb_rest.specs.Faults.{RefusesRest, rest_row}
@@ -23,7 +21,7 @@ use Rattle.odb_engine.specs.declared.form.Form.{Form}
 use Rattle.odb_engine.specs.Cascade.{Answers, Reports, WritesIn}
 use Rattle.odb_engine.specs.Contents.{Given, OfGiven}
 use Rattle.odb_engine.specs.Contents.Given.{InMemory}
-use Rattle.odb_engine.specs.Matches.{IsFaultOfResponses, Lists, Misfits, decided}
+use Rattle.odb_engine.specs.Matches.{OfResponses}
 
 -- a request of the rest lacks a Location, and this is the first fault
 pub record LacksLocations (batch : List Record) (value : Data) (places statuses : List ℕ) (refusal : Printed) : Type 0 where
@@ -38,21 +36,13 @@ pub record PrintsRest (document : List ℕ) (batch : List Record) (value : Data)
   pub text_is : (d : Data) → IsBatchIn document d batch → IsTextOf document d batch rest text
   pub ends : ended ≡ Done
 
--- the responses fit the batch, and this is written of its rest
-pub record RestsFit (document : List ℕ) (batch : List Record) (value : Data) (entries : List Entry) (form : Form) (ended : Ended) (text : List ℕ) : Type 0 where
-  pub fits : Fits batch entries
-  pub places : List ℕ
-  pub statuses : List ℕ
-  pub table : IsTableOf batch entries places statuses
-  pub writes : Reports (LacksLocations batch value places statuses) form ended text ⊎ PrintsRest document batch value places statuses ended text
-
--- what is written of a batch and of responses
-abbrev pub RestsEntries : List ℕ → List Record → Data → List Entry → WritesIn
-RestsEntries document batch value entries form ended text = Reports (Misfits batch entries) form ended text ⊎ RestsFit document batch value entries form ended text
+-- what is written of the rest of a batch, by the place and the status of the response to each request
+abbrev pub WritesRest : List ℕ → List Record → Data → List ℕ → List ℕ → WritesIn
+WritesRest document batch value places statuses form ended text = Reports (LacksLocations batch value places statuses) form ended text ⊎ PrintsRest document batch value places statuses ended text
 
 -- what is written of the batch in a document and the value of a response document, by whether an error stops the service
 abbrev pub RestsValue : Mode → List ℕ → List Record → Data → WritesIn
-RestsValue mode document batch value form ended text = Reports (IsFaultOfResponses value) form ended text ⊎ ((entries : List Entry) × Lists value entries × RestsEntries document batch value (decided mode batch entries) form ended text)
+RestsValue mode document batch value = OfResponses (WritesRest document batch value) mode batch value
 
 -- the same of the response document that is given
 abbrev pub RestsBy : Mode → List ℕ → Given → List Record → WritesIn

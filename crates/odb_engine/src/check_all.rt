@@ -1,7 +1,8 @@
 //! A check that writes all faults of the batch in the document of a reader.
 
 ghost use Rattle.std.specs.Prelude.{◌≡◌, ◌↔◌, false, Err, IfOk, IsTrue};
-ghost use Rattle.odb_engine.specs.AllFaults.{ChecksAll, answer_found};
+ghost use Rattle.odb_engine.specs.AllFaults.{ChecksAll};
+ghost use Rattle.odb_engine.specs.Answered.{answer_found};
 ghost use Rattle.odb_engine.specs.Engines.{Ends};
 ghost use Rattle.odb_engine.specs.Inputs.{IsFresh, ReadsFew, SomeDocument};
 ghost use Rattle.odb_engine.specs.declared.halt.Halt.TheVariants as halts;

@@ -29,7 +29,7 @@ module _ (allows : Allowance) (policy : Policy) (outcomes events : List ℕ) whe
         document = again.document;
         holds = record {
           batch = batch.batch;
-          plan_graph = batch.plan_graph;
+          shaped = batch.shaped;
           is_batch = batch.is_batch;
           holds = (batch.holds.0, record { again = batch.holds.1; same = λ records. law.one bytes ended Done response _ ran (batch.holds.1.again events records) });
         };

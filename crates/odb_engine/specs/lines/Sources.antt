@@ -1,6 +1,6 @@
 -- What an input of lines shows: its reader, whether a read failed, and how often it was filled.
 use Rattle.std.specs.Prelude.{ℕ, Bool, List, Option}
-use Rattle.std.specs.Io.Buffered.{reader_buffer, reader_remaining}
+use Rattle.std.specs.Io.Buffered.{reader_remaining}
 use Rattle.std.specs.declared.alloc.Global.{Global}
 use Rattle.std.specs.declared.io.buffered.BufReader.{BufReader}
 
@@ -12,7 +12,3 @@ pub record LineReading (R : Type 0) : Type 0 where
 -- the bytes that it will still give, if the contract of its reader states them
 abbrev pub left : {R : Type 0} → (R → Option (List ℕ)) → LineReading R → Option (List ℕ)
 left remaining input = reader_remaining remaining input.reader
-
--- the bytes that were read and not yet taken
-abbrev pub ahead : {R : Type 0} → LineReading R → List ℕ
-ahead input = reader_buffer input.reader

@@ -1,5 +1,6 @@
 -- For private clauses: one step of the way through the lines.
 use Rattle.std.specs.Prelude.{◌≡◌, ◌≢◌, ℕ, List, [], ◌∷◌, ◌++◌, All, Option, Result, Ok, Err, OnOk, take}
+use Rattle.std.specs.Io.Buffered.{reader_buffer}
 use Rattle.std.specs.Io.KnownBytes.{Consumes}
 use Rattle.odb_check.specs.Texts.{newline}
 use Rattle.odb_io.specs.Devices.{Writing}
@@ -10,6 +11,11 @@ use Rattle.odb_engine.specs.declared.ending.EngineFault.TheVariants as faults
 use Rattle.odb_engine.specs.Cascade.{Writes}
 use Rattle.odb_engine.specs.Engines.{Ends}
 use Rattle.odb_engine.specs.Inputs.{most_read}
+use Rattle.odb_engine.specs.lines.Sources.{LineReading}
+
+-- the bytes of an input that were read and not yet taken
+abbrev pub ahead : {R : Type 0} → LineReading R → List ℕ
+ahead input = reader_buffer input.reader
 
 -- no newline is in it
 abbrev pub IsOpen : List ℕ → Type 0

@@ -5,8 +5,8 @@ ghost use Rattle.std.specs.Io.KnownBytes.{IsAtEnd, Keeps};
 ghost use Rattle.odb_engine.specs.declared.ending.EngineFault.TheVariants as faults;
 ghost use Rattle.odb_engine.specs.Inputs.{most_read};
 ghost use Rattle.odb_engine.specs.lines.Answers.{AnswersLines, OfAnyLine, both};
-ghost use Rattle.odb_engine.specs.lines.Sources.{ahead, left};
-ghost use Rattle.odb_engine.specs.lines.Steps.{Advances};
+ghost use Rattle.odb_engine.specs.lines.Sources.{left};
+ghost use Rattle.odb_engine.specs.lines.Steps.{Advances, ahead};
 
 use crate::ending::{Ended, EngineFault};
 use crate::lines::command::LineCommand;

@@ -2,7 +2,8 @@
 
 ghost use Rattle.std.specs.Prelude.{◌≡◌, ◌+◌, ◌^◌, ◌<◌, ◌≤◌, ◌↔◌, [], false, length, take, IfOk, IsErr, IsTrue, OnOk};
 ghost use Rattle.std.specs.Io.KnownBytes.{Consumes, IsAtEnd, Keeps};
-ghost use Rattle.odb_engine.specs.lines.Sources.{ahead, left};
+ghost use Rattle.odb_engine.specs.lines.Sources.{left};
+ghost use Rattle.odb_engine.specs.lines.Steps.{ahead};
 
 use odb_io::DeviceFault;
 use std::alloc::{AllocError, Global};

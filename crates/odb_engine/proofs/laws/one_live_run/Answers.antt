@@ -6,8 +6,8 @@ use Rattle.odb_engine.proofs.laws.one_live_run.Goals as goal
 pub returns : goal.returns
 returns c =
     let law : AreFunctional = record {
-      one_plan_graph = c.one_fault.ensures.one;
-      no_plan_graph = c.one_fault.ensures.none;
+      one_shape = c.one_fault.ensures.one;
+      no_shape = c.one_fault.ensures.none;
       one_batch = c.one_batch.ensures;
       one_name = c.one_fault-2.ensures.one;
       no_name = c.one_fault-2.ensures.none;

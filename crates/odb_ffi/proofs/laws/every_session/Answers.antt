@@ -68,7 +68,7 @@ returns c policy batch events first last calls opens session =
     let good = accepted.holds.0 in
     let lives = c.every_live_run.ensures in
     let checked = c.every_batch.ensures in
-    let order = checked.order opens.value requests accepted.plan_graph accepted.is_batch good in
+    let order = checked.order opens.value requests accepted.shaped accepted.is_batch good in
     let laws : AreLaws requests policy = record {
       positions = checked.positions requests good;
       graph = checked.plan_graph requests;
@@ -80,5 +80,5 @@ returns c policy batch events first last calls opens session =
     record {
       value = opens.value;
       document = opens.document;
-      holds = record { batch = requests; plan_graph = accepted.plan_graph; is_batch = accepted.is_batch; holds = (good, keeps requests policy laws events first last calls accepted.holds.1 session) };
+      holds = record { batch = requests; shaped = accepted.shaped; is_batch = accepted.is_batch; holds = (good, keeps requests policy laws events first last calls accepted.holds.1 session) };
     }

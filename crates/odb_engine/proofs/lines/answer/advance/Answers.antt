@@ -3,7 +3,8 @@ use Rattle.std.proofs.lemmas.List.{take_all}
 use Rattle.std.proofs.lemmas.Result.{err_from_is_err_and}
 use Rattle.std.specs.Io.KnownBytes.{Consumes}
 use Rattle.odb_check.specs.Texts.{newline}
-use Rattle.odb_engine.specs.lines.Sources.{ahead, left}
+use Rattle.odb_engine.specs.lines.Steps.{ahead}
+use Rattle.odb_engine.specs.lines.Sources.{left}
 use Rattle.odb_engine.specs.lines.Steps.Advances.{Holds, Lacks, Answers}
 use Rattle.odb_engine.proofs.ByteLemmas.{IsOpen-all, IsOpen-take, take-newline}
 use Rattle.odb_engine.proofs.lines.answer.advance.Goals as goal

@@ -1,7 +1,8 @@
 use Rattle.std.proofs.Common.{◌≤◌, ◌==◌, length, take, subst}
 use Rattle.std.specs.Io.Buffered.{reader_buffer, reader_capacity}
 use Rattle.std.specs.Io.KnownBytes.{Consumes}
-use Rattle.odb_engine.specs.lines.Sources.{LineReading, ahead, left}
+use Rattle.odb_engine.specs.lines.Steps.{ahead}
+use Rattle.odb_engine.specs.lines.Sources.{LineReading, left}
 use Rattle.odb_engine.proofs.ByteLemmas.{Consumes_ahead}
 use Rattle.odb_engine.proofs.lines.input.LineInput.take.Goals as goal
 
