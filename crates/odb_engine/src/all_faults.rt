@@ -12,6 +12,7 @@ use crate::command::text_in;
 use crate::disposal::DropOrLeak;
 use crate::ending::Ended;
 use crate::form::Form;
+use crate::halt::Halt;
 use crate::input::value_in;
 use crate::setup::Setup;
 use crate::task::Task;
