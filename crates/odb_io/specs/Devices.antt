@@ -7,9 +7,11 @@ pub record Reading (R : Type 0) : Type 0 where
   pub failed : Bool
   pub reads : ℕ
 
+-- `flushed` says that the writer was flushed, and nothing was put since
 pub record Writing (W : Type 0) : Type 0 where
   pub writer : W
   pub failed : Bool
+  pub flushed : Bool
 
 -- the writer has received a prefix of the text, and this is the rest
 pub record HasWritten (old new : Option (List ℕ)) (text rest : List ℕ) : Type 0 where

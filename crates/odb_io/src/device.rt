@@ -1,6 +1,6 @@
 //! Readers and writers that may fail, and a limit on the calls of a reader.
 
-ghost use Rattle.std.specs.Prelude.{◌≡◌, ◌+◌, ◌<◌, ◌≤◌, ◌↔◌, [], false, length, IsTrue, IsErr, IfOk, OnOk, OnErr};
+ghost use Rattle.std.specs.Prelude.{◌≡◌, ◌≢◌, ◌+◌, ◌<◌, ◌≤◌, ◌↔◌, [], true, false, length, IsTrue, IsErr, IfOk, OnOk, OnErr};
 ghost use Rattle.std.specs.Io.KnownBytes.{Appends, Keeps, ReadConsumes, WriteAppends};
 ghost use Rattle.odb_io.specs.Devices.{AppendsPrefix};
 
@@ -90,11 +90,12 @@ impl<R: Read> Input<R> {
     }
 }
 
-/// A writer that remembers whether a write failed.
+/// A writer that remembers whether a write failed, and whether it was flushed since the last one.
 #[derive(Drop)]
 pub struct Output<W> {
     writer: W,
     failed: bool,
+    flushed: bool,
 }
 
 impl<W> Model for Output<W> {
@@ -102,17 +103,18 @@ impl<W> Model for Output<W> {
 
     ghost Value = { Writing W };
 
-    ghost view = { λ output. record { writer = output.writer; failed = output.failed } };
+    ghost view = { λ output. record { writer = output.writer; failed = output.failed; flushed = output.flushed } };
 }
 
 impl<W: Write> Output<W> {
     /// Makes an output over the writer.
     pub fn new(writer: W) -> Self
-        ensures { result ≡ record { writer = writer; failed = false } }
+        ensures { result ≡ record { writer = writer; failed = false; flushed = false } }
     {
         Output {
             writer,
             failed: false,
+            flushed: false,
         }
     }
 
@@ -142,7 +144,9 @@ impl<W: Write> Output<W> {
         ensures progress { IfOk result (λ n. 0 < length bytes.now → 0 < n) }
         ensures bytes { WriteAppends (W.contents self.old.writer) (W.contents self.new.writer)
             result bytes.now }
+        ensures held { self.new.flushed ≡ false }
     {
+        self.flushed = false;
         match self.writer.write(bytes) {
             Ok(count) if count > 0 || bytes.is_empty() => Ok(count),
             _ => {
@@ -166,6 +170,7 @@ impl<W: Write> Output<W> {
         ensures empty { bytes.now ≡ [] → self.new ≡ self.old }
         ensures err { OnErr result (AppendsPrefix (W.contents self.old.writer)
             (W.contents self.new.writer) bytes.now) }
+        ensures held { bytes.now ≢ [] → self.new.flushed ≡ false }
     {
         let mut rest = bytes;
         while !rest.is_empty() {
@@ -188,11 +193,12 @@ impl<W: Write> Output<W> {
         ensures empty { text.now ≡ [] → self.new ≡ self.old }
         ensures err { OnErr result (AppendsPrefix (W.contents self.old.writer)
             (W.contents self.new.writer) text.now) }
+        ensures held { text.now ≢ [] → self.new.flushed ≡ false }
     {
         self.put_all(text.as_bytes())
     }
 
-    /// Passes on what the writer holds back.
+    /// Passes on what the writer holds back. If nothing was put since the last flush it does nothing.
     ///
     /// # Errors
     ///
@@ -201,11 +207,16 @@ impl<W: Write> Output<W> {
         requires { self.old.failed ≡ false }
         ensures fault { IsErr result ↔ IsTrue self.new.failed }
         ensures bytes { Keeps (W.contents self.old.writer) (W.contents self.new.writer) }
+        ensures flushed { OnOk result (self.new.flushed ≡ true) }
     {
+        if self.flushed {
+            return Ok(());
+        }
         self.failed = self.writer.flush().is_err();
         if self.failed {
             return Err(DeviceFault);
         }
+        self.flushed = true;
         Ok(())
     }
 }

@@ -9,7 +9,7 @@ pub document-of : (bytes : Bor (List ℕ)) (input : Reading (Bor (List ℕ))) (d
 document-of bytes input document is of = subst (λ (r : Reading (Bor (List ℕ))). IsDocumentOf r.reader.now document) is of
 
 -- the text that was written to an empty vector is what it holds
-pub text-in : (P : List ℕ → Type 0) (empty text : Vec ℕ Global) (old new : Writing (Vec ℕ Global)) → empty.items ≡ [] → old ≡ record { writer = empty; failed = false } → text ≡ new.writer
+pub text-in : (P : List ℕ → Type 0) (empty text : Vec ℕ Global) (old new : Writing (Vec ℕ Global)) → empty.items ≡ [] → old ≡ record { writer = empty; failed = false; flushed = false } → text ≡ new.writer
     → WritesText (Some old.writer.items) (Some new.writer.items) P → P text.items
 text-in P empty text old new none is taken w =
     let begun : old.writer.items ≡ [] = ap (λ (o : Writing (Vec ℕ Global)). o.writer.items) is ∙ none in

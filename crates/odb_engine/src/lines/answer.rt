@@ -45,6 +45,8 @@ fn look<R: Read, W: Write>(
     ensures more { result ≡ Ok true → ahead input.new ≢ [] }
     ensures fills { OnOk result (input.new.fills ≡ input.old.fills + 1) }
     ensures bound { OnOk result (input.new.fills < 2 ^ 64) }
+    ensures passed { OnOk result (ahead input.old ≡ [] → output.new.flushed ≡ true) }
+    ensures flushed { OnOk result (IsTrue flush → output.new.flushed ≡ true) }
 {
     if flush || input.ahead().is_empty() {
         output.flush()?;
