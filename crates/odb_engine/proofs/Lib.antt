@@ -28,3 +28,4 @@ mod EachLineLemmas
 mod EachLineLawLemmas
 mod FullPlanLemmas
 mod AllFaultLemmas
+mod LocatedLemmas

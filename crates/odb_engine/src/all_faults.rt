@@ -5,6 +5,9 @@ ghost use Rattle.std.specs.List.{filter_map};
 ghost use Rattle.serde_json.specs.View.{view};
 ghost use Rattle.odb_doc.specs.Refusals.{printed};
 ghost use Rattle.odb_engine.specs.AllFaults.{AreFaultsIn, AreFaultsOf, ChecksAll, PrintsFaults, faults_text};
+ghost use Rattle.odb_engine.specs.Cascade.{Answers};
+ghost use Rattle.odb_engine.specs.Commands.{Counts};
+ghost use Rattle.odb_engine.specs.Halts.{Found};
 
 use crate::answer::Answer;
 use crate::command::text_of;
@@ -118,6 +121,15 @@ fn faults_answer(alloc: Global, document: &[u8], setup: Setup) -> Result<Answer,
     })
 }
 
+/// Returns what [`Task::Check`] writes of a batch document in memory, or its least fault.
+pub(crate) fn counted(alloc: Global, document: &[u8], setup: Setup) -> Result<String, Halt>
+    ensures { Found (Answers Counts document.now) setup.form result }
+{
+    let (mut first, mut none): (_, &[u8]) = (document, &[]);
+    let mut task = Task::Check;
+    text_of(alloc, &mut first, &mut none, &mut task, setup)
+}
+
 /// Checks a batch document in memory: returns what [`Task::Check`] writes if it is accepted, and else all its
 /// faults, as [`faults_in`] lists them, in the form of the setup.
 ///
@@ -133,13 +145,8 @@ pub fn check_all_in_memory(
 ) -> Result<Answer, AllocError>
     ensures { IfOk result (λ answer. ChecksAll document.now setup.form answer.ended answer.text.items) }
 {
-    let (mut first, mut none): (_, &[u8]) = (document, &[]);
-    let mut task = Task::Check;
-    match text_of(alloc, &mut first, &mut none, &mut task, setup) {
-        Ok(text) => Ok(Answer {
-            ended: Ended::Done,
-            text: text.into_bytes(),
-        }),
+    match counted(alloc, document, setup) {
+        Ok(text) => Ok(Answer::done(text)),
         Err(Halt::Refused(_)) => faults_answer(alloc, document, setup),
         Err(_) => Err(AllocError),
     }
