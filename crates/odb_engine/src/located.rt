@@ -133,7 +133,15 @@ fn answer_of_work(
     match text_of_work(alloc, document, work, setup) {
         Ok(text) => Ok(Answer::done(text)),
         Err(Halt::Refused(refusal)) => {
-            locate(alloc, document, work.is_pair(), name, number, setup.form, refusal)
+            locate(
+                alloc,
+                document,
+                work.is_pair(),
+                name,
+                number,
+                setup.form,
+                refusal,
+            )
         }
         Err(_) => Err(AllocError),
     }
