@@ -1,5 +1,5 @@
 -- Faults with where they are, and what is written of two documents.
-use Rattle.std.proofs.Common.{◌≡◌, ◌∙◌, ◌<◌, ◌+◌, ℕ, Bool, true, false, List, [], ◌∷◌, ◌++◌, length, take, get_or, map, cond, Option, None, Some, Result, Ok, Err, option_map, string_bytes, inl, inr, refl, sym, ap, subst}
+use Rattle.std.proofs.Common.{◌≡◌, ◌∙◌, ◌↔◌, ◌<◌, ◌+◌, ℕ, Bool, true, false, List, [], ◌∷◌, ◌++◌, length, take, get_or, map, cond, Option, None, Some, Result, Ok, Err, option_map, string_bytes, inl, inr, refl, sym, ap, subst}
 use Rattle.std.specs.List.{All}
 use Rattle.std.proofs.lemmas.List.{map-append, take_more}
 use Rattle.std.proofs.lemmas.List.Elements.{All-nil, All-append, All-cons}
@@ -22,12 +22,13 @@ use Rattle.odb_doc.specs.batch.Records.{Record}
 use Rattle.odb_engine.specs.declared.ending.Ended.{Ended}
 use Rattle.odb_engine.specs.declared.ending.Ended.TheVariants.{Done, Refused}
 use Rattle.odb_engine.specs.declared.form.Form.{Form}
+use Rattle.odb_engine.specs.declared.halt.Halt.{Halt}
 use Rattle.odb_engine.specs.declared.halt.Halt.TheVariants as halts
 use Rattle.odb_engine.specs.Cascade.{Answers, IsLeast, IsLeastOfBatch, WritesIn, at_place}
 use Rattle.odb_engine.specs.Forms.{fault_text}
 use Rattle.odb_engine.specs.Halts.{Found}
 use Rattle.odb_engine.specs.Located.{AreLocated, HasPosition, IsInEither, Locates, LocatesEither, LocatesFault, LocatesFound}
-use Rattle.odb_engine.proofs.EngineLemmas.{FoundText}
+use Rattle.odb_engine.proofs.EngineLemmas.{FoundText, halt_in}
 use Rattle.odb_engine.proofs.RestLemmas.{least-answers}
 
 -- one more fault that is located
@@ -114,3 +115,10 @@ locates-found P form batch_name batch second_name second (Ok found) so ended tex
 locates-found P form batch_name batch second_name second (Err (halts.Refused refusal)) so ended text is = locates-fault P form batch_name batch second_name second (printed refusal) ended text so is
 locates-found P form batch_name batch second_name second (Err halts.Read) so ended text none = absurd none
 locates-found P form batch_name batch second_name second (Err halts.OutOfMemory) so ended text none = absurd none
+
+-- the same halt of results of two types
+pub same-halt : {A B : Type 0} (halt : Halt) (first : Result A Halt) (other : Result B Halt) (Failed : Type 0) → first ≡ Err halt → other ≡ Err halt → ((first ≡ Err halts.Read) ↔ Failed) → ((other ≡ Err halts.Read) ↔ Failed)
+same-halt halt first other Failed is same read = (
+  λ e. let read_halt : halt ≡ halts.Read = sym (ap halt_in same) ∙ ap halt_in e in read.0 (subst (λ (h : Halt). first ≡ Err h) read_halt is),
+  λ f. let read_halt : halt ≡ halts.Read = sym (ap halt_in is) ∙ ap halt_in (read.1 f) in subst (λ (h : Halt). other ≡ Err h) read_halt same,
+)
