@@ -77,6 +77,8 @@ def test_results_and_second_documents(program, recorded):
 def test_results_of_damaged_batches(program, batch):
     look_at_result(program, "counts", "check", batch)
     look_at_result(program, "counts", "check --all", batch)
+    look_at_result(program, "counts", "check --where", batch)
+    look_at_result(program, "counts", "check --all --where", batch)
     look_at_result(program, "plan", "plan", batch)
     look_at_result(program, "full_plan", "plan --full", batch)
 

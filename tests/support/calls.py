@@ -8,11 +8,12 @@ from dataclasses import dataclass
 
 from hypothesis import strategies as st
 
-from . import rules_of_runs, strategies
+from . import positions, rules_of_runs, strategies
 from .pages import OF_BATCHES
 from .strategies import chance, of
 
 SECONDS = 60
+NAMES = ("document0", "document1")
 ALONE = ("check", "plan", "canon")
 
 # The options of each command, and how often each is given. Those of logs are left to test_lines.py.
@@ -20,28 +21,29 @@ ORDERS = ("first", "last", "wide")
 VALUES = {
     "all": chance(60), "json": chance(30), "quiet": chance(10), "full": chance(40), "dot": chance(40),
     "trace": chance(60), "stop": chance(30), "strict": chance(60), "width": of(*5 * [None], 1, 1, 2, 3, 10_000),
-    "order": of(None, *ORDERS),
+    "order": of(None, *ORDERS), "where": chance(30),
 }  # fmt: skip
 OPTIONS = {
-    **dict.fromkeys(OF_BATCHES, ("json", "quiet")),
-    "check": ("all", "json", "quiet"),
-    "plan": ("json", "quiet", "full", "dot"),
-    "match": ("json", "quiet", "stop", "strict"),
-    "replay": ("json", "quiet", "stop", "width", "trace", "order"),
-    "run": ("json", "quiet", "stop", "width"),
-    "rest": ("json", "quiet", "stop"),
+    **dict.fromkeys(OF_BATCHES, ("json", "where", "quiet")),
+    "check": ("all", "json", "where", "quiet"),
+    "plan": ("json", "where", "quiet", "full", "dot"),
+    "match": ("json", "where", "quiet", "stop", "strict"),
+    "replay": ("json", "where", "quiet", "stop", "width", "trace", "order"),
+    "run": ("json", "where", "quiet", "stop", "width"),
+    "rest": ("json", "where", "quiet", "stop"),
 }
 OF_LOGS = {"lines", "flush", "number"}
 
 
 def call(program, words, documents=(), given=b""):
-    """What the program prints, on standard error too, and its exit status; the paths of the documents come last."""
+    """What the program prints, on standard error too, and its exit status; the documents come last, as NAMES."""
+    names = NAMES[: len(documents)]
     with tempfile.TemporaryDirectory(prefix="documents-") as folder:
-        paths = [os.path.join(folder, f"document{k}") for k in range(len(documents))]
-        for path, data in zip(paths, documents):
-            with open(path, "wb") as file:
+        for name, data in zip(names, documents):
+            with open(os.path.join(folder, name), "wb") as file:
                 file.write(data)
-        done = subprocess.run([program, *words, *paths], input=given, capture_output=True, timeout=SECONDS)
+        arguments = [os.path.abspath(program), *words, *names]
+        done = subprocess.run(arguments, input=given, capture_output=True, timeout=SECONDS, cwd=folder)
     return done.stdout + done.stderr, done.returncode
 
 
@@ -83,13 +85,18 @@ class Trial:
 
     def by_rules(self):
         """What the rules print, and the exit status."""
-        options = {name: value for name, value in self.options.items() if name != "quiet"}
+        options = {name: value for name, value in self.options.items() if name not in ("quiet", "where")}
         text, status = rules_of_runs.printed(self.command, *self.documents, **options)
+        if "where" in self.options and status == 1:
+            names = ("<stdin>",) if self.by_input else NAMES
+            text = positions.located(text.decode(), self.documents, names).encode()
         return b"" if "quiet" in self.options else text, status
 
     def by_program(self, program):
         words = [self.command, *words_of(self.options)]
-        return call(program, words, given=self.documents[0]) if self.by_input else call(program, words, self.documents)
+        given, documents = (self.documents[0], ()) if self.by_input else (b"", self.documents)
+        text, status = call(program, words, documents, given)
+        return positions.without_first_bytes(text) if "where" in self.options else text, status
 
 
 @st.composite
@@ -97,7 +104,7 @@ def options_of(draw, *names):
     """Some of these options."""
     drawn = {name: draw(VALUES[name]) for name in names}
     if drawn.get("dot"):
-        del drawn["json"], drawn["full"]
+        del drawn["json"], drawn["full"], drawn["where"]
     return {name: value for name, value in drawn.items() if value}
 
 

@@ -11,8 +11,8 @@ LONG = "x" * 400
 WRITE_AS_THEY_GO = ("replay", "run")
 # The documents of examples/ that the trials read.
 COPIED = (
-    "batch_usual.json", "batch_wrong_body.json", "outcomes_lent.json", "outcomes_not_lent.json", "responses_busy.json",
-    "responses_stopped.json",
+    "batch_many_faults.json", "batch_usual.json", "batch_wrong_body.json", "outcomes_lent.json", "outcomes_not_lent.json",
+    "responses_busy.json", "responses_stopped.json",
 )  # fmt: skip
 USUAL_EVENTS = [
     {"start": "book"},
@@ -152,6 +152,11 @@ def trials():
         trial("match batch_usual.json outcomes_lent.json", 1),
         trial("match batch_usual.json responses_stopped.json --stop"),
         trial("match batch_usual.json responses_usual.json --strict"),
+        trial("check --where batch_wrong_body.json", 1),
+        trial("check --all --where batch_many_faults.json", 1),
+        trial("match batch_usual.json outcomes_lent.json --where --json", 1),
+        trial("rest batch_usual.json outcomes_lent.json --where", 1),
+        trial("rest batch_usual.json responses_busy.json --where"),
         trial("rest batch_usual.json responses_busy.json"),
         trial("rest batch_usual.json outcomes_lent.json -q", 1),
         trial("run batch_usual.json events_usual.json"),
@@ -160,6 +165,7 @@ def trials():
         trial("check --lines -q log.jsonl", 1),
         trial("plan --lines log.jsonl", 1),
         trial("plan --full --lines log.jsonl", 1),
+        trial("check --all --lines --where --number log.jsonl", 1),
         trial("replay --lines pairs.jsonl --order wide --json", 1),
         trial("match --lines --flush pairs.jsonl", 1),
         trial("explain NotWhole"),

@@ -1,11 +1,10 @@
 -- What the program writes of a line of a log.
-use Rattle.std.specs.Prelude.{ℕ, List}
-use Rattle.odb_engine.specs.AllFaults.{ChecksAll}
+use Rattle.std.specs.Prelude.{ℕ, List, Option, None, Some}
 use Rattle.odb_engine.specs.Cascade.{WritesIn}
-use Rattle.odb_engine.specs.FullPlans.{OfWork}
-use Rattle.odb_batch.specs.declared.command_line.LineWork.{LineWork}
-use Rattle.odb_batch.specs.declared.command_line.LineWork.TheVariants as works
+use Rattle.odb_engine.specs.declared.lines.work.LineWork.{LineWork}
+use Rattle.odb_engine.specs.Located.{LocatesWork, OfLineWork}
 
-abbrev pub OfLineWork : LineWork → List ℕ → WritesIn
-OfLineWork (works.Work work) line = OfWork work line
-OfLineWork works.CheckAll line = ChecksAll line
+-- what a work writes of a line, with where its faults are in the log of this name, if there is one
+abbrev pub OfLine : Option (List ℕ) → LineWork → List ℕ → WritesIn
+OfLine None work line = OfLineWork work line
+OfLine (Some name) work line form ended text = (number : ℕ) × LocatesWork work name (Some number) line form ended text

@@ -3,7 +3,7 @@
 use crate::names;
 use crate::parser::program;
 use clap::{ArgMatches, Error};
-use odb_engine::{Form, Task, Work};
+use odb_engine::{Form, LineWork, Task, Work};
 use odb_sched::{MAX_WIDTH, Mode, Order, Policy};
 use std::alloc::{AllocError, Global};
 
@@ -16,6 +16,17 @@ pub enum Origin<'a> {
     File(&'a str),
 }
 
+impl<'a> Origin<'a> {
+    /// Returns its name in front of a fault: the path as it was given.
+    pub fn name(self) -> &'a str {
+        match self {
+            Origin::Nowhere => "",
+            Origin::StandardInput => "<stdin>",
+            Origin::File(path) => path,
+        }
+    }
+}
+
 /// What a command does on its documents.
 #[derive(Clone, Copy)]
 pub enum Action {
@@ -25,14 +36,6 @@ pub enum Action {
     CheckAll,
     /// Write the rest of a batch, by whether an error stops the service.
     Rest(Mode),
-}
-
-/// What is done on each line of a log.
-#[derive(Clone, Copy)]
-pub enum LineWork {
-    Work(Work),
-    /// Check it and write all its faults.
-    CheckAll,
 }
 
 /// How a log is answered.
@@ -56,6 +59,8 @@ pub struct Job<'a> {
     pub second: Origin<'a>,
     /// The form in which a result or a fault is printed.
     pub form: Form,
+    /// Whether each fault is printed with where it is in its document.
+    pub located: bool,
     /// Whether nothing is printed: only the exit status reports it.
     pub quiet: bool,
     /// How a log is answered, if something is done on each of its lines.
@@ -241,6 +246,7 @@ fn job_of<'a>(args: &ArgMatches<'a>, action: Action) -> Result<Job<'a>, BadArgum
             Some(_) => Origin::Nowhere,
         },
         form: form_of(args, action),
+        located: args.get_flag(names::WHERE),
         quiet: args.get_flag(names::QUIET),
         log,
     };

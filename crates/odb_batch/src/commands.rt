@@ -102,7 +102,7 @@ const ALL: Argument = Argument {
 
 const DOT: Argument = Argument {
     id: names::DOT,
-    kind: Kind::FlagWithout(&[names::JSON, names::LINES]),
+    kind: Kind::FlagWithout(&[names::JSON, names::LINES, names::WHERE]),
     help: "Print the plan as a drawing, in the language DOT of Graphviz",
 };
 
@@ -171,6 +171,12 @@ const NUMBER: Argument = Argument {
     help: "Print the number of its line with each fault, counted from 1",
 };
 
+const WHERE: Argument = Argument {
+    id: names::WHERE,
+    kind: Kind::Flag,
+    help: "Print FILE:LINE:COLUMN: before each fault; with --json its line, its column and its offset",
+};
+
 const QUIET: Argument = Argument {
     id: names::QUIET,
     kind: Kind::ShortFlag('q'),
@@ -202,7 +208,7 @@ const CHECK: Row = Row {
     notes: "Example: odb_batch check batch.json\n\n\
         Exit status: 0 for a batch that is accepted, 1 for one with a fault, 2 for wrong arguments, \
         3 if a file or the output fails, 4 if out of memory",
-    arguments: &[FILE, ALL, JSON, LINES, FLUSH, NUMBER, QUIET],
+    arguments: &[FILE, ALL, JSON, LINES, FLUSH, NUMBER, WHERE, QUIET],
 };
 
 const PLAN: Row = Row {
@@ -212,7 +218,7 @@ const PLAN: Row = Row {
     notes: "Example: odb_batch plan batch.json\n\n\
         Exit status: 0 for a plan, 1 for a fault of the batch, 2 for wrong arguments, \
         3 if a file or the output fails, 4 if out of memory",
-    arguments: &[FILE, JSON, FULL, DOT, LINES, FLUSH, NUMBER, QUIET],
+    arguments: &[FILE, JSON, FULL, DOT, LINES, FLUSH, NUMBER, WHERE, QUIET],
 };
 
 const CANON: Row = Row {
@@ -222,7 +228,7 @@ const CANON: Row = Row {
     notes: "Example: odb_batch canon batch.json\n\n\
         Exit status: 0 for a text, 1 for a fault of the batch or a number that is not whole, \
         2 for wrong arguments, 3 if a file or the output fails, 4 if out of memory",
-    arguments: &[FILE, FAULT, LINES, FLUSH, NUMBER, QUIET],
+    arguments: &[FILE, FAULT, LINES, FLUSH, NUMBER, WHERE, QUIET],
 };
 
 const REPLAY: Row = Row {
@@ -234,7 +240,7 @@ const REPLAY: Row = Row {
         Exit status: 0 for a response, 1 for a fault of a document or a request without an outcome, \
         2 for wrong arguments, 3 if a file or the output fails, 4 if out of memory",
     arguments: &[
-        BATCH, OUTCOMES, ORDER, STOP, WIDTH, TRACE, FAULT, PAIRS, FLUSH, NUMBER, QUIET,
+        BATCH, OUTCOMES, ORDER, STOP, WIDTH, TRACE, FAULT, PAIRS, FLUSH, NUMBER, WHERE, QUIET,
     ],
 };
 
@@ -247,7 +253,7 @@ const MATCH: Row = Row {
         Exit status: 0 for responses that fit, 1 for a fault of a document or responses that do not fit, \
         2 for wrong arguments, 3 if a file or the output fails, 4 if out of memory",
     arguments: &[
-        BATCH, RESPONSES, LEFT_OUT, STRICT, JSON, PAIRS, FLUSH, NUMBER, QUIET,
+        BATCH, RESPONSES, LEFT_OUT, STRICT, JSON, PAIRS, FLUSH, NUMBER, WHERE, QUIET,
     ],
 };
 
@@ -260,7 +266,7 @@ const RUN: Row = Row {
         Exit status: 0 for a response, 1 for a fault of a document, an event that may not come or an \
         unfinished run, 2 for wrong arguments, 3 if a file or the output fails, 4 if out of memory",
     arguments: &[
-        BATCH, EVENTS, STOP, WIDTH, FAULT, PAIRS, FLUSH, NUMBER, QUIET,
+        BATCH, EVENTS, STOP, WIDTH, FAULT, PAIRS, FLUSH, NUMBER, WHERE, QUIET,
     ],
 };
 
@@ -271,7 +277,7 @@ const REST: Row = Row {
     notes: "Example: odb_batch rest batch.json responses.json\n\n\
         Exit status: 0 for a batch, which may be empty, 1 for a fault of a document, responses that do not fit or \
         a reference without a Location, 2 for wrong arguments, 3 if a file or the output fails, 4 if out of memory",
-    arguments: &[BATCH_ALONE, RESPONSES_ALONE, LEFT_OUT, FAULT, QUIET],
+    arguments: &[BATCH_ALONE, RESPONSES_ALONE, LEFT_OUT, FAULT, WHERE, QUIET],
 };
 
 pub const EXPLAIN: Row = Row {

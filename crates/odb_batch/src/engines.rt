@@ -1,13 +1,19 @@
 //! The commands over documents: each opens its files and does its task.
 
+ghost use Rattle.std.specs.Prelude.{◌≡◌, false};
+ghost use Rattle.odb_engine.specs.Inputs.{IsFresh};
+
 use crate::command_line::{Action, Job};
 use crate::devices::{open, writer_of};
 use crate::ending::{Status, finish};
 use odb_check::Seed;
 use odb_engine::{
-    Disposal, Form, Setup, Work, answer_task, check_all_batch, full_plan_batch, rest_batch,
+    Disposal, Ended, EngineFault, Form, LineWork, Names, PairWork, Setup, Work, answer_task,
+    check_all_batch, full_plan_batch, locate_batch, locate_pair, rest_batch,
 };
 use odb_io::{Input, Output};
+use std::alloc::Global;
+use std::io::{Read, Write};
 use std::rt::Runtime;
 
 /// What a command needs to know of its process: the seed, and which streams are terminals.
@@ -33,6 +39,58 @@ impl Environment {
     }
 }
 
+/// Does a job on its documents, and writes each fault with where it is.
+fn locate<I: Read, S: Read, W: Write>(
+    alloc: Global,
+    setup: Setup,
+    job: Job<'_>,
+    first: &mut Input<I>,
+    second: &mut Input<S>,
+    output: &mut Output<W>,
+) -> Result<Ended, EngineFault>
+    requires first { IsFresh first.old }
+    requires second { IsFresh second.old }
+    requires output { output.old.failed ≡ false }
+{
+    let name = job.first.name();
+    let work = match job.action {
+        Action::Rest(mode) => PairWork::Rest(mode),
+        Action::Work(Work::Task(task)) if task.takes_second() => PairWork::Task(task),
+        Action::Work(work) => {
+            return locate_batch(alloc, first, output, name, LineWork::Work(work), setup);
+        }
+        Action::CheckAll => {
+            return locate_batch(alloc, first, output, name, LineWork::CheckAll, setup);
+        }
+    };
+    let names = Names {
+        batch: name,
+        second: job.second.name(),
+    };
+    locate_pair(alloc, first, second, output, names, work, setup)
+}
+
+/// Does a job on its documents.
+fn answer<I: Read, S: Read, W: Write>(
+    alloc: Global,
+    setup: Setup,
+    job: Job<'_>,
+    first: &mut Input<I>,
+    second: &mut Input<S>,
+    output: &mut Output<W>,
+) -> Result<Ended, EngineFault>
+    requires first { IsFresh first.old }
+    requires second { IsFresh second.old }
+    requires output { output.old.failed ≡ false }
+{
+    match job.action {
+        Action::Work(Work::Task(task)) => answer_task(alloc, first, second, output, task, setup),
+        Action::CheckAll => check_all_batch(alloc, first, output, setup),
+        Action::Work(Work::FullPlan) => full_plan_batch(alloc, first, output, setup),
+        Action::Rest(mode) => rest_batch(alloc, first, second, output, mode, setup),
+    }
+}
+
 /// Does a job on its documents. All files are opened before one is read.
 pub fn answer_documents<R: Runtime + AllocGlobal>(
     rt: &R,
@@ -50,15 +108,10 @@ pub fn answer_documents<R: Runtime + AllocGlobal>(
     let (alloc, setup) = (rt.alloc(), environment.setup(job.form));
     let (mut first, mut second) = (Input::new(first), Input::new(second));
     let mut output = Output::new(writer_of(rt, job.quiet));
-    let ended = match job.action {
-        Action::Work(Work::Task(task)) => {
-            answer_task(alloc, &mut first, &mut second, &mut output, task, setup)
-        }
-        Action::CheckAll => check_all_batch(alloc, &mut first, &mut output, setup),
-        Action::Work(Work::FullPlan) => full_plan_batch(alloc, &mut first, &mut output, setup),
-        Action::Rest(mode) => {
-            rest_batch(alloc, &mut first, &mut second, &mut output, mode, setup)
-        }
+    let ended = if job.located {
+        locate(alloc, setup, job, &mut first, &mut second, &mut output)
+    } else {
+        answer(alloc, setup, job, &mut first, &mut second, &mut output)
     };
     finish(rt, ended)
 }

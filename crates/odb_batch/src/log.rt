@@ -8,7 +8,7 @@ use crate::ending::{Status, finish, out_of_memory};
 use crate::engines::Environment;
 use crate::numbered::NumberedLines;
 use crate::progress::Watched;
-use odb_engine::{Disposal, Ended, EngineFault, Form, LineCommand, LineInput, Setup, answer_lines};
+use odb_engine::{Disposal, Ended, EngineFault, LineCommand, LineInput, Setup, answer_lines};
 use odb_io::Output;
 use std::alloc::Global;
 use std::io::{BufWriter, Read, Write};
@@ -18,12 +18,17 @@ use std::rt::Runtime;
 const BUFFER_BYTES: usize = 65_536;
 
 /// Returns the command on each line of a log. It frees the memory of a line before the next one.
-fn command_of(environment: Environment, form: Form, options: LogOptions) -> NumberedLines {
+fn command_of<'n>(
+    environment: Environment,
+    job: Job<'n>,
+    options: LogOptions,
+) -> NumberedLines<'n> {
     let setup = Setup {
         disposal: Disposal::Drop,
-        ..environment.setup(form)
+        ..environment.setup(job.form)
     };
-    NumberedLines::new(options.work, setup, options.numbered)
+    let located = job.located.then_some(job.first.name());
+    NumberedLines::new(options.work, setup, options.numbered, located)
 }
 
 /// Answers each line of a reader, and flushes the output at the end.
@@ -59,13 +64,13 @@ fn answer_watched<R: Runtime + AllocGlobal, I: Read + Drop, W: Write>(
     let flush = options.flush || environment.stdout_is_terminal;
     let is_alone = environment.stderr_is_terminal && !environment.stdout_is_terminal;
     if is_alone && !job.quiet {
-        if let Ok(watched) = Watched::new(rt, command_of(environment, job.form, options)) {
+        if let Ok(watched) = Watched::new(rt, command_of(environment, job, options)) {
             let ended = answer(rt.alloc(), reader, output, &watched, flush);
             watched.end();
             return ended;
         }
     }
-    let command = command_of(environment, job.form, options);
+    let command = command_of(environment, job, options);
     answer(rt.alloc(), reader, output, &command, flush)
 }
 

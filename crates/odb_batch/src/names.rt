@@ -62,6 +62,8 @@ pub const FLUSH: &str = "flush";
 
 pub const NUMBER: &str = "number";
 
+pub const WHERE: &str = "where";
+
 pub const QUIET: &str = "quiet";
 
 pub const FIRST: &str = "first";

@@ -1,8 +1,8 @@
-//! The command on each line of a log, which can number the faults.
+//! The command on each line of a log, which can number the faults, and print where they are.
 
-use crate::command_line::LineWork;
 use odb_engine::{
-    Answer, Ended, EngineFault, Form, LineCommand, Setup, answer_line, check_all_in_memory,
+    Answer, Ended, EngineFault, Form, LineCommand, LineWork, Setup, answer_line, answer_located,
+    check_all_in_memory,
 };
 use odb_io::Output;
 use std::alloc::{AllocError, Global};
@@ -11,28 +11,33 @@ use std::io::Write;
 
 /// What is done on each line, which may print the number of the line with a fault.
 #[derive(Drop)]
-pub struct NumberedLines {
+pub struct NumberedLines<'n> {
     work: LineWork,
     setup: Setup,
     /// Whether each fault has the number of its line.
     numbered: bool,
+    /// The name of the log, if each fault is printed with where it is.
+    located: Option<&'n str>,
     /// How many lines were answered.
-    count: Cell<u64>,
+    count: Cell<usize>,
 }
 
-/// Returns the text of a fault with the number of its line: in front of its words, or as a member `line`
-/// beside the member `fault`.
+/// Returns the text of a fault with the number of its line: in front of its words, which begin at `start`, or as a
+/// member `line` beside the member `fault`.
 fn with_number(
     alloc: Global,
     form: Form,
-    number: u64,
+    number: usize,
+    start: usize,
     fault: &[u8],
 ) -> Result<Vec<u8>, AllocError> {
     let mut text = Vec::new(alloc);
     match form {
         Form::Lines => {
+            let start = start.min(fault.len());
+            text.extend_from_slice(&fault[..start])?;
             text.extend_from_slice(format!(in alloc; "{number} ")?.as_bytes())?;
-            text.extend_from_slice(fault)?;
+            text.extend_from_slice(&fault[start..])?;
         }
         Form::Json => {
             let end = fault.len().saturating_sub("}\n".len());
@@ -43,25 +48,39 @@ fn with_number(
     Ok(text)
 }
 
-impl NumberedLines {
-    ghost use Rattle.std.specs.Prelude.{IfOk};
-    ghost use Rattle.odb_batch.specs.LineWorks.{OfLineWork};
+/// Returns where the words of a fault begin that is printed with where it is: after the first blank that follows the
+/// name of the log.
+fn words_start(name: &str, fault: &[u8]) -> usize {
+    let after = name.len().min(fault.len());
+    match fault[after..].iter().position(|byte| *byte == b' ') {
+        Some(at) => after.saturating_add(at).saturating_add(1),
+        None => 0,
+    }
+}
+
+impl<'n> NumberedLines<'n> {
+    ghost use Rattle.std.specs.Prelude.{IfOk, option_map};
+    ghost use Rattle.odb_batch.specs.LineWorks.{OfLine};
 
     /// Makes the command, before the first line.
-    pub fn new(work: LineWork, setup: Setup, numbered: bool) -> Self {
+    pub fn new(work: LineWork, setup: Setup, numbered: bool, located: Option<&'n str>) -> Self {
         NumberedLines {
             work,
             setup,
             numbered,
+            located,
             count: Cell::new(0),
         }
     }
 
-    /// Returns what is written of a line.
-    fn answer_of(&self, alloc: Global, line: &[u8]) -> Result<Answer, AllocError>
-        ensures { IfOk result (λ answer. OfLineWork self.now.work line.now self.now.setup.form answer.ended
-            answer.text.items) }
+    /// Returns what is written of the line with this number.
+    fn answer_of(&self, alloc: Global, number: usize, line: &[u8]) -> Result<Answer, AllocError>
+        ensures { IfOk result (λ answer. OfLine (option_map (λ name. name.now) self.now.located)
+            self.now.work line.now self.now.setup.form answer.ended answer.text.items) }
     {
+        if let Some(name) = self.located {
+            return answer_located(alloc, line, name, Some(number), self.work, self.setup);
+        }
         match self.work {
             LineWork::Work(work) => answer_line(alloc, line, work, self.setup),
             LineWork::CheckAll => check_all_in_memory(alloc, line, self.setup),
@@ -69,21 +88,21 @@ impl NumberedLines {
     }
 
     /// Returns the number of the next line, counted from 1.
-    fn next(&self) -> u64 {
+    fn next(&self) -> usize {
         let number = self.count.get().wrapping_add(1);
         self.count.set(number);
         number
     }
 }
 
-impl LineCommand for NumberedLines {
-    ghost use Rattle.std.specs.Prelude.{◌≡◌, ◌⊎◌, true};
+impl<'n> LineCommand for NumberedLines<'n> {
+    ghost use Rattle.std.specs.Prelude.{◌≡◌, ◌⊎◌, option_map, true};
     ghost use Rattle.odb_engine.specs.declared.ending.Ended.TheVariants.{Refused};
-    ghost use Rattle.odb_batch.specs.LineWorks.{OfLineWork};
+    ghost use Rattle.odb_batch.specs.LineWorks.{OfLine};
 
     // What is written of the line, unless a fault is to be numbered.
     ghost writes = { λ self line ended text. ((self.numbered ≡ true) × (ended ≡ Refused))
-        ⊎ OfLineWork self.work line self.setup.form ended text };
+        ⊎ OfLine (option_map (λ name. name.now) self.located) self.work line self.setup.form ended text };
 
     fn answer<W: Write>(
         &self,
@@ -92,10 +111,14 @@ impl LineCommand for NumberedLines {
         output: &mut Output<W>,
     ) -> Result<Ended, EngineFault> {
         let number = self.next();
-        let answer = self.answer_of(alloc, line)?;
+        let answer = self.answer_of(alloc, number, line)?;
         match answer.ended {
             Ended::Refused if self.numbered => {
-                let text = with_number(alloc, self.setup.form, number, &answer.text)?;
+                let start = match self.located {
+                    Some(name) => words_start(name, &answer.text),
+                    None => 0,
+                };
+                let text = with_number(alloc, self.setup.form, number, start, &answer.text)?;
                 output.put_all(&text)?;
                 Ok(Ended::Refused)
             }

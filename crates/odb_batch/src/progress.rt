@@ -1,8 +1,8 @@
 //! Shows the progress of a log on standard error.
 
-ghost use Rattle.std.specs.Prelude.{◌≡◌, ◌⊎◌, true};
+ghost use Rattle.std.specs.Prelude.{◌≡◌, ◌⊎◌, option_map, true};
 ghost use Rattle.odb_engine.specs.declared.ending.Ended.TheVariants.{Refused};
-ghost use Rattle.odb_batch.specs.LineWorks.{OfLineWork};
+ghost use Rattle.odb_batch.specs.LineWorks.{OfLine};
 
 use crate::numbered::NumberedLines;
 use odb_engine::{Ended, EngineFault, LineCommand};
@@ -24,22 +24,22 @@ struct Counts {
 
 /// A command on each line that shows its progress once a second, in one line that it overwrites.
 #[derive(Drop)]
-pub struct Watched<'r, R> {
+pub struct Watched<'r, 'n, R> {
     rt: &'r R,
-    command: NumberedLines,
+    command: NumberedLines<'n>,
     begun: Instant,
     /// The second that was shown last, counted from the start.
     shown: Cell<u64>,
     counts: Cell<Counts>,
 }
 
-impl<'r, R: Runtime> Watched<'r, R> {
+impl<'r, 'n, R: Runtime> Watched<'r, 'n, R> {
     /// Makes a command that shows its progress, counted from now.
     ///
     /// # Errors
     ///
     /// If the clock cannot be read.
-    pub fn new(rt: &'r R, command: NumberedLines) -> io::Result<Self> {
+    pub fn new(rt: &'r R, command: NumberedLines<'n>) -> io::Result<Self> {
         let counts = Counts {
             lines: 0,
             refused: 0,
@@ -101,9 +101,9 @@ impl<'r, R: Runtime> Watched<'r, R> {
     }
 }
 
-impl<'r, R: Runtime> LineCommand for Watched<'r, R> {
+impl<'r, 'n, R: Runtime> LineCommand for Watched<'r, 'n, R> {
     ghost writes = { λ self line ended text. ((self.command.numbered ≡ true) × (ended ≡ Refused))
-        ⊎ OfLineWork self.command.work line self.command.setup.form ended text };
+        ⊎ OfLine (option_map (λ name. name.now) self.command.located) self.command.work line self.command.setup.form ended text };
 
     fn answer<W: Write>(
         &self,

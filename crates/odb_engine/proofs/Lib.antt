@@ -30,3 +30,4 @@ mod FullPlanLemmas
 mod AllFaultLemmas
 mod FirstFaultLemmas
 mod VerdictLemmas
+mod LocatedLemmas

@@ -16,6 +16,7 @@ pub mod Rests
 pub mod Contents
 pub mod Tasks
 pub mod FullPlans
+pub mod Located
 pub mod Labels
 pub mod Live
 pub mod Requests

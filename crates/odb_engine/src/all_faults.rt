@@ -6,9 +6,12 @@ ghost use Rattle.serde_json.specs.View.{view};
 ghost use Rattle.odb_doc.specs.Refusals.{printed};
 ghost use Rattle.odb_engine.specs.declared.ending.Ended.TheVariants as ends;
 ghost use Rattle.odb_engine.specs.AllFaults.{AreFaultsIn, AreFaultsOf, ChecksAll, faults_text};
+ghost use Rattle.odb_engine.specs.Cascade.{Answers};
+ghost use Rattle.odb_engine.specs.Commands.{Counts};
+ghost use Rattle.odb_engine.specs.Halts.{Found};
 
 use crate::answer::Answer;
-use crate::command::text_in;
+use crate::command::{text_in, text_of};
 use crate::disposal::DropOrLeak;
 use crate::ending::Ended;
 use crate::form::Form;
@@ -116,6 +119,15 @@ fn faults_answer(alloc: Global, form: Form, refusals: &[Refusal]) -> Result<Answ
         ended: Ended::Refused,
         text: text.into_bytes(),
     })
+}
+
+/// Returns what [`Task::Check`] writes of a batch document in memory, or its least fault.
+pub(crate) fn counted(alloc: Global, document: &[u8], setup: Setup) -> Result<String, Halt>
+    ensures { Found (Answers Counts document.now) setup.form result }
+{
+    let (mut first, mut none): (_, &[u8]) = (document, &[]);
+    let mut task = Task::Check;
+    text_of(alloc, &mut first, &mut none, &mut task, setup)
 }
 
 /// Checks a batch document in memory: returns what [`Task::Check`] writes if it is accepted, and else all its

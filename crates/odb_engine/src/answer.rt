@@ -1,8 +1,9 @@
 //! What a command writes, in memory.
 
-ghost use Rattle.std.specs.Prelude.{◌≡◌, ◌≤◌, ◌++◌, ◌↔◌, true, false, length, drop, IfOk, IsTrue};
+ghost use Rattle.std.specs.Prelude.{◌≡◌, ◌≤◌, ◌++◌, ◌↔◌, true, false, length, drop, IfOk, IsTrue, string_bytes};
 ghost use Rattle.odb_engine.specs.Cascade.{Answers};
 ghost use Rattle.odb_engine.specs.Contents.Given.{InMemory};
+ghost use Rattle.odb_engine.specs.declared.ending.Ended.TheVariants.{Done};
 ghost use Rattle.odb_engine.specs.FullPlans.{OfWork};
 ghost use Rattle.odb_engine.specs.Halts.{text_found};
 ghost use Rattle.odb_engine.specs.Tasks.{OfTask};
@@ -42,6 +43,17 @@ impl Answer {
             ended,
             text: text.into_bytes(),
         })
+    }
+
+    /// Returns the answer of a command that writes this text as its result.
+    pub(crate) fn done(text: String) -> Self
+        ensures ended { result.ended ≡ Done }
+        ensures text { result.text.items ≡ string_bytes text }
+    {
+        Answer {
+            ended: Ended::Done,
+            text: text.into_bytes(),
+        }
     }
 
     /// Copies the text to the start of a buffer, if it fits, and returns whether it does. The rest of the

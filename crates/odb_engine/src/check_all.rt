@@ -18,7 +18,7 @@ use std::alloc::Global;
 use std::io::{Read, Write};
 
 /// Writes an answer, and returns how the engine ended.
-fn put_answer<W: Write>(
+pub(crate) fn put_answer<W: Write>(
     found: Result<Answer, Halt>,
     output: &mut Output<W>,
 ) -> Result<Ended, EngineFault>

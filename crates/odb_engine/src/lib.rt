@@ -16,7 +16,8 @@
 //! does an [`EachLine`] on each line of an input. `live` opens a run that its caller drives, and
 //! [`requests_in`] returns what is to be sent of each request, and [`rest_in`] what may be sent again of a batch.
 //! [`full_plan_batch`] and [`rest_batch`] are commands over readers that need the bytes of the batch, so they are no tasks;
-//! nor is [`check_all_batch`], which writes all faults that [`faults_in`] lists.
+//! nor is [`check_all_batch`], which writes all faults that [`faults_in`] lists. [`answer_located`], [`locate_batch`] and
+//! [`locate_pair`] do the same works, and report each fault with where it is in its document.
 #![tactic(auto)]
 
 mod all_faults;
@@ -35,6 +36,7 @@ mod labels;
 pub mod laws;
 pub mod lines;
 mod live;
+mod located;
 mod match_responses;
 mod plan;
 mod replay;
@@ -58,8 +60,9 @@ pub use form::Form;
 pub use full_plan::full_plan_batch;
 pub use halt::Halt;
 pub use input::value_in;
-pub use lines::{EachLine, LineCommand, LineInput, Work, answer_lines};
+pub use lines::{EachLine, LineCommand, LineInput, LineWork, Work, answer_lines};
 pub use live::{LiveRun, open_run};
+pub use located::{Names, PairWork, answer_located, locate_batch, locate_pair};
 pub use match_responses::match_batch;
 pub use plan::plan_batch;
 pub use replay::replay_batch;

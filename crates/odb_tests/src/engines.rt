@@ -14,6 +14,7 @@ mod devices;
 mod disposal;
 mod failures;
 mod full_plans;
+mod located;
 mod rests;
 
 use odb_check::Seed;

@@ -13,13 +13,11 @@ use Rattle.odb_check.specs.Levels.{level_at}
 use Rattle.odb_check.specs.Needs.{needs_at}
 use Rattle.odb_check.specs.Positions.{group_at}
 use Rattle.odb_check.proofs.BelowLemmas.{length-list_below}
-use Rattle.odb_text.specs.Lines.{id_text, place_text, status_line}
+use Rattle.odb_text.specs.Lines.{id_text, status_line}
 use Rattle.odb_text.specs.Results.{fault_value, json_line, counts_value, matched, need_values, planned}
-use Rattle.odb_text.specs.ResultParts.{element, group_part, id_part, string_part}
+use Rattle.odb_text.specs.ResultParts.{element, fault_part, group_part, id_part, string_part}
 
-pub fault-parts : (refusal : Printed)
-    → string_part (codes "{\"fault\":{\"code\":") refusal.code ++ (string_part (codes ",\"name\":") refusal.name ++ (string_part (codes ",\"place\":") (place_text refusal.place) ++ codes "}}\n"))
-    ≡ json_line (fault_value refusal)
+pub fault-parts : (refusal : Printed) → codes "{\"fault\":{" ++ (fault_part refusal ++ codes "}}\n") ≡ json_line (fault_value refusal)
 unfolding serde_json_on_literals
 fault-parts refusal = simp append_assoc
 

@@ -6,10 +6,12 @@ use Rattle.odb_check.specs.Positions.{id_at}
 use Rattle.odb_check.specs.Texts.{newline}
 use Rattle.odb_sched.specs.run.State.{State}
 use Rattle.odb_reply.specs.Responses.{response_text}
-use Rattle.odb_doc.specs.Refusals.{Printed}
+use Rattle.odb_doc.specs.Refusals.{Printed, printed}
 use Rattle.odb_doc.specs.batch.Records.{Record}
 use Rattle.odb_doc.specs.declared.fault.Place.{Place}
 use Rattle.odb_doc.specs.declared.fault.Place.TheVariants.{Batch, Request, Outcomes, Outcome, Responses, Response, Events, Event}
+use Rattle.odb_spans.specs.declared.position.Position.{Position}
+use Rattle.odb_text.specs.declared.located.Located.{Located}
 
 abbrev pub place_text : Place → List ℕ
 place_text Batch = codes "batch"
@@ -29,6 +31,28 @@ fault_line code name place = codes "fault " ++ code ++ codes " " ++ name ++ code
 abbrev pub fault_lines : List Printed → List ℕ
 fault_lines [] = []
 fault_lines (refusal ∷ refusals) = fault_line refusal.code refusal.name refusal.place ++ fault_lines refusals
+
+-- `NAME:LINE:COLUMN: `, in the document of this name
+abbrev pub position_text : List ℕ → Position → List ℕ
+position_text name position = name ++ codes ":" ++ decimal position.line ++ codes ":" ++ decimal position.column ++ codes ": "
+
+-- what is printed of a fault, and where it is in its document
+pub record PrintedAt : Type 0 where
+  pub refusal : Printed
+  pub position : Position
+
+-- what is printed of a located fault
+abbrev pub printed_at : Located → PrintedAt
+printed_at located = record { refusal = printed located.refusal; position = located.position }
+
+-- `NAME:LINE:COLUMN: fault CODE NAME PLACE`, in the document of this name
+abbrev pub located_line : List ℕ → PrintedAt → List ℕ
+located_line name fault = position_text name fault.position ++ fault_line fault.refusal.code fault.refusal.name fault.refusal.place
+
+-- a line for each fault
+abbrev pub located_lines : List ℕ → List PrintedAt → List ℕ
+located_lines name [] = []
+located_lines name (fault ∷ faults) = located_line name fault ++ located_lines name faults
 
 -- `ok N requests M groups`
 abbrev pub accepted_line : ℕ → ℕ → List ℕ

@@ -7,9 +7,10 @@ use Rattle.odb_doc.specs.Headers.{Header}
 use Rattle.odb_doc.specs.Refusals.{Printed}
 use Rattle.odb_doc.specs.batch.Records.{Record}
 use Rattle.odb_doc.specs.canonical.Canonical.{header_members}
+use Rattle.odb_spans.specs.declared.position.Position.{Position}
 use Rattle.odb_spans.specs.declared.span.Span.{Span}
 use Rattle.odb_send.specs.Parts.{url_rest}
-use Rattle.odb_text.specs.Lines.{place_text}
+use Rattle.odb_text.specs.Lines.{PrintedAt, place_text}
 
 -- a piece, and then the text of a string
 abbrev pub string_part : List ℕ → List ℕ → List ℕ
@@ -46,10 +47,21 @@ reference_part (Some id) = string_part (codes ",\"reference\":") id
 abbrev pub url_part : Record → List ℕ
 url_part r = reference_part r.reference ++ (string_part (codes ",\"rest\":") (url_rest r) ++ (string_part (codes ",\"url\":") r.url ++ codes "}"))
 
+-- the members `code`, `name` and `place` of a fault
+abbrev pub fault_part : Printed → List ℕ
+fault_part refusal = string_part (codes "\"code\":") refusal.code ++ (string_part (codes ",\"name\":") refusal.name ++ string_part (codes ",\"place\":") (place_text refusal.place))
+
+-- the members `line`, `column` and `offset` of a fault, each with a comma first
+abbrev pub position_part : Position → List ℕ
+position_part position = codes ",\"line\":" ++ (decimal position.line ++ (codes ",\"column\":" ++ (decimal position.column ++ (codes ",\"offset\":" ++ decimal position.offset))))
+
 -- a fault of a list, with a comma first if one comes before it
 abbrev pub listed_part : Bool → Printed → List ℕ
-listed_part later refusal =
-    comma_if later ++ (string_part (codes "{\"code\":") refusal.code ++ (string_part (codes ",\"name\":") refusal.name ++ (string_part (codes ",\"place\":") (place_text refusal.place) ++ codes "}")))
+listed_part later refusal = comma_if later ++ (codes "{" ++ (fault_part refusal ++ codes "}"))
+
+-- the same with where it is
+abbrev pub located_part : Bool → PrintedAt → List ℕ
+located_part later fault = comma_if later ++ (codes "{" ++ (fault_part fault.refusal ++ (position_part fault.position ++ codes "}")))
 
 -- the element of an array at a position, with a comma first unless it is the first one
 unfoldable pub element : (ℕ → Data) → ℕ → List ℕ

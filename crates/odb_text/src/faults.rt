@@ -6,14 +6,18 @@ ghost use Rattle.odb_text.specs.Lines as lines;
 ghost use Rattle.odb_text.specs.ResultParts.{listed_part};
 ghost use Rattle.odb_text.specs.Results.{faults_value, json_line};
 
-use crate::lines::{fault_line, place_text};
-use crate::results::push_string;
+use crate::lines::fault_line;
+use crate::results::push_fault;
 use odb_doc::Refusal;
 use odb_doc::text::push_if;
 use std::alloc::{AllocError, Global};
 
 /// Appends the line of a fault.
-fn push_line(alloc: Global, text: &mut String, refusal: Refusal) -> Result<(), AllocError>
+pub(crate) fn push_fault_line(
+    alloc: Global,
+    text: &mut String,
+    refusal: Refusal,
+) -> Result<(), AllocError>
     ensures { OnOk result (string_bytes text.new ≡ string_bytes text.old
         ++ lines.fault_line refusal.code.now refusal.name.now refusal.place) }
 {
@@ -31,7 +35,7 @@ pub fn fault_lines(alloc: Global, refusals: &[Refusal]) -> Result<String, AllocE
 {
     let mut text = String::new(alloc);
     for refusal in refusals {
-        push_line(alloc, &mut text, *refusal)?;
+        push_fault_line(alloc, &mut text, *refusal)?;
     }
     Ok(text)
 }
@@ -46,11 +50,9 @@ fn push_listed(
     ensures { OnOk result (string_bytes text.new ≡ string_bytes text.old
         ++ listed_part later (printed refusal)) }
 {
-    let place = place_text(alloc, refusal.place)?;
     push_if(text, later, ",")?;
-    push_string(alloc, text, "{\"code\":", refusal.code)?;
-    push_string(alloc, text, ",\"name\":", refusal.name)?;
-    push_string(alloc, text, ",\"place\":", place.as_str())?;
+    text.push_str("{")?;
+    push_fault(alloc, text, refusal)?;
     text.push_str("}")
 }
 

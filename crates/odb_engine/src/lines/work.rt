@@ -1,9 +1,10 @@
 //! What is done on each line: a task, or the full plan.
 
-ghost use Rattle.std.specs.Prelude.{◌≢◌, Err};
+ghost use Rattle.std.specs.Prelude.{◌≡◌, ◌≢◌, Err};
 ghost use Rattle.odb_engine.specs.declared.halt.Halt.TheVariants as halts;
 ghost use Rattle.odb_engine.specs.FullPlans.{OfWork};
 ghost use Rattle.odb_engine.specs.Halts.{Found};
+ghost use Rattle.odb_engine.specs.Located.{is_pair};
 
 use crate::ending::{Ended, EngineFault, end};
 use crate::full_plan::full_plan_text;
@@ -23,6 +24,27 @@ pub enum Work {
     Task(Task),
     /// Write the plan with what is to be sent of each request, and where its body is in the line.
     FullPlan,
+}
+
+impl Work {
+    /// Returns whether it is done on an array of two documents.
+    pub fn is_pair(self) -> bool
+        ensures { result ≡ is_pair self }
+    {
+        match self {
+            Work::Task(task) => task.takes_second(),
+            Work::FullPlan => false,
+        }
+    }
+}
+
+/// What is done on each line of a log, or on one document.
+#[derive(Clone, Copy, Debug)]
+pub enum LineWork {
+    /// A work.
+    Work(Work),
+    /// Check a batch, and write all its faults.
+    CheckAll,
 }
 
 /// Returns what is written of a line. The line may be any bytes; they are not copied.

@@ -1,0 +1,150 @@
+-- What is written of documents whose faults are reported with where they are: a result as it is, and a fault with the position
+-- that odb_spans finds for its place.
+use Rattle.std.specs.Prelude.{◌≡◌, ◌⊎◌, ℕ, List, Bool, true, false, Option, Some, None, Result, Ok, Err, String, string_bytes, if◌then◌else◌, map}
+use Rattle.std.specs.declared.alloc.Global.{Global}
+use Rattle.std.specs.List.{All}
+use Rattle.odb_doc.specs.declared.fault.Place.{Place}
+use Rattle.odb_doc.specs.Refusals.{Printed, printed}
+use Rattle.odb_doc.specs.batch.Records.{Record}
+use Rattle.odb_spans.specs.declared.position.Position.{Position}
+use Rattle.odb_spans.specs.Positions.{Stands, StandsInPair, is_in_batch}
+use Rattle.odb_text.specs.Lines.{PrintedAt, located_line, located_lines}
+use Rattle.odb_text.specs.Results.{all_located_value, json_line, located_value}
+use Rattle.odb_engine.specs.declared.ending.Ended.{Ended}
+use Rattle.odb_engine.specs.declared.ending.Ended.TheVariants.{Done, Refused}
+use Rattle.odb_engine.specs.declared.form.Form.{Form}
+use Rattle.odb_engine.specs.declared.form.Form.TheVariants.{Lines, Json}
+use Rattle.odb_engine.specs.declared.halt.Halt.{Halt}
+use Rattle.odb_engine.specs.declared.halt.Halt.TheVariants as halts
+use Rattle.odb_engine.specs.declared.lines.work.LineWork.{LineWork}
+use Rattle.odb_engine.specs.declared.lines.work.LineWork.TheVariants as line_works
+use Rattle.odb_engine.specs.declared.lines.work.Work.{Work}
+use Rattle.odb_engine.specs.declared.lines.work.Work.TheVariants as works
+use Rattle.odb_engine.specs.declared.located.pair.PairWork.{PairWork}
+use Rattle.odb_engine.specs.declared.located.pair.PairWork.TheVariants as pair_works
+use Rattle.odb_engine.specs.AllFaults.{AreFaultsIn, ChecksAll}
+use Rattle.odb_engine.specs.Cascade.{Answers, Prints, Writes, WritesIn}
+use Rattle.odb_engine.specs.Commands.{Counts}
+use Rattle.odb_engine.specs.Contents.Given.{InMemory}
+use Rattle.odb_engine.specs.Forms.{fault_text}
+use Rattle.odb_engine.specs.FullPlans.{OfWork}
+use Rattle.odb_engine.specs.Rests.{EndsLine, RestsIn}
+use Rattle.odb_engine.specs.Tasks.{OfTask, takes_second}
+
+-- what is printed of a fault with where it is, in the document of this name
+abbrev pub located_text : Form → List ℕ → PrintedAt → List ℕ
+located_text Lines name fault = located_line name fault
+located_text Json name fault = json_line (located_value fault)
+
+-- the same of several faults
+abbrev pub all_located_text : Form → List ℕ → List PrintedAt → List ℕ
+all_located_text Lines name faults = located_lines name faults
+all_located_text Json name faults = json_line (all_located_value faults)
+
+-- where a fault with this place is: in the document of this name, at this position
+abbrev pub Whereabouts : Type 1
+Whereabouts = Place → List ℕ → Position → Type 0
+
+-- the fault that a command reports is printed with where it is
+pub record ReportsAt (P : WritesIn) (IsAt : Whereabouts) (form : Form) (ended : Ended) (text : List ℕ) : Type 0 where
+  pub fault : PrintedAt
+  pub reported : P form Refused (fault_text form fault.refusal)
+  pub name : List ℕ
+  pub is_at : IsAt fault.refusal.place name fault.position
+  pub ends : ended ≡ Refused
+  pub prints : text ≡ located_text form name fault
+
+-- the result that a command writes, or its fault with where it is
+abbrev pub Locates : WritesIn → Whereabouts → WritesIn
+Locates P IsAt form ended text = ((ended ≡ Done) × P form Done text) ⊎ ReportsAt P IsAt form ended text
+
+-- a fault is printed with where it is, under this name
+pub record LocatesFault (IsAt : Position → Type 0) (form : Form) (name : List ℕ) (refusal : Printed) (ended : Ended) (text : List ℕ) : Type 0 where
+  pub position : Position
+  pub is_at : IsAt position
+  pub ends : ended ≡ Refused
+  pub prints : text ≡ located_text form name (record { refusal = refusal; position = position })
+
+-- ---- one document, or the line of a log
+
+-- a position in a line is printed with the number of the line in its log
+abbrev pub numbered : Option ℕ → Position → Position
+numbered None position = position
+numbered (Some number) position = record { line = number; column = position.column; offset = position.offset }
+
+-- a fault with this place is at this position in a document, or in an array of two documents
+abbrev pub StandsIn : Bool → List ℕ → Place → Position → Type 0
+StandsIn true = StandsInPair
+StandsIn false = Stands
+
+-- this position is printed of it
+pub record HasPosition (number : Option ℕ) (is_pair : Bool) (document : List ℕ) (place : Place) (position : Position) : Type 0 where
+  pub found : Position
+  pub stands : StandsIn is_pair document place found
+  pub is : position ≡ numbered number found
+
+-- it is in the document of this name
+abbrev pub IsInDocument : List ℕ → Option ℕ → Bool → List ℕ → Whereabouts
+IsInDocument name number is_pair document place shown position = (shown ≡ name) × HasPosition number is_pair document place position
+
+-- whether a work is done on an array of two documents
+abbrev pub is_pair : Work → Bool
+is_pair (works.Task task) = takes_second task
+is_pair works.FullPlan = false
+
+-- the faults are those, each with where it is in a document
+pub record AreLocated (number : Option ℕ) (document : List ℕ) (refusals : List Printed) (faults : List PrintedAt) : Type 0 where
+  pub are : map (λ fault. fault.refusal) faults ≡ refusals
+  pub positions : All (λ fault. HasPosition number false document fault.refusal.place fault.position) faults
+
+-- all faults of a document are printed with where they are
+pub record PrintsLocated (name : List ℕ) (number : Option ℕ) (document : List ℕ) (form : Form) (ended : Ended) (text : List ℕ) : Type 0 where
+  pub refusals : List Printed
+  pub all : AreFaultsIn document refusals
+  pub faults : List PrintedAt
+  pub located : AreLocated number document refusals faults
+  pub ends : ended ≡ Refused
+  pub prints : text ≡ all_located_text form name faults
+
+-- what a work writes of a document, or of a line
+abbrev pub OfLineWork : LineWork → List ℕ → WritesIn
+OfLineWork (line_works.Work work) document = OfWork work document
+OfLineWork line_works.CheckAll document = ChecksAll document
+
+-- the check of a batch writes its counts, or all its faults with where they are
+abbrev pub LocatesAll : List ℕ → Option ℕ → List ℕ → WritesIn
+LocatesAll name number document form ended text =
+    ((ended ≡ Done) × Answers Counts document form Done text) ⊎ (((line : List ℕ) × Answers Counts document form Refused line) × PrintsLocated name number document form ended text)
+
+-- what a work writes of a document, or of a line, with where the faults are
+abbrev pub LocatesWork : LineWork → List ℕ → Option ℕ → List ℕ → WritesIn
+LocatesWork (line_works.Work work) name number document = Locates (OfWork work document) (IsInDocument name number (is_pair work) document)
+LocatesWork line_works.CheckAll name number document = LocatesAll name number document
+
+-- ---- a batch document and a second document
+
+-- a fault is in the batch document if its place is there, and else in the second document
+abbrev pub IsInEither : List ℕ → List ℕ → List ℕ → List ℕ → Whereabouts
+IsInEither batch_name batch second_name second place name position =
+    (name ≡ (if is_in_batch place then batch_name else second_name)) × Stands (if is_in_batch place then batch else second) place position
+
+-- a fault of one of two documents is printed with where it is
+abbrev pub LocatesEither : Form → List ℕ → List ℕ → List ℕ → List ℕ → Printed → Writes
+LocatesEither form batch_name batch second_name second refusal =
+    LocatesFault (Stands (if is_in_batch refusal.place then batch else second) refusal.place) form (if is_in_batch refusal.place then batch_name else second_name) refusal
+
+-- what is written of what was found of two documents
+abbrev pub LocatesFound : Form → List ℕ → List ℕ → List ℕ → List ℕ → Result (String Global) Halt → Writes
+LocatesFound form batch_name batch second_name second (Ok found) ended text = Prints (string_bytes found) ended text
+LocatesFound form batch_name batch second_name second (Err (halts.Refused refusal)) ended text = LocatesEither form batch_name batch second_name second (printed refusal) ended text
+LocatesFound form batch_name batch second_name second (Err halts.Read) ended text = ⊥
+LocatesFound form batch_name batch second_name second (Err halts.OutOfMemory) ended text = ⊥
+
+-- what is written of the requests of a batch document by a second document
+abbrev pub OfPairWork : PairWork → List ℕ → List ℕ → List Record → WritesIn
+OfPairWork (pair_works.Task task) batch second requests = OfTask task (InMemory second) requests
+OfPairWork (pair_works.Rest mode) batch second requests = EndsLine (RestsIn mode batch second requests)
+
+-- what is written of both documents, with where a fault is
+abbrev pub LocatesPair : PairWork → List ℕ → List ℕ → List ℕ → List ℕ → WritesIn
+LocatesPair work batch_name batch second_name second = Locates (Answers (OfPairWork work batch second) batch) (IsInEither batch_name batch second_name second)
