@@ -6,5 +6,5 @@ use Rattle.odb_engine.specs.Located.{LocatesWork, OfLineWork}
 
 -- what a work writes of a line, with where its faults are in the log of this name, if there is one
 abbrev pub OfLine : Option (List ℕ) → LineWork → List ℕ → WritesIn
-OfLine None work line = OfLineWork work line
+OfLine None work line form ended text = OfLineWork work line form ended text
 OfLine (Some name) work line form ended text = (number : ℕ) × LocatesWork work name (Some number) line form ended text

@@ -4,6 +4,7 @@ ghost use Rattle.std.specs.Prelude.{◌≤◌, ◌<◌, length, IfOk, IfSome, On
 ghost use Rattle.serde_json.specs.Data.{Data};
 ghost use Rattle.odb_doc.specs.Documents.{IsJson};
 
+use crate::byte::Kind;
 use odb_doc::MAX_DOCUMENT_BYTES;
 use serde_json::Value;
 use std::alloc::{AllocError, Global};
@@ -28,6 +29,44 @@ fn bytes_before(document: &[u8], line: usize, column: usize) -> usize
     document.len().min(start.saturating_add(columns))
 }
 
+/// Returns where the last byte before a position is that is not a blank.
+fn last_before(document: &[u8], end: usize) -> Option<usize>
+    requires { end ≤ length document.now }
+    ensures { IfSome result (λ at. at < length document.now) }
+{
+    for back in 0..end {
+        let at = end - 1 - back;
+        if !matches!(Kind::of(document[at]), Kind::Blank) {
+            return Some(at);
+        }
+    }
+    None
+}
+
+/// Returns where a closing bracket is that cannot be there, if only blanks separate it from a position: the parser
+/// reports it there, where the next token begins.
+///
+/// # Errors
+///
+/// If memory for the value of the bytes up to it cannot be allocated.
+fn wrong_bracket(alloc: Global, document: &[u8], end: usize) -> Result<Option<usize>, AllocError>
+    requires { end ≤ length document.now }
+    ensures within { IfOk result (λ found. IfSome found (λ at. at ≤ length document.now)) }
+    ensures memory { OnErr result (0 < length document.now) }
+{
+    let Some(at) = last_before(document, end) else {
+        return Ok(None);
+    };
+    if !matches!(Kind::of(document[at]), Kind::Close) {
+        return Ok(None);
+    }
+    match Value::from_slice(alloc, &document[..at + 1]) {
+        Err(error) if error.is_memory() => Err(AllocError),
+        Err(error) if !error.is_eof() => Ok(Some(at)),
+        _ => Ok(None),
+    }
+}
+
 /// Returns where parsing a document fails, which is its end if it ends too soon. None for JSON, and for a
 /// document that is too large to be parsed.
 ///
@@ -50,7 +89,11 @@ pub(crate) fn fault_in(alloc: Global, document: &[u8]) -> Result<Option<usize>, 
             } else if error.is_eof() {
                 Ok(Some(document.len()))
             } else {
-                Ok(Some(bytes_before(document, error.line(), error.column())))
+                let at = bytes_before(document, error.line(), error.column());
+                match wrong_bracket(alloc, document, at)? {
+                    Some(bracket) => Ok(Some(bracket)),
+                    None => Ok(Some(at)),
+                }
             }
         }
     }
