@@ -76,18 +76,7 @@ build_over_proofs() {
         "$kit/bin/rattle" build "${words[@]}" --jobs 2 --incremental out/incremental --toolchain "$toolchain" -o "$out" "$@")
 }
 
-# Compiles the crate for aarch64 Linux, with the C library of Debian's cross compiler: compile_for_aarch64 OUT
-compile_for_aarch64() {
-    local toolchain status=0
-    toolchain=$(mktemp -d)
-    ln -s "$(dirname "$(rt doc)")/toolchain/bin" "$toolchain/bin"
-    ln -s /usr/aarch64-linux-gnu/lib "$toolchain/lib"
-    build_over_proofs "$toolchain" "$1" --target aarch64-unknown-linux-gnu || status=1
-    rm -r "$toolchain"
-    return $status
-}
-
-# Compiles the crate, for the least processor of x86-64, by a toolchain whose clang keeps the LLVM module: keep_module OUT
+# Lowers the crate, for the least processor of x86-64, by a toolchain whose clang keeps the LLVM module: keep_module OUT
 keep_module() {
     local kit toolchain status=0
     kit=$(dirname "$(rt doc)")
@@ -115,17 +104,18 @@ retarget() {
             -e '/^attributes/s/"\(probe-stack\|stack-probe-size\|target-cpu\)"="[^"]*"//g'
 }
 
-# Compiles an LLVM module for another system than Linux: compile_module MODULE TRIPLE OUT. For Windows the allocator is
+# Compiles an LLVM module for another system than x86-64 Linux: compile_module MODULE TRIPLE OUT. For Windows the allocator is
 # called as on Linux, with answers in two registers.
 compile_module() {
-    local text status=0
+    local text flags=(-O2 -fno-addrsig) status=0
     text=$(mktemp --suffix=.ll)
     retarget "$1" "$2" |
         case $2 in
             *windows*) sed 's/\(declare\|call\) \([^@]*@rattle_\(alloc\|realloc\|dealloc\)(\)/\1 x86_64_sysvcc \2/' ;;
             *) cat ;;
         esac >"$text"
-    "$(clang_of_kit)" --no-default-config --target="$2" -O2 -fno-addrsig -c -x ir "$text" -o "$3" || status=1
+    case $2 in *linux*) flags+=(-fPIC) ;; esac
+    "$(clang_of_kit)" --no-default-config --target="$2" "${flags[@]}" -c -x ir "$text" -o "$3" || status=1
     rm "$text"
     return $status
 }

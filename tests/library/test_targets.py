@@ -7,7 +7,7 @@ import shutil
 
 import pytest
 
-from support import cases, targets
+from support import cases, forked, targets
 from support.answers import RUNS
 from support.commands import run
 from support.embedding import ONE, STRICT, block
@@ -116,13 +116,17 @@ def tried(run, words):
     return [f"{run.name}: {line}" for line in found]
 
 
-def test_worked_cases_by_the_program(target, variables, monkeypatch):
+def test_worked_cases_by_the_program(target, variables, monkeypatch, tmp_path):
     """The cases that need no device: all that the program does is what they show."""
     expect_built(target, "odb_program")
-    words = [*target.runner, os.path.join(target.folder, target.program)]
+    program, runs = os.path.join(target.folder, target.program), targets.portable_cases(PAGES)
     for name, it in variables.items():
         monkeypatch.setenv(name, it)
-    runs = targets.portable_cases(PAGES)
-    wrong = [line for it in runs for line in tried(it, words)]
+    if target.runner[0] == "wine":
+        wrong = [line for it in runs for line in tried(it, [*target.runner, program])]
+    else:
+        compile_c(target, tmp_path / "forks.so", "gnu11", ["forks.c"], "-shared", "-fPIC")
+        (tmp_path / "cases").mkdir()
+        wrong = forked.tried(runs, target.runner, tmp_path / "forks.so", program, tmp_path / "cases")
     print(f"{len(runs)} cases")
     assert wrong == []

@@ -5,7 +5,7 @@ mod fish;
 mod zsh;
 
 use crate::argument::{Argument, Row};
-use crate::commands::{ROWS, SHOW_HELP, SHOW_VERSION};
+use crate::commands::{SHOW_HELP, SHOW_VERSION, rows};
 use crate::names;
 use crate::page::Page;
 
@@ -71,15 +71,20 @@ impl Cases {
         page.add(self.rest.2);
     }
 
+    /// Adds the cases of a command.
+    fn add_command(&self, page: &mut Page, row: &Row) {
+        for argument in row.arguments {
+            if argument.value().is_some() {
+                self.add_value(page, row, argument);
+            }
+        }
+        self.add_rest(page, row);
+    }
+
     /// Adds the cases of all commands.
     fn add(&self, page: &mut Page) {
-        for row in ROWS {
-            for argument in row.arguments {
-                if argument.value().is_some() {
-                    self.add_value(page, &row, argument);
-                }
-            }
-            self.add_rest(page, &row);
+        for row in rows() {
+            self.add_command(page, &row);
         }
     }
 }

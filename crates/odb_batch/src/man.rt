@@ -1,7 +1,7 @@
 //! The manual page, made of the rows of the commands.
 
 use crate::argument::{Argument, Kind, Row};
-use crate::commands::{PROGRAM_ABOUT, PROGRAM_NOTES, ROWS, SHOW_HELP, SHOW_VERSION};
+use crate::commands::{PROGRAM_ABOUT, PROGRAM_NOTES, SHOW_HELP, SHOW_VERSION, rows};
 use crate::page::Page;
 
 const HEAD: &str = ".TH ODB_BATCH 1\n\
@@ -87,7 +87,7 @@ pub fn add_page(page: &mut Page) {
     add_argument(page, &SHOW_HELP);
     add_argument(page, &SHOW_VERSION);
     page.add(COMMANDS);
-    for row in ROWS {
+    for row in rows() {
         add_command(page, &row);
     }
     page.add(".SH EXIT STATUS\n");

@@ -1,7 +1,7 @@
 //! The parser of the command line, as `clap` is given it.
 
 use crate::argument::{Argument, Kind, Row};
-use crate::commands::{PROGRAM_ABOUT, PROGRAM_NOTES, ROWS, VERSION};
+use crate::commands::{PROGRAM_ABOUT, PROGRAM_NOTES, VERSION, rows};
 use crate::names::LINES;
 use clap::{Arg, ArgAction, Command};
 use std::alloc::{AllocError, Global};
@@ -49,7 +49,7 @@ fn command_of<'a>(alloc: Global, row: Row) -> Result<Command<'a>, AllocError> {
 /// Returns the whole program.
 pub fn program<'a>(alloc: Global) -> Result<Command<'a>, AllocError> {
     let mut commands = Vec::new(alloc);
-    for row in ROWS {
+    for row in rows() {
         commands.push(command_of(alloc, row)?)?;
     }
     Command::new(alloc, "odb_batch")
@@ -62,7 +62,7 @@ pub fn program<'a>(alloc: Global) -> Result<Command<'a>, AllocError> {
 
 /// Returns the help of the command of this name, or of the program, as `--help` prints it.
 pub fn help_of(alloc: Global, name: Option<&str>) -> Result<String, AllocError> {
-    for row in ROWS {
+    for row in rows() {
         if name == Some(row.name) {
             return command_of(alloc, row)?.render_help();
         }

@@ -2,7 +2,7 @@
 //! word before.
 
 use super::{Cases, add_program_options};
-use crate::commands::ROWS;
+use crate::commands::rows;
 use crate::page::Page;
 
 const HEAD: &str =
@@ -29,7 +29,7 @@ const CASES: Cases = Cases {
 /// Adds the script.
 pub fn add_script(page: &mut Page) {
     page.add(HEAD);
-    for row in ROWS {
+    for row in rows() {
         page.add_all(&[" ", row.name]);
     }
     page.add("' options='");

@@ -2,7 +2,7 @@
 
 use super::add_quoted;
 use crate::argument::{Argument, Row};
-use crate::commands::{ROWS, SHOW_HELP, SHOW_VERSION};
+use crate::commands::{SHOW_HELP, SHOW_VERSION, rows};
 use crate::page::Page;
 
 const HEAD: &str =
@@ -62,11 +62,11 @@ pub fn add_script(page: &mut Page) {
     page.add(HEAD);
     add_option(page, None, &SHOW_HELP);
     add_option(page, None, &SHOW_VERSION);
-    for row in ROWS {
+    for row in rows() {
         page.add_all(&[FIRST, " -f -a ", row.name]);
         add_help(page, row.about);
     }
-    for row in ROWS {
+    for row in rows() {
         add_command(page, &row);
     }
 }

@@ -1,7 +1,7 @@
 //! Completions for zsh: a pattern for each command, over the command and the word before.
 
 use super::{Cases, add_program_options, add_quoted};
-use crate::commands::ROWS;
+use crate::commands::rows;
 use crate::page::Page;
 
 const HEAD: &str = "#compdef odb_batch\n\
@@ -47,7 +47,7 @@ const CASES: Cases = Cases {
 /// Adds the script.
 pub fn add_script(page: &mut Page) {
     page.add(HEAD);
-    for row in ROWS {
+    for row in rows() {
         page.add_all(&["        ", row.name, ":"]);
         add_quoted(page, row.about, "'\\''");
         page.add("\n");
