@@ -3,6 +3,7 @@
 ghost use Rattle.std.specs.Prelude.{◌≡◌, ◌≢◌, ◌⊎◌, ◌↔◌, false, Err, IfErr, IfOk, IsTrue};
 ghost use Rattle.serde_json.specs.Data.{Data};
 ghost use Rattle.odb_check.specs.Plans.{plan_records};
+ghost use Rattle.odb_check.specs.Seeds.{IsSeeded};
 ghost use Rattle.odb_doc.specs.batch.Batches.{records};
 ghost use Rattle.odb_doc.specs.Refusals.{printed};
 ghost use Rattle.odb_send.specs.Parts.{IsBatchIn};
@@ -66,7 +67,8 @@ fn rest_text(
     mode: Mode,
     setup: Setup,
 ) -> Result<String, Halt>
-    requires { (d : Data) × IsBatchIn document.now d (plan_records plan.now) }
+    requires document { (d : Data) × IsBatchIn document.now d (plan_records plan.now) }
+    requires seed { IsSeeded setup.seed.number plan.now }
     ensures found { Found (EndsLine (RestsIn mode document.now responses.now (plan_records plan.now)))
         setup.form result }
     ensures read { result ≢ Err halts.Read }
@@ -89,6 +91,7 @@ fn text_of(
 ) -> Result<String, Halt>
     requires batch { records batch.now ≡ plan_records plan.now }
     requires document { (d : Data) × IsBatchIn document.now d (plan_records plan.now) }
+    requires seed { IsSeeded setup.seed.number plan.now }
     ensures found { Found (OfPairWork work document.now second.now (plan_records plan.now)) setup.form
         result }
     ensures read { result ≢ Err halts.Read }
