@@ -9,8 +9,8 @@ ghost use Rattle.odb_engine.specs.Inputs.{IsFresh, SomeDocument};
 ghost use Rattle.odb_engine.specs.declared.form.Form.TheVariants.{Lines};
 ghost use Rattle.odb_engine.specs.Tasks.{OfTask};
 
-pub mod all_faults;
-mod devices;
+mod all_faults;
+pub mod devices;
 mod disposal;
 mod failures;
 mod full_plans;

@@ -88,7 +88,8 @@ fn a_fault_is_in_the_document_of_a_reader(rt: HostRuntime) {
     );
     assert!(rt; ended == Ok(Ended::Refused));
     assert!(rt;
-        output.into_inner().as_slice() == b"b:2:1: fault F10 NotRequestObject /requests/0\n"
+        output.into_inner().as_slice()
+            == b"b:2:1: fault F10 NotRequestObject /requests/0\n".as_slice()
     );
 }
 
