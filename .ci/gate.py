@@ -49,7 +49,7 @@ PARTS = [
     ("the questions of the edits", ["tools/edits.py"]),
     ("commands and excerpts of pages", ["tools/readme.py"]),
     ("options in docs and in cases", ["tools/options.py"]),
-    ("examples of calls", ["tools/examples.py"]),
+    ("examples of calls", ["tools/call_examples.py"]),
     ("docs/faults.md", ["tools/faults.py"]),
     ("explanations of faults", ["tools/explanations.py"]),
     ("quick tests", [*TESTS.split(), "-m", "not slow"]),

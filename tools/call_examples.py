@@ -1,4 +1,4 @@
-"""Checks the examples that the docs of calls name: `python3 tools/examples.py`.
+"""Checks the examples that the docs of calls name: `python3 tools/call_examples.py`.
 
 Above a public function stands ``Example: `NAME` in PATH.``, where PATH has a function NAME that calls it. The last line is
 `N examples, M wrong`; the exit status is 1 if one is wrong.
