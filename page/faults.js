@@ -4,6 +4,8 @@
 
 const { count, element } = require('./dom.js')
 
+const MOST_LISTED = 200
+
 /** A fault of the list. A click on its place leads there. */
 function itemOf(fault, goTo) {
   const { code, name, place, id, explanation, line, column } = fault
@@ -21,9 +23,8 @@ function showVerdict(place, list, { accepted, text, faults }, about, goTo) {
   const first = faults[0] ? ` Line ${faults[0].line}, column ${faults[0].column}.` : ''
   place.className = `verdict ${accepted ? 'accepted' : 'refused'}`
   place.replaceChildren(`${words}: `, element('span', { class: 'line' }, line), `.${first} ${about}`)
-  const listed = faults.filter((it) => it.line !== undefined)
-  const items = listed.map((it) => itemOf(it, goTo))
-  if (faults.length > listed.length) items.push(element('li', {}, `and ${count(faults.length - listed.length, 'more fault')}`))
+  const items = faults.slice(0, MOST_LISTED).map((it) => itemOf(it, goTo))
+  if (faults.length > MOST_LISTED) items.push(element('li', {}, `and ${count(faults.length - MOST_LISTED, 'more fault')}`))
   list.replaceChildren(items.length > 0 ? element('ol', { class: 'faults' }, ...items) : '')
 }
 

@@ -1,6 +1,6 @@
 'use strict'
 
-// Where in a text a fault is, as ranges of the text, and where the lines of a text are.
+// Where in a text a fault is: as ranges of the text, and as line and column. One scan finds the elements of all faults.
 
 const { elementsAt, membersAt, skipSpace } = require('./json.js')
 
@@ -13,8 +13,10 @@ const MEMBER = {
 }
 const LONGEST_ID = 100 // characters of an id that is shown
 const OF_ELEMENT = /^\/(\w+)\/(\d+)$/
+// What may be a string, a number or a word, as far as it goes; or another character.
+const TOKEN = /"(?:[^"\\\n]|\\.)*"?|[\w.+-]+|[^]/uy
 
-/** The lines of a text, which count from 1. */
+/** The lines of a text: of a place in it the line and the column, which count from 1; columns are characters. */
 class Lines {
   #starts = [0]
 
@@ -41,6 +43,13 @@ class Lines {
       else high = middle
     }
     return low + 1
+  }
+
+  at(offset) {
+    const line = this.lineOf(offset)
+    let column = 1
+    for (let at = this.start(line); at < offset; column++) at += this.text.codePointAt(at) > 0xffff ? 2 : 1
+    return { line, column }
   }
 }
 
@@ -94,11 +103,11 @@ class Places {
     return this.#elements.get(name)
   }
 
-  /** The range of what a fault names, its id, and the range in it that the rule is about. */
+  /** The range of what a fault names, its id, the range in it that the rule is about, and its line and column. */
   of(fault) {
     const found = this.#rangeOf(fault)
     const whole = { start: found.start, end: found.end }
-    return { whole, part: found.part ?? whole, id: found.id }
+    return { whole, part: found.part ?? whole, id: found.id, ...this.lines.at(whole.start) }
   }
 
   #rangeOf(fault) {
@@ -108,7 +117,7 @@ class Places {
     const element = elements?.at(Number(position))
     if (element) return { ...element, ...elements.about(Number(position), MEMBER[code]) }
     if (code === 'F01') return { start: 0, end: 0 }
-    return this.#characterAt(code === 'F02' ? this.#beforeByte(fault.offset) : skipSpace(this.#text, 0))
+    return this.#tokenAt(code === 'F02' ? this.#beforeByte(fault.offset) : skipSpace(this.#text, 0))
   }
 
   /** How much of the text is before one of its bytes. */
@@ -117,10 +126,10 @@ class Places {
     return new TextDecoder('utf-8', { ignoreBOM: true }).decode(before).length
   }
 
-  /** The range of the character there, which is empty at the end of the text. */
-  #characterAt(start) {
-    const width = this.#text.codePointAt(start) > 0xffff ? 2 : 1
-    return { start, end: Math.min(start + width, this.#text.length) }
+  /** The range of the token there, which is empty at the end of the text. */
+  #tokenAt(start) {
+    TOKEN.lastIndex = start
+    return { start, end: TOKEN.test(this.#text) ? TOKEN.lastIndex : start }
   }
 }
 

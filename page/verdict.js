@@ -6,18 +6,15 @@ const commands = require('../node/commands.js')
 const { faultOf } = require('../node/faults.js')
 const explanations = require('../node/explanations.json')
 
-const MOST_LISTED = 200 // faults, by the page
-
 /** The words of an explanation, without the ends of its lines. */
 function explain(code) {
   return (explanations[code] ?? '').replaceAll('\n', ' ')
 }
 
-/** A fault for the page: what it is, why, and where; one that is listed with its line and its column. */
-function shown(fault, places, isListed) {
+/** A fault for the page: what it is, why, and where. */
+function shown(fault, places) {
   const { code, faultName: name, place } = fault
-  const { line, column } = isListed ? fault : {}
-  return { code, name, place, explanation: explain(code), line, column, ...places.of(fault) }
+  return { code, name, place, explanation: explain(code), ...places.of(fault) }
 }
 
 /** What a command makes of documents: its text, and the faults by which they are refused. */
@@ -35,7 +32,7 @@ function verdictOf(command, documents, places, options = {}) {
 
 function refused(line, documents, places) {
   const faults = documents.length === 1 ? commands.faults(documents[0]) : [faultOf(line, documents)]
-  return { accepted: false, text: line, faults: faults.map((it, at) => shown(it, places, at < MOST_LISTED)) }
+  return { accepted: false, text: line, faults: faults.map((it) => shown(it, places)) }
 }
 
 module.exports = { explain, verdictOf }

@@ -29,7 +29,7 @@ LINES = [
     ("odb_batch replay --stop ", [FILE]),
     ("odb_batch replay batch ", [FILE]),
     ("odb_batch match batch ", [FILE]),
-    ("odb_batch run --w", ["--width"]),
+    ("odb_batch run --wi", ["--width"]),
     ("odb_batch run --q", ["--quiet"]),
     ("odb_batch run --width ", []),
     ("odb_batch run batch events --st", ["--stop"]),

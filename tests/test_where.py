@@ -75,7 +75,7 @@ def test_the_fault_of_a_line(program, pair, blanks):
     line = blanks + b"[" + blanks + documents[0] + b"," + blanks + documents[1] + b"]"
     log = b"{}\n" + line + b"\n"
     text, _ = call(program, [command, "--lines", "--where", "--json"], [log])
-    value = json.loads(text.decode().splitlines()[1])
+    value = json.loads(text.decode().split("\n")[1])
     if "fault" in value and value["fault"]["code"] != "F02":
         at = position_in_pair(line, value["fault"]["place"])
         assert tuple(value["fault"][key] for key in KEYS) == (2, *at[1:])

@@ -46,7 +46,7 @@ test('the first is the one that a check throws', () => {
 
 test('positions in what is no JSON', () => {
   for (const [document, ...position] of [
-    ['', 1, 1, 0], [' \n\n ', 3, 2, 4], ['{\n}x', 2, 2, 3], ['{"requests":\n [', 2, 3, 15], ['{"ä":"€📚" 7', 1, 10, 15],
+    ['', 1, 1, 0], [' \n\n ', 3, 2, 4], ['{\n}x', 2, 2, 3], ['{"requests":\n [', 2, 3, 15], ['{"ä":"€📚" 7', 1, 11, 16],
     [new Uint8Array([0x5b, 0x22, 0xff, 0x22, 0x5d]), 1, 3, 2],
   ]) {
     assert.deepEqual(faults(document).map((it) => [it.code, ...positionOf(it)]), [['F02', ...position]])

@@ -73,7 +73,7 @@ class TestPositions:
 
     @pytest.mark.parametrize("document, line, column, offset", [
         (b"", 1, 1, 0), (b" \n\n ", 3, 2, 4), (b"{\n}x", 2, 2, 3), (b'{"requests":\n [', 2, 3, 15),
-        ('{"\u00e4":"\u20ac\U0001f4da" 7'.encode(), 1, 10, 15), (b'["\xff"]', 1, 3, 2),
+        ('{"\u00e4":"\u20ac\U0001f4da" 7'.encode(), 1, 11, 16), (b'["\xff"]', 1, 3, 2),
     ])  # fmt: skip
     def test_of_what_is_no_json(self, document, line, column, offset):
         assert stand(faults(document)) == [("F02", "batch", line, column, offset)]

@@ -1,4 +1,4 @@
-"""All faults that the library lists are placed, by the page's own scanner and by what the library says of a place."""
+"""All faults that the library lists are placed: elements by the page's own scanner, and what is no JSON by the library."""
 
 import json
 import subprocess
@@ -8,12 +8,12 @@ import pytest
 from support.program import ROOT
 
 BATCH = '{"requests": [\n  {"id": "a", "method": "got", "url": "\u00e4"},\n  {"id": "b", "method": "get", "url": "x", "body": 1}\n]}'
-# A library of which each answer is these lines, and each place has this offset.
+# A library of which each answer is these lines, and in which each place has this offset.
 SCRIPT = """
 const [root, text, lines, offset] = process.argv.slice(1)
 const exports = {
   call: () => [1, Buffer.from(lines)],
-  where: (document, place, numbers) => { numbers.set([7, 8, Number(offset)]); return 0 },
+  where: (document, place, numbers) => { numbers.set([1, 1, Number(offset)]); return 0 },
 }
 require.cache[require.resolve(root + '/node/library.js')] = { id: 'stub', loaded: true, exports }
 const { verdictOf } = require(root + '/page/verdict.js')
@@ -27,11 +27,11 @@ METHOD, BODY = ("F14 BadMethod /requests/0", '"method": "got"'), ("F20 BodyNotAl
 
 @pytest.mark.needs("node")
 @pytest.mark.parametrize("text, lines, offset, wanted", [
-    (BATCH, [METHOD[0]], 0, [["F14", "a", 7, 8, METHOD[1]]]),
-    (BATCH, [METHOD[0], BODY[0]], 0, [["F14", "a", 7, 8, METHOD[1]], ["F20", "b", 7, 8, BODY[1]]]),
-    ('{"\u00e4": tru}', ["F02 NotJson batch"], 10, [["F02", None, 7, 8, "}"]]),
-    ('{"\u00e4": \U0001f4da}', ["F02 NotJson batch"], 7, [["F02", None, 7, 8, "\U0001f4da"]]),
-    ("[", ["F02 NotJson batch"], 1, [["F02", None, 7, 8, ""]]),
+    (BATCH, [METHOD[0]], 0, [["F14", "a", 2, 3, METHOD[1]]]),
+    (BATCH, [METHOD[0], BODY[0]], 0, [["F14", "a", 2, 3, METHOD[1]], ["F20", "b", 3, 3, BODY[1]]]),
+    ('{"\u00e4": tru}', ["F02 NotJson batch"], 10, [["F02", None, 1, 10, "}"]]),
+    ('{"\u00e4": \U0001f4da}', ["F02 NotJson batch"], 7, [["F02", None, 1, 7, "\U0001f4da"]]),
+    ("[", ["F02 NotJson batch"], 1, [["F02", None, 1, 2, ""]]),
 ])  # fmt: skip
 def test_faults(text, lines, offset, wanted):
     words = ["node", "-e", SCRIPT, ROOT, text, "".join(f"fault {line}\n" for line in lines), str(offset)]

@@ -12,8 +12,8 @@ use std::alloc::Global;
 /// `responses` or `events` for the document, or the path to an element, as `/requests/3`.
 ///
 /// Returns 0, and `position` is that of the element, or of the document's value if there is no such element. In a document
-/// that is not JSON it is that of the first byte that cannot be there, if the place is the document. Returns 2 if the text is
-/// no place, and 4 if an allocation fails: then `position` is as it was.
+/// that is not JSON it is where reading stops, if the place is the document. Returns 2 if the text is no place, and 4 if an
+/// allocation fails: then `position` is as it was.
 #[unsafe(no_mangle)]
 pub extern "C" fn odb_where(
     alloc: Global,
