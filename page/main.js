@@ -15,10 +15,25 @@ const LONG = 100_000 // characters from which a text is checked once nobody type
 const PAUSE = 250 // milliseconds
 const SLOW = 150 // milliseconds after which the page says that it works
 const OWN = 'own'
+const DIGITS = '0123456789ABCDEFGHIJKLMNOPQRSTUVWXYZabcdefghijklmnopqrstuvwxyz!#$%&.)*+-;,=>?@^_`{|}~'
+
+/** The bytes of a text that bin/odb_page has written: five digits to the base 85 stand for four bytes. */
+function bytesOfDigits(text) {
+  const values = new Map(Array.from(DIGITS, (it, at) => [it, at]))
+  const length = Math.floor((text.length * 4) / 5)
+  const words = new DataView(new ArrayBuffer(length + 4))
+  const full = text + DIGITS.at(-1).repeat(4)
+  for (let [from, to] = [0, 0]; to < length; from += 5, to += 4) {
+    let word = 0
+    for (let at = from; at < from + 5; at++) word = word * 85 + values.get(full[at])
+    words.setUint32(to, word)
+  }
+  return new Uint8Array(words.buffer, 0, length)
+}
 
 /** The bytes of the module, which the page has packed. */
 async function moduleBytes() {
-  const packed = Uint8Array.from(atob(byId('module').textContent), (it) => it.charCodeAt(0))
+  const packed = bytesOfDigits(byId('module').textContent)
   const stream = new Blob([packed]).stream().pipeThrough(new DecompressionStream('gzip'))
   return new Response(stream).arrayBuffer()
 }
