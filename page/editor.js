@@ -73,6 +73,7 @@ class Editor {
     this.#firstLine = 1
     this.#field.value = text
     this.#field.scrollTop = 0
+    this.#field.scrollLeft = 0
     this.#taken(this.#field.value)
   }
 
