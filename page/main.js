@@ -92,7 +92,7 @@ class Page {
     click('farther', () => this.#picture.zoom(-1))
     click('fit', () => this.#picture.fit())
     click('read', () => this.readSecond())
-    click('copy-events', () => this.#copyEvents())
+    click('copy-events', () => this.#run.copyEvents(byId('copied')))
     addEventListener('hashchange', () => this.fromLink())
     addEventListener('dragover', (event) => this.#dragged(event, true))
     addEventListener('dragleave', (event) => this.#dragged(event, false))
@@ -287,15 +287,6 @@ class Page {
   #goToSecond(fault) {
     if (fault.inBatch) this.#goTo(fault)
     else this.#second.goTo(fault.part)
-  }
-
-  async #copyEvents() {
-    if (!this.found?.accepted) return
-    const text = await this.#link.ask('document')
-    this.#second.text = text
-    this.#secondBytes = undefined
-    showNote(byId('second-verdict'), byId('second-faults'), '')
-    await copy(text, byId('copied'))
   }
 }
 
