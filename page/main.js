@@ -6,6 +6,7 @@ const { byId, copy, count, element } = require('./dom.js')
 const { Editor } = require('./editor.js')
 const { batches, seconds } = require('./examples.js')
 const { showNote, showVerdict } = require('./faults.js')
+const { Kept } = require('./kept.js')
 const { Link } = require('./link.js')
 const { Picture } = require('./picture.js')
 const { RunView } = require('./run.js')
@@ -56,6 +57,10 @@ class Page {
   #picture
   #run
   #secondBytes
+  // The batch that was checked last, the example that it is, and what was replaced.
+  #checked
+  #example = OWN
+  #kept = new Kept((kept) => this.#bringBack(kept))
   // The batch that is to be checked next, and whether one is being checked.
   #wanted
   #isChecking = false
@@ -69,6 +74,7 @@ class Page {
     this.#editor = new Editor(byId('batch-editor'), {
       id: 'text', label: 'The batch', onInput: (text) => this.#typed(text),
       onLarge: (text) => this.open(new TextEncoder().encode(text)), onMove: (at) => this.#showPart(at),
+      onReplace: () => this.#keep('.batch'),
     })
     this.#second = new Editor(byId('second-editor'), {
       id: 'second-text', label: 'Events, outcomes or responses', isLow: true, onInput: () => this.#forget(),
@@ -76,7 +82,7 @@ class Page {
     })
     this.#picture = new Picture(byId('picture'), byId('about'), (position) => this.#run.goTo(position))
     this.#run = new RunView(link, this.#picture)
-    this.#offer(byId('examples'), batches, (text) => this.write(text))
+    this.#offer(byId('examples'), batches, (text, example) => this.write(text, example))
     this.#offer(byId('second-examples'), seconds, (text) => this.#writeSecond(text))
     this.#listen()
   }
@@ -104,15 +110,14 @@ class Page {
     const first = element('option', { value: OWN }, 'choose one')
     list.replaceChildren(first, ...examples.map(({ name, about }, at) => element('option', { value: at }, `${name}: ${about}`)))
     list.addEventListener('change', () => {
-      if (list.value !== OWN) use(examples[Number(list.value)].text())
+      if (list.value !== OWN) use(examples[Number(list.value)].text(), list.value)
     })
   }
 
   /** Shows the first example, or the batch of the link. */
   async begin() {
     if (await this.fromLink()) return
-    byId('examples').value = '0'
-    this.write(batches[0].text())
+    this.write(batches[0].text(), '0')
   }
 
   /** Takes the batch of the link, if it carries one. */
@@ -123,23 +128,47 @@ class Page {
     return text !== undefined
   }
 
-  /** Puts a text into the field, and checks it. */
-  write(text) {
-    this.#editor.text = text
-    this.#check(this.#editor.text)
+  /** Puts a text into the field, and checks it: that of an example, or one's own. */
+  write(text, example = OWN) {
+    this.#keep('.batch')
+    this.#put(text, example)
   }
 
   /** Takes the bytes of a document: as text where they are one that can be edited, else as they are. */
   open(bytes) {
-    byId('examples').value = OWN
-    const text = plainText(bytes)
-    if (text !== undefined) return this.write(text)
-    this.#editor.text = ''
-    this.#check(bytes)
+    this.#keep('.batch')
+    this.#put(plainText(bytes) ?? bytes, OWN)
+  }
+
+  #put(batch, example) {
+    this.#of(example)
+    const isText = typeof batch === 'string'
+    this.#editor.text = isText ? batch : ''
+    this.#check(isText ? this.#editor.text : batch)
+  }
+
+  #of(example) {
+    this.#example = example
+    byId('examples').value = example
+  }
+
+  /** Keeps the batch and its run before they are replaced. */
+  #keep(section) {
+    const { events } = this.#run
+    const values = { batch: this.#checked, example: this.#example, isOwn: this.#example === OWN, events }
+    this.#kept.keep(document.querySelector(section), values)
+  }
+
+  async #bringBack({ batch, example, events }) {
+    this.#keep('.batch')
+    this.#put(batch, example)
+    await this.checked
+    await this.#run.bring(events)
+    byId('text').focus({ preventScroll: true })
   }
 
   #typed(text) {
-    byId('examples').value = OWN
+    this.#of(OWN)
     clearTimeout(this.#pause)
     if (text.length < LONG) return this.#check(text)
     this.#working()
@@ -165,6 +194,7 @@ class Page {
         const batch = this.#wanted
         this.#wanted = undefined
         const found = await this.#link.ask('check', { batch, options: this.#run.options })
+        this.#checked = batch
         clearTimeout(sign)
         if (this.#wanted === undefined) await this.#show(found, typeof batch !== 'string')
       }
@@ -279,7 +309,10 @@ class Page {
     const shown = { ...read, text: read.accepted && read.kind !== 'responses' ? `a document of ${read.kind}` : read.text }
     const about = `(as ${commands[read.kind]} says)`
     showVerdict(byId('second-verdict'), byId('second-faults'), shown, about, (fault) => this.#goToSecond(fault))
-    if (read.run) this.#run.replace(read.run)
+    if (read.run) {
+      if (this.#run.events.length > 0) this.#keep('.second')
+      this.#run.replace(read.run)
+    }
     this.#run.compare(read.statuses ?? [])
     this.count++
   }

@@ -50,6 +50,11 @@ class RunView {
     return { mode: byId('stop').checked ? 'stop' : 'continue', width: isWidth ? width : MOST_WIDTH }
   }
 
+  /** The events of the run so far. */
+  get events() {
+    return this.#run?.events ?? []
+  }
+
   get order() {
     return byId('order').value
   }
@@ -87,6 +92,11 @@ class RunView {
     this.#isPlaying = false
     this.#shown(run)
     this.#say(this.#happened('Read. '))
+  }
+
+  /** Has the events of an earlier run come again. */
+  async bring(events) {
+    if (events.length > 0 && (await this.#ask('add', { events }))) this.#say(this.#happened('The run is back. '))
   }
 
   /** Shows the statuses that a service has answered. */
@@ -197,8 +207,8 @@ class RunView {
 
   async #undo() {
     this.#isPlaying = false
-    if (!this.#run || this.#run.events.length === 0) return
-    const { id, status } = this.#run.events.at(-1)
+    if (this.events.length === 0) return
+    const { id, status } = this.events.at(-1)
     const what = status === undefined ? 'the start' : 'the report'
     if (await this.#ask('undo')) this.#say(this.#happened(`Took back ${what} of ${id}. `))
   }
@@ -227,7 +237,7 @@ class RunView {
   #buttons() {
     const isFinished = this.#run?.finished
     byId('play').textContent = this.#isPlaying ? 'Pause' : isFinished ? 'Play again' : 'Play'
-    const begun = (this.#run?.events.length ?? 0) > 0
+    const begun = this.events.length > 0
     for (const id of ['undo', 'restart']) byId(id).setAttribute('aria-disabled', String(!begun))
     byId('play').setAttribute('aria-disabled', String(!this.#run))
     byId('step').setAttribute('aria-disabled', String(!this.#run || isFinished))

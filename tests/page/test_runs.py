@@ -5,6 +5,7 @@ import json
 import pytest
 
 from support.commands import run
+from support.keys import CONTROL
 from support.page import answer, choose, play, read, write
 
 SAID = "return document.getElementById('said').textContent"
@@ -172,6 +173,36 @@ def test_a_status_is_typed_over(page):
     assert status_of(page, "book", "value") == "404"
     assert status_of(page, "book", "ariaInvalid") == "false"
     assert page.value(SAID) == "Running: book."
+
+
+def test_a_run_that_is_replaced_comes_back(page, example):
+    answer(page, "loan", 409)
+    play(page)
+    before = response(page)
+    choose(page, "examples", 1)
+    page.until("return document.querySelector('.batch').textContent.includes('Your run of 6 events was replaced. Bring it back')")
+    page.until("return document.getElementById('verdict').textContent.includes('ok 3 requests')")
+    bring = "document.querySelector('.replaced button').click()"
+    page.value(bring)
+    assert response(page) == before
+    assert page.value("return document.getElementById('examples').value") == "0"
+    assert page.value("return document.querySelector('.replaced')") is None
+    read(page, example("outcomes_lent.json"))
+    assert "Your run of 6 events was replaced." in page.value("return document.querySelector('.second .replaced').textContent")
+    own = example("batch_usual.json").replace("list", "own")
+    write(page, own)
+    choose(page, "examples", 1)
+    page.until("return document.querySelector('.batch').textContent.includes('Your batch was replaced. Bring it back')")
+    page.value(bring)
+    assert page.value("return document.getElementById('text').value") == own
+
+
+def test_a_paste_over_all_replaces_the_run(page):
+    play(page)
+    page.value("const field = document.getElementById('text'); field.focus(); field.select()")
+    for command in ("copy", "paste"):
+        page.call("Input.dispatchKeyEvent", type="rawKeyDown", key="v", modifiers=CONTROL, commands=[command])
+    page.until("return document.querySelector('.replaced')?.textContent === 'Your run of 8 events was replaced. Bring it back'")
 
 
 def test_the_events_are_copied(page):
