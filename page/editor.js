@@ -38,9 +38,10 @@ class Editor {
   #begin = 0
   #firstLine = 1
   #onLarge
+  #onReplace
 
-  /** `onInput` is called with the text, `onLarge` with one that is too long to be edited. */
-  constructor(place, { id, label, isLow, onInput, onLarge, onMove }) {
+  /** `onInput` is called with the text, `onLarge` with one that is too long to be edited, `onReplace` before a paste over all. */
+  constructor(place, { id, label, isLow, onInput, onLarge, onMove, onReplace }) {
     this.#field = element('textarea', {
       id, 'aria-label': label, spellcheck: 'false', autocomplete: 'off', autocapitalize: 'off', wrap: 'off',
     })
@@ -50,6 +51,7 @@ class Editor {
     const field = element('div', { class: 'field' }, this.#marks, this.#field)
     this.#root = element('div', { class: isLow ? 'editor low' : 'editor' }, this.#numbers, field)
     this.#onLarge = onLarge
+    this.#onReplace = onReplace
     this.onMove = onMove
     this.#field.addEventListener('input', () => {
       this.#taken(this.#field.value)
@@ -73,6 +75,7 @@ class Editor {
     this.#firstLine = 1
     this.#field.value = text
     this.#field.scrollTop = 0
+    this.#field.scrollLeft = 0
     this.#taken(this.#field.value)
   }
 
@@ -136,6 +139,7 @@ class Editor {
     const pasted = event.clipboardData?.getData('text/plain') ?? ''
     const { value, selectionStart, selectionEnd } = this.#field
     const { readOnly } = this.#field
+    if (pasted !== '' && !readOnly && selectionEnd - selectionStart === value.length) this.#onReplace?.()
     if (pasted === '' || (!readOnly && value.length + pasted.length <= MOST)) return
     event.preventDefault()
     // A document that is shown in part is replaced as a whole.

@@ -6,6 +6,7 @@ const { byId, copy, count, element } = require('./dom.js')
 const { Editor } = require('./editor.js')
 const { batches, seconds } = require('./examples.js')
 const { showNote, showVerdict } = require('./faults.js')
+const { Kept } = require('./kept.js')
 const { Link } = require('./link.js')
 const { Picture } = require('./picture.js')
 const { RunView } = require('./run.js')
@@ -15,10 +16,25 @@ const LONG = 100_000 // characters from which a text is checked once nobody type
 const PAUSE = 250 // milliseconds
 const SLOW = 150 // milliseconds after which the page says that it works
 const OWN = 'own'
+const DIGITS = '0123456789ABCDEFGHIJKLMNOPQRSTUVWXYZabcdefghijklmnopqrstuvwxyz!#$%&.)*+-;,=>?@^_`{|}~'
+
+/** The bytes of a text that bin/odb_page has written: five digits to the base 85 stand for four bytes. */
+function bytesOfDigits(text) {
+  const values = new Map(Array.from(DIGITS, (it, at) => [it, at]))
+  const length = Math.floor((text.length * 4) / 5)
+  const words = new DataView(new ArrayBuffer(length + 4))
+  const full = text + DIGITS.at(-1).repeat(4)
+  for (let [from, to] = [0, 0]; to < length; from += 5, to += 4) {
+    let word = 0
+    for (let at = from; at < from + 5; at++) word = word * 85 + values.get(full[at])
+    words.setUint32(to, word)
+  }
+  return new Uint8Array(words.buffer, 0, length)
+}
 
 /** The bytes of the module, which the page has packed. */
 async function moduleBytes() {
-  const packed = Uint8Array.from(atob(byId('module').textContent), (it) => it.charCodeAt(0))
+  const packed = bytesOfDigits(byId('module').textContent)
   const stream = new Blob([packed]).stream().pipeThrough(new DecompressionStream('gzip'))
   return new Response(stream).arrayBuffer()
 }
@@ -41,6 +57,10 @@ class Page {
   #picture
   #run
   #secondBytes
+  // The batch that was checked last, the example that it is, and what was replaced.
+  #checked
+  #example = OWN
+  #kept = new Kept((kept) => this.#bringBack(kept))
   // The batch that is to be checked next, and whether one is being checked.
   #wanted
   #isChecking = false
@@ -54,6 +74,7 @@ class Page {
     this.#editor = new Editor(byId('batch-editor'), {
       id: 'text', label: 'The batch', onInput: (text) => this.#typed(text),
       onLarge: (text) => this.open(new TextEncoder().encode(text)), onMove: (at) => this.#showPart(at),
+      onReplace: () => this.#keep('.batch'),
     })
     this.#second = new Editor(byId('second-editor'), {
       id: 'second-text', label: 'Events, outcomes or responses', isLow: true, onInput: () => this.#forget(),
@@ -61,7 +82,7 @@ class Page {
     })
     this.#picture = new Picture(byId('picture'), byId('about'), (position) => this.#run.goTo(position))
     this.#run = new RunView(link, this.#picture)
-    this.#offer(byId('examples'), batches, (text) => this.write(text))
+    this.#offer(byId('examples'), batches, (text, example) => this.write(text, example))
     this.#offer(byId('second-examples'), seconds, (text) => this.#writeSecond(text))
     this.#listen()
   }
@@ -77,7 +98,7 @@ class Page {
     click('farther', () => this.#picture.zoom(-1))
     click('fit', () => this.#picture.fit())
     click('read', () => this.readSecond())
-    click('copy-events', () => this.#copyEvents())
+    click('copy-events', () => this.#run.copyEvents(byId('copied')))
     addEventListener('hashchange', () => this.fromLink())
     addEventListener('dragover', (event) => this.#dragged(event, true))
     addEventListener('dragleave', (event) => this.#dragged(event, false))
@@ -89,15 +110,14 @@ class Page {
     const first = element('option', { value: OWN }, 'choose one')
     list.replaceChildren(first, ...examples.map(({ name, about }, at) => element('option', { value: at }, `${name}: ${about}`)))
     list.addEventListener('change', () => {
-      if (list.value !== OWN) use(examples[Number(list.value)].text())
+      if (list.value !== OWN) use(examples[Number(list.value)].text(), list.value)
     })
   }
 
   /** Shows the first example, or the batch of the link. */
   async begin() {
     if (await this.fromLink()) return
-    byId('examples').value = '0'
-    this.write(batches[0].text())
+    this.write(batches[0].text(), '0')
   }
 
   /** Takes the batch of the link, if it carries one. */
@@ -108,23 +128,47 @@ class Page {
     return text !== undefined
   }
 
-  /** Puts a text into the field, and checks it. */
-  write(text) {
-    this.#editor.text = text
-    this.#check(this.#editor.text)
+  /** Puts a text into the field, and checks it: that of an example, or one's own. */
+  write(text, example = OWN) {
+    this.#keep('.batch')
+    this.#put(text, example)
   }
 
   /** Takes the bytes of a document: as text where they are one that can be edited, else as they are. */
   open(bytes) {
-    byId('examples').value = OWN
-    const text = plainText(bytes)
-    if (text !== undefined) return this.write(text)
-    this.#editor.text = ''
-    this.#check(bytes)
+    this.#keep('.batch')
+    this.#put(plainText(bytes) ?? bytes, OWN)
+  }
+
+  #put(batch, example) {
+    this.#of(example)
+    const isText = typeof batch === 'string'
+    this.#editor.text = isText ? batch : ''
+    this.#check(isText ? this.#editor.text : batch)
+  }
+
+  #of(example) {
+    this.#example = example
+    byId('examples').value = example
+  }
+
+  /** Keeps the batch and its run before they are replaced. */
+  #keep(section) {
+    const { events } = this.#run
+    const values = { batch: this.#checked, example: this.#example, isOwn: this.#example === OWN, events }
+    this.#kept.keep(document.querySelector(section), values)
+  }
+
+  async #bringBack({ batch, example, events }) {
+    this.#keep('.batch')
+    this.#put(batch, example)
+    await this.checked
+    await this.#run.bring(events)
+    byId('text').focus({ preventScroll: true })
   }
 
   #typed(text) {
-    byId('examples').value = OWN
+    this.#of(OWN)
     clearTimeout(this.#pause)
     if (text.length < LONG) return this.#check(text)
     this.#working()
@@ -150,6 +194,7 @@ class Page {
         const batch = this.#wanted
         this.#wanted = undefined
         const found = await this.#link.ask('check', { batch, options: this.#run.options })
+        this.#checked = batch
         clearTimeout(sign)
         if (this.#wanted === undefined) await this.#show(found, typeof batch !== 'string')
       }
@@ -264,7 +309,10 @@ class Page {
     const shown = { ...read, text: read.accepted && read.kind !== 'responses' ? `a document of ${read.kind}` : read.text }
     const about = `(as ${commands[read.kind]} says)`
     showVerdict(byId('second-verdict'), byId('second-faults'), shown, about, (fault) => this.#goToSecond(fault))
-    if (read.run) this.#run.replace(read.run)
+    if (read.run) {
+      if (this.#run.events.length > 0) this.#keep('.second')
+      this.#run.replace(read.run)
+    }
     this.#run.compare(read.statuses ?? [])
     this.count++
   }
@@ -272,15 +320,6 @@ class Page {
   #goToSecond(fault) {
     if (fault.inBatch) this.#goTo(fault)
     else this.#second.goTo(fault.part)
-  }
-
-  async #copyEvents() {
-    if (!this.found?.accepted) return
-    const text = await this.#link.ask('document')
-    this.#second.text = text
-    this.#secondBytes = undefined
-    showNote(byId('second-verdict'), byId('second-faults'), '')
-    await copy(text, byId('copied'))
   }
 }
 

@@ -8,11 +8,12 @@ const { Graph } = require('./graph.js')
 const { Layout, arrow } = require('./layout.js')
 const { drawLevels } = require('./levels.js')
 const { Scroll } = require('./scroll.js')
-const { SIGNS, asks } = require('./words.js')
+const { SIGNS, asks, listed } = require('./words.js')
 
 const MOST_BOXES = 2000
 const MOST_ARROWS = 6000
 const OF_PART = 16 // requests
+const MOST_BESIDE = 200 // requests of a plan in which those beside one are named
 const [OF_ID, OF_URL] = [16, 24] // characters
 const ARROWS = { ArrowLeft: [-1, 0], ArrowRight: [1, 0], ArrowUp: [0, -1], ArrowDown: [0, 1] }
 const ZOOMS = { '+': 1, '=': 1, '-': -1 }
@@ -107,8 +108,7 @@ class Picture {
 
   #levelNames() {
     return this.#layout.levels.map(({ x, size }, level) => {
-      const counted = size > 1 ? `: ${size.toLocaleString('en')}` : ''
-      return drawn('text', { class: 'level', x, y: 18 }, `level ${level}${counted}`)
+      return drawn('text', { class: 'level', x, y: 18 }, `level ${level} (${count(size, 'request')})`)
     })
   }
 
@@ -191,7 +191,7 @@ class Picture {
       for (const [name, has] of classes) if (has !== box.classes.has(name)) this.#toggle(box, name, has)
     })
     this.#lit.replaceChildren(...(position === undefined ? [] : this.#litArrows(position)))
-    this.#about.replaceChildren(...(position === undefined ? [] : this.#words(position, needed.size, dependents.size)))
+    this.#about.replaceChildren(...(position === undefined ? [] : this.#words(position, needed, dependents)))
   }
 
   #toggle(box, name, has) {
@@ -215,12 +215,20 @@ class Picture {
       group === null ? '' : `group ${group}`,
       needs.length > 0 ? `needs ${needs.join(', ')}` : 'needs nothing',
       reference === null ? '' : `its URL refers to ${reference}`,
-      needed > needs.length ? `${needed} before it in all` : '',
-      `${count(dependents, 'request')} ${dependents === 1 ? 'needs' : 'need'} it`,
+      needed.size > needs.length ? `${needed.size} before it in all` : '',
+      `${count(dependents.size, 'request')} ${dependents.size === 1 ? 'needs' : 'need'} it`,
+      this.#beside(position, needed, dependents),
     ]
     const why = this.#reasons.why(request)
     const state = `${this.#reasons.words(request)}${why ? `: ${why}` : ''}`
     return [element('span', { class: 'mono' }, id), ` ${asks(request, 120)} · ${parts.filter(Boolean).join(' · ')} · ${state}`]
+  }
+
+  /** Which requests may run beside one: those that it does not need, and that do not need it. */
+  #beside(position, needed, dependents) {
+    if (this.#requests.length > MOST_BESIDE) return ''
+    const others = this.#requests.filter((it, at) => at !== position && !needed.has(at) && !dependents.has(at))
+    return others.length > 0 ? `may run beside ${listed(others.map(({ id }) => id))}` : 'nothing may run beside it'
   }
 
   #zoomKey(event) {

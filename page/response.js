@@ -7,24 +7,31 @@ const { listed } = require('./words.js')
 
 const MOST_SHOWN = 100_000 // characters
 const MOST_ROWS = 200
+const ROLLED_BACK = 'They were carried out, but their group failed: the service rolls them back and answers 424.'
 
-/** Shows the response, or that there is none yet. */
-function showResponse(place, { finished, response, match, undone }) {
+/** Shows the response, or that there is none yet. `copyEvents` copies the events of the run, and says so in a note. */
+function showResponse(place, { finished, response, match, undone }, copyEvents) {
   if (!finished) {
     place.replaceChildren(element('p', { class: 'empty' }, 'There is a response once the run is finished.'))
     return
   }
   const note = element('span', { class: 'note', role: 'status' })
-  const button = element('button', { type: 'button', onclick: () => copy(response, note) }, 'Copy the response')
-  const bar = element('div', { class: 'bar' }, button, note)
+  const button = (title, act) => element('button', { type: 'button', onclick: act }, title)
+  const own = button('Copy the response', () => copy(response, note))
+  const bar = element('div', { class: 'bar' }, own, button('Copy the events of the run', () => copyEvents(note)), note)
   const shown = response.length > MOST_SHOWN ? `${response.slice(0, MOST_SHOWN)}…` : response
-  const verdict = match.accepted ? 'The response fits the batch' : 'The response does not fit the batch'
   place.replaceChildren(
     bar,
     element('pre', { class: 'text', tabindex: '0', 'aria-label': 'The response document', id: 'response-text' }, shown),
-    element('p', { class: 'note' }, `${verdict}: match prints `, element('code', {}, match.text.split('\n', 1)[0]), '.'),
-    undone.length > 0 ? element('p', {}, `To be undone, in this order: ${listed(undone)}.`) : '',
+    element('p', { class: 'note' }, ...verdictOf(match)),
+    undone.length > 0 ? element('p', {}, `To be undone, in this order: ${listed(undone)}. ${ROLLED_BACK}`) : '',
   )
+}
+
+/** Whether the response fits, in words. */
+function verdictOf({ accepted, text, statuses }) {
+  if (accepted) return [`The response fits the batch: ${count(statuses.length, 'response')}.`]
+  return ['The response does not fit the batch: match prints ', element('code', {}, text.split('\n', 1)[0]), '.']
 }
 
 /** What a comparison has found. */

@@ -2,7 +2,7 @@
 
 // The run of a batch: its buttons and options, the table of its requests, and what is shown of it elsewhere.
 
-const { byId, count } = require('./dom.js')
+const { byId, copy, count } = require('./dom.js')
 const { showComparison, showResponse } = require('./response.js')
 const { Table } = require('./table.js')
 const { showTimeline } = require('./timeline.js')
@@ -12,6 +12,7 @@ const MOST_WIDTH = 10_000
 const OF_FRAME = 16 // milliseconds
 const AT_ONCE = 1000 // the speed at which so many events come at a time
 const MANY = 500
+const BAD_STATUS = 'P2'
 
 class RunView {
   #link
@@ -22,6 +23,8 @@ class RunView {
   #run
   #statuses = []
   #isPlaying = false
+  // The id of the request whose status was refused last, while the page says so.
+  #badStatus
 
   constructor(link, picture) {
     this.#link = link
@@ -30,6 +33,7 @@ class RunView {
       start: (request) => this.#add(request, undefined),
       report: (request) => this.#add(request, this.#table.answerOf(request)),
       focused: (request) => this.#picture.choose(request.position),
+      mended: (request) => this.#mended(request),
     })
     byId('play').addEventListener('click', () => this.#play())
     byId('step').addEventListener('click', () => this.#step())
@@ -44,6 +48,11 @@ class RunView {
     const isWidth = Number.isInteger(width) && width >= 1 && width <= MOST_WIDTH
     byId('width').setAttribute('aria-invalid', String(!isWidth))
     return { mode: byId('stop').checked ? 'stop' : 'continue', width: isWidth ? width : MOST_WIDTH }
+  }
+
+  /** The events of the run so far. */
+  get events() {
+    return this.#run?.events ?? []
   }
 
   get order() {
@@ -85,10 +94,20 @@ class RunView {
     this.#say(this.#happened('Read. '))
   }
 
+  /** Has the events of an earlier run come again. */
+  async bring(events) {
+    if (events.length > 0 && (await this.#ask('add', { events }))) this.#say(this.#happened('The run is back. '))
+  }
+
   /** Shows the statuses that a service has answered. */
   compare(statuses) {
     this.#statuses = statuses
     if (this.#run) showComparison(byId('comparison'), statuses, this.#requests, this.#run)
+  }
+
+  /** Copies the events of the run as a document, and says so in a note. */
+  async copyEvents(note) {
+    if (this.#run) await copy(await this.#link.ask('document'), note)
   }
 
   /** Goes to a request in the table. */
@@ -121,6 +140,12 @@ class RunView {
 
   #refused({ code, name, id, explanation }, answer) {
     this.#say(`${answer ? 'The report' : 'The start'} of ${id} is refused: ${code} ${name}. ${explanation}`, true)
+    if (code === BAD_STATUS) this.#badStatus = id
+  }
+
+  /** Says no longer that a status is refused, once it is one. */
+  #mended({ id }) {
+    if (id === this.#badStatus) this.#say(this.#happened(''))
   }
 
   /** The last event, and what may come now. */
@@ -151,6 +176,7 @@ class RunView {
   }
 
   async #step() {
+    if (this.#run?.finished) return
     this.#isPlaying = false
     await this.#next(1)
   }
@@ -181,8 +207,8 @@ class RunView {
 
   async #undo() {
     this.#isPlaying = false
-    if (!this.#run || this.#run.events.length === 0) return
-    const { id, status } = this.#run.events.at(-1)
+    if (this.events.length === 0) return
+    const { id, status } = this.events.at(-1)
     const what = status === undefined ? 'the start' : 'the report'
     if (await this.#ask('undo')) this.#say(this.#happened(`Took back ${what} of ${id}. `))
   }
@@ -203,19 +229,22 @@ class RunView {
     this.#picture.paint()
     this.#table.paint()
     showTimeline(byId('timeline'), run, (id) => this.#reasons.kind(this.#reasons.membersOf(id)[0]))
-    showResponse(byId('response'), run)
+    showResponse(byId('response'), run, (note) => this.copyEvents(note))
     showComparison(byId('comparison'), this.#statuses, this.#requests, run)
     this.#buttons()
   }
 
   #buttons() {
-    byId('play').textContent = this.#isPlaying ? 'Pause' : 'Play'
-    const begun = (this.#run?.events.length ?? 0) > 0
+    const isFinished = this.#run?.finished
+    byId('play').textContent = this.#isPlaying ? 'Pause' : isFinished ? 'Play again' : 'Play'
+    const begun = this.events.length > 0
     for (const id of ['undo', 'restart']) byId(id).setAttribute('aria-disabled', String(!begun))
-    for (const id of ['play', 'step']) byId(id).setAttribute('aria-disabled', String(!this.#run))
+    byId('play').setAttribute('aria-disabled', String(!this.#run))
+    byId('step').setAttribute('aria-disabled', String(!this.#run || isFinished))
   }
 
   #say(words, isRefused = false) {
+    this.#badStatus = undefined
     byId('said').className = isRefused ? 'said refused' : 'said'
     byId('said').textContent = words
   }

@@ -14,8 +14,14 @@ const FILTERS = {
   lost: ['that failed, were not started or are undone', (kind) => ['failure', 'skipped', 'undone'].includes(kind)],
 }
 const TITLES = ['Request', 'State', 'Answer with', 'Events']
+const OPEN = ['waiting', 'ready', 'running']
 const MOVES = { ArrowUp: -1, ArrowDown: 1 }
 const SIDES = { ArrowLeft: -1, ArrowRight: 1 }
+
+/** Whether a number is a status that a request can be answered. */
+function isStatus(number) {
+  return Number.isInteger(number) && number >= 200 && number <= 599
+}
 
 class Table {
   #place
@@ -30,7 +36,7 @@ class Table {
   #filter
   #table
 
-  /** `listener` has `start` and `report`, which are called with a request, and `focused`. */
+  /** `listener` has `start`, `report`, `focused` and `mended`, the last of a status; each is called with a request. */
   constructor(place, listener) {
     this.#place = place
     this.#listener = listener
@@ -88,14 +94,11 @@ class Table {
     if (this.#rows.has(id)) return this.#rows.get(id)
     const state = element('span', { class: 'state' })
     const why = element('span', { class: 'why' })
-    const status = element('input', {
-      type: 'text', inputmode: 'numeric', size: '3', maxlength: '5', value: String(this.answerOf(request).status),
-      'aria-label': `The status that ${id} is answered`, oninput: () => this.#answer(id, { status: Number(status.value) }),
-    })
+    const status = this.#status(request)
     const start = this.#button('Start', `Start ${id}`, () => this.#listener.start(request))
     const report = this.#button('Report', `Report ${id}`, () => this.#listener.report(request))
     const parts = this.#parts(request)
-    const more = this.#button('Headers, body', `Headers and body that ${id} is answered with`, () => {
+    const more = this.#button('Headers, body of the answer', `Headers and body that ${id} is answered with`, () => {
       parts.hidden = !parts.hidden
       more.setAttribute('aria-expanded', String(!parts.hidden))
     })
@@ -110,6 +113,26 @@ class Table {
     const made = { rows: [row, parts], state, why, status, start, report }
     this.#rows.set(id, made)
     return made
+  }
+
+  /** The field for the status of an answer: what has the focus is selected, so that typing replaces it. */
+  #status(request) {
+    const { id } = request
+    const mark = (it) => field.setAttribute('aria-invalid', String(!isStatus(it)))
+    const select = () => field.select()
+    const taken = () => {
+      const status = Number(field.value) || 0
+      this.#answer(id, { status })
+      mark(status)
+      if (isStatus(status)) this.#listener.mended(request)
+    }
+    const { status } = this.answerOf(request)
+    const field = element('input', {
+      type: 'text', inputmode: 'numeric', size: '3', maxlength: '3', value: String(status),
+      'aria-label': `The status that ${id} is answered`, onfocus: select, onclick: select, oninput: taken,
+    })
+    mark(status)
+    return field
   }
 
   #button(title, label, act) {
@@ -138,11 +161,12 @@ class Table {
   }
 
   #update(request) {
-    const { state, why, start, report } = this.#rows.get(request.id)
+    const { state, why, status, start, report } = this.#rows.get(request.id)
     const kind = this.#reasons.kind(request)
     state.className = `state state-${kind}`
     state.replaceChildren(element('span', { class: 'sign', 'aria-hidden': 'true' }, SIGNS[kind]), this.#reasons.words(request))
     why.textContent = this.#reasons.why(request)
+    status.readOnly = !OPEN.includes(kind)
     // They can be pressed all the same: then the library says why not.
     start.setAttribute('aria-disabled', String(kind !== 'ready'))
     report.setAttribute('aria-disabled', String(kind !== 'running'))

@@ -87,7 +87,8 @@ class Reasons {
     const kind = this.kind(request)
     if (kind === 'waiting') {
       const open = request.needs.filter((name) => !this.membersOf(name).every((it) => this.kind(it) === 'success'))
-      return open.length > 0 ? `waits for ${listed(open.map((name) => this.#called(name)))}` : 'the width is reached'
+      if (open.length === 0) return 'as many requests run as may run at once'
+      return `waits for ${listed(open.map((name) => this.#called(name)))}`
     }
     if (kind === 'skipped') return this.#whySkipped(request)
     if (kind !== 'undone') return ''

@@ -84,6 +84,11 @@ def test_the_tab_key_goes_through_the_page(page):
     page.value("document.activeElement.blur()")
     page.press("Tab")
     assert page.value("return document.activeElement.textContent") == "Skip to the batch"
+    page.press("Tab")
+    assert page.value("return document.activeElement.textContent") == "Skip to the run"
+    page.press("Enter")
+    page.until("return document.activeElement.id === 'play'")
+    page.value("document.querySelector('.skip').focus()")
     seen = []
     for _ in range(80):
         page.press("Tab")

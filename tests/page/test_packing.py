@@ -26,7 +26,7 @@ def test_the_file(page_file, wasm, tmp_path):
 def test_it_names_nothing_outside(page_file):
     text = page_file.read_text(encoding="utf-8")
     named = re.findall(r"""(?:src|href|action)="([^"]*)\"""", text) + re.findall(r"url\(([^)]*)\)|@import", text)
-    assert set(named) == {"data:,", "#text"}
+    assert set(named) == {"data:,", "#text", "#play"}
     assert not re.search(r"\b(?:fetch|XMLHttpRequest|sendBeacon|WebSocket|EventSource|importScripts)\(", text)
 
 

@@ -73,7 +73,7 @@ def test_what_a_request_needs_lights_up(page):
     lit = "return ['needed', 'dependent', 'chosen'].map((it) => document.querySelector(`#picture .box.${it} text`)?.textContent)"
     assert page.value(lit) == ["book", "list", "loan"]
     about = page.text("about")
-    assert about.startswith("loan POST /library/Loans · level 1 · group lend · needs book · 1 request needs it · waiting")
+    assert about.startswith("loan POST /library/Loans · level 1 · group lend · needs book · 1 request needs it · may run beside mark · waiting")
 
 
 def test_the_plan_by_keys(page):

@@ -5,6 +5,7 @@ import json
 import pytest
 
 from support.commands import run
+from support.keys import CONTROL
 from support.page import answer, choose, play, read, write
 
 SAID = "return document.getElementById('said').textContent"
@@ -16,8 +17,16 @@ def response(page):
 
 def events(page):
     """The events of the run, by the button that copies them."""
-    page.value("document.getElementById('second-text').value = ''; document.getElementById('copy-events').click()")
-    return page.until("return document.getElementById('second-text').value")
+    return copied(page, "document.getElementById('copy-events')")
+
+
+def copied(page, button):
+    """What a button puts on the clipboard."""
+    page.value(f"""window.copied = ''
+        const clipboard = {{ writeText: async (text) => {{ window.copied = text }} }}
+        Object.defineProperty(navigator, 'clipboard', {{ value: clipboard, configurable: true }})
+        {button}.click()""")
+    return page.until("return window.copied")
 
 
 def printed(program, tmp_path, batch, second, *words, command="run"):
@@ -74,7 +83,8 @@ def test_a_run_by_keys_alone(page, program, example, tmp_path):
         "–not started, answered 424it needs the group lend, and loan was answered 409",
     ]
     assert response(page) == printed(program, tmp_path, example("batch_usual.json"), events(page))
-    assert "match prints ok 4 responses" in page.text("response")
+    assert "The response fits the batch: 4 responses." in page.text("response")
+    assert "rolls them back and answers 424" in page.text("response")
     assert "To be undone, in this order: mark" in page.text("timeline")
 
 
@@ -125,6 +135,83 @@ def test_steps_are_undone(page):
     assert json.loads(events(page)) == {"events": [{"start": "book"}]}
     page.value("document.getElementById('restart').click()")
     page.until("return document.getElementById('said').textContent.includes('May start: book')")
+
+
+def status_of(page, id, name):
+    """A property of the field for the status that a request is answered."""
+    return page.value(f"""return document.querySelector('[aria-label="The status that {id} is answered"]').{name}""")
+
+
+def test_a_finished_run_is_played_again(page):
+    buttons = "return ['play', 'step'].map((it) => document.getElementById(it)).map((it) => [it.textContent, it.ariaDisabled])"
+    assert page.value(buttons) == [["Play", "false"], ["Step", "false"]]
+    page.value("document.getElementById('step').click(); await new Promise((it) => setTimeout(it, 50))")
+    assert not status_of(page, "book", "readOnly")
+    play(page)
+    assert page.value(buttons) == [["Play again", "false"], ["Step", "true"]]
+    assert status_of(page, "book", "readOnly") and status_of(page, "list", "readOnly")
+    page.value("document.getElementById('undo').click()")
+    page.until("return document.getElementById('said').textContent.includes('Took back the report of list')")
+    assert page.value(buttons) == [["Play", "false"], ["Step", "false"]]
+    assert status_of(page, "book", "readOnly") and not status_of(page, "list", "readOnly")
+
+
+def test_a_status_is_typed_over(page):
+    press_until(page, "Tab", "Start book")
+    happens(page, "Enter", "Started book.")
+    press_until(page, "Tab", "The status that book is answered")
+    page.type("6000")
+    assert status_of(page, "book", "value") == "600"
+    assert status_of(page, "book", "ariaInvalid") == "true"
+    press_until(page, "Tab", "Report book")
+    happens(page, "Enter", "P2 BadStatus")
+    page.press("ArrowLeft")
+    page.press("ArrowLeft")
+    page.press("ArrowDown")
+    page.press("ArrowUp")
+    page.type("404")
+    assert status_of(page, "book", "value") == "404"
+    assert status_of(page, "book", "ariaInvalid") == "false"
+    assert page.value(SAID) == "Running: book."
+
+
+def test_a_run_that_is_replaced_comes_back(page, example):
+    answer(page, "loan", 409)
+    play(page)
+    before = response(page)
+    choose(page, "examples", 1)
+    page.until("return document.querySelector('.batch').textContent.includes('Your run of 6 events was replaced. Bring it back')")
+    page.until("return document.getElementById('verdict').textContent.includes('ok 3 requests')")
+    bring = "document.querySelector('.replaced button').click()"
+    page.value(bring)
+    assert response(page) == before
+    assert page.value("return document.getElementById('examples').value") == "0"
+    assert page.value("return document.querySelector('.replaced')") is None
+    read(page, example("outcomes_lent.json"))
+    assert "Your run of 6 events was replaced." in page.value("return document.querySelector('.second .replaced').textContent")
+    own = example("batch_usual.json").replace("list", "own")
+    write(page, own)
+    choose(page, "examples", 1)
+    page.until("return document.querySelector('.batch').textContent.includes('Your batch was replaced. Bring it back')")
+    page.value(bring)
+    assert page.value("return document.getElementById('text').value") == own
+
+
+def test_a_paste_over_all_replaces_the_run(page):
+    play(page)
+    page.value("const field = document.getElementById('text'); field.focus(); field.select()")
+    for command in ("copy", "paste"):
+        page.call("Input.dispatchKeyEvent", type="rawKeyDown", key="v", modifiers=CONTROL, commands=[command])
+    page.until("return document.querySelector('.replaced')?.textContent === 'Your run of 8 events was replaced. Bring it back'")
+
+
+def test_the_events_are_copied(page):
+    """Also beside the response; the field for second documents keeps its text."""
+    play(page)
+    page.value("document.getElementById('second-text').value = 'mine'")
+    beside = copied(page, "Array.from(document.querySelectorAll('#response button')).find((it) => it.textContent.includes('events'))")
+    assert beside == events(page) and len(json.loads(beside)["events"]) == 8
+    assert page.value("return document.getElementById('second-text').value") == "mine"
 
 
 def test_headers_and_bodies_are_repeated(page, program, example, tmp_path):
