@@ -29,7 +29,7 @@ abbrev pub match_text : Form → List Record → List ℕ → List ℕ
 match_text Lines batch statuses = fit_line (length batch) ++ status_lines batch statuses
 match_text Json batch statuses = json_line (match_value batch statuses)
 
--- the first fault of the value of a response document
+-- the least fault of the value of a response document
 abbrev pub IsFaultOfResponses : Data → Printed → Type 0
 IsFaultOfResponses = HasFault RefusesResponses responses_row
 

@@ -23,7 +23,7 @@ use Rattle.odb_engine.specs.Contents.{Given, OfGiven}
 use Rattle.odb_engine.specs.Contents.Given.{InMemory}
 use Rattle.odb_engine.specs.Matches.{OfResponses}
 
--- a request of the rest lacks a Location, and this is the first fault
+-- a request of the rest lacks a Location, and this is the least fault
 pub record LacksLocations (batch : List Record) (value : Data) (places statuses : List ℕ) (refusal : Printed) : Type 0 where
   pub fault : RestFault
   pub least : (units : List Bool) → AreMarksOf batch (IsInRest batch statuses) units → RefusesRest fault batch units (recorded value places)

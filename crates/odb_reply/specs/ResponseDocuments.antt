@@ -1,5 +1,5 @@
 -- The response document of a service (OData JSON Format 4.01, section 19.5): which of its elements are responses, and what
--- they have; its first fault, and what is printed of that.
+-- they have; its least fault, and what is printed of that.
 use Rattle.std.specs.Prelude.{◌≡◌, ◌≤◌, ◌<◌, ℕ, List, map, slice_get, Option, Some, None, IsSome, IfSome, IsSomeAnd, option_map, codes, All}
 use Rattle.serde_json.specs.Data.{Data, Num, unsigned, negative, float, string, Items}
 use Rattle.serde_json.specs.Find.{get, as_str}
