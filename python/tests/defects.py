@@ -28,7 +28,8 @@ DEFECTS = {
     "a-cut-answer-is-one": ("asgi", "if not self._begun or not self.is_complete:", "if not self._begun:", WSGI_ASGI, "answers_half"),
     "an-answer-ends-a-request": (
         "asgi", "await self._middleware.app(scope, exchange.receive, exchange.send)",
-        "asyncio.ensure_future(self._middleware.app(scope, exchange.receive, exchange.send)); await asyncio.sleep(0.01)",
+        "asyncio.ensure_future(self._middleware.app(scope, exchange.receive, exchange.send))\n"
+        "            while not exchange.is_complete:\n                await asyncio.sleep(0)",
         WSGI_ASGI, "when_the_application_returns",
     ),
     "dots-in-paths": ("_urls", '".." not in segments and ', "", MIDDLEWARE, "lead_out"),

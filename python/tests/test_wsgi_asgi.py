@@ -130,7 +130,8 @@ class TestAsgi:
         async def app(scope, receive, send):
             await send({"type": "http.response.start", "status": 200})
             await send({"type": "http.response.body"})
-            await asyncio.sleep(0.02)
+            for _ in range(1000):
+                await asyncio.sleep(0)
             steps.append(scope["path"])
 
         found = batch(self.over(app), {"url": "a"}, {"url": "b", "dependsOn": ["r0"]})
