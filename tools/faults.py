@@ -23,7 +23,7 @@ sys.path.append(os.path.join(ROOT, "tests"))
 from support.program import add_program, ready
 
 PAGE = os.path.join(ROOT, "docs", "faults.md")
-TEXTS = os.path.join(ROOT, "crates", "odb_batch", "src", "explain")
+TEXTS = os.path.join(ROOT, "crates", "odb_cli", "src", "explain")
 
 # The files of texts: which codes they have, and what they are about.
 FILES = {

@@ -21,7 +21,7 @@ from support.helps import Texts, read_helps
 from support.program import add_program, ready
 
 PAGE = "docs/command-line.md"
-SOURCES = os.path.join(ROOT, "crates", "odb_batch", "src")
+SOURCES = os.path.join(ROOT, "crates", "odb_cli", "src")
 HEAD = "| command or option | what it prints or does |"
 
 

@@ -54,7 +54,7 @@ class Place:
 
 
 PLACES = [
-    Place("crates/odb_batch/src/commands.rt", r'const VERSION: &str = "(.*)";'),
+    Place("crates/odb_cli/src/commands.rt", r'const VERSION: &str = "(.*)";'),
     Place(EXPORT, r"fn odb_version\(\) -> u32\s+ensures \{ result ≡ (\d+) \}", "{number}"),
     Place(EXPORT, r"fn odb_version\(\) -> u32\s+ensures [^\n]*\n\{\s+(\d+)\s+\}", "{number}"),
     Place(HEADER, r"#define ODB_VERSION_MAJOR (\d+)", "{0}"),

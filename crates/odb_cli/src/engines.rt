@@ -16,15 +16,21 @@ use std::alloc::Global;
 use std::io::{Read, Write};
 use std::rt::Runtime;
 
-/// What a command needs to know of its process: the seed, and which streams are terminals.
+/// Which output streams of the process are terminals.
+#[derive(Clone, Copy, Drop)]
+pub struct Terminals {
+    /// Then each answer to a line is written at once.
+    pub stdout: bool,
+    /// Then the progress of a log is shown.
+    pub stderr: bool,
+}
+
+/// What a command needs to know of its process.
 #[derive(Clone, Copy, Drop)]
 pub struct Environment {
     /// The seed of the tables of names.
     pub seed: Seed,
-    /// Whether standard error is a terminal: then the progress of a log is shown.
-    pub stderr_is_terminal: bool,
-    /// Whether standard output is a terminal: then each answer to a line is written at once.
-    pub stdout_is_terminal: bool,
+    pub terminals: Terminals,
 }
 
 impl Environment {

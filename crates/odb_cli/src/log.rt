@@ -5,7 +5,7 @@ ghost use Rattle.std.specs.Prelude.{◌≡◌, false};
 use crate::command_line::{Job, LogOptions};
 use crate::devices::{open, writer_of};
 use crate::ending::{Status, finish, out_of_memory};
-use crate::engines::Environment;
+use crate::engines::{Environment, Terminals};
 use crate::numbered::NumberedLines;
 use crate::progress::Watched;
 use odb_engine::{Disposal, Ended, EngineFault, LineCommand, LineInput, Setup, answer_lines};
@@ -61,9 +61,9 @@ fn answer_watched<R: Runtime + AllocGlobal, I: Read + Drop, W: Write>(
 ) -> Result<Ended, EngineFault>
     requires { output.old.failed ≡ false }
 {
-    let flush = options.flush || environment.stdout_is_terminal;
-    let is_alone = environment.stderr_is_terminal && !environment.stdout_is_terminal;
-    if is_alone && !job.quiet {
+    let Terminals { stdout, stderr } = environment.terminals;
+    let flush = options.flush || stdout;
+    if stderr && !stdout && !job.quiet {
         if let Ok(watched) = Watched::new(rt, command_of(environment, job, options)) {
             let ended = answer(rt.alloc(), reader, output, &watched, flush);
             watched.end();

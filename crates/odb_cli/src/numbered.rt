@@ -60,7 +60,7 @@ fn words_start(name: &str, fault: &[u8]) -> usize {
 
 impl<'n> NumberedLines<'n> {
     ghost use Rattle.std.specs.Prelude.{IfOk, option_map};
-    ghost use Rattle.odb_batch.specs.LineWorks.{OfLine};
+    ghost use Rattle.odb_cli.specs.LineWorks.{OfLine};
 
     /// Makes the command, before the first line.
     pub fn new(work: LineWork, setup: Setup, numbered: bool, located: Option<&'n str>) -> Self {
@@ -98,7 +98,7 @@ impl<'n> NumberedLines<'n> {
 impl<'n> LineCommand for NumberedLines<'n> {
     ghost use Rattle.std.specs.Prelude.{◌≡◌, ◌⊎◌, option_map, true};
     ghost use Rattle.odb_engine.specs.declared.ending.Ended.TheVariants.{Refused};
-    ghost use Rattle.odb_batch.specs.LineWorks.{OfLine};
+    ghost use Rattle.odb_cli.specs.LineWorks.{OfLine};
 
     // What is written of the line, unless a fault is to be numbered.
     ghost writes = { λ self line ended text. ((self.numbered ≡ true) × (ended ≡ Refused))

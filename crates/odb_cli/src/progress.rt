@@ -2,7 +2,7 @@
 
 ghost use Rattle.std.specs.Prelude.{◌≡◌, ◌⊎◌, option_map, true};
 ghost use Rattle.odb_engine.specs.declared.ending.Ended.TheVariants.{Refused};
-ghost use Rattle.odb_batch.specs.LineWorks.{OfLine};
+ghost use Rattle.odb_cli.specs.LineWorks.{OfLine};
 
 use crate::numbered::NumberedLines;
 use odb_engine::{Ended, EngineFault, LineCommand};
