@@ -104,12 +104,20 @@ retarget() {
             -e '/^attributes/s/"\(probe-stack\|stack-probe-size\|target-cpu\)"="[^"]*"//g'
 }
 
+# Optimizes an LLVM module, unless that was done since it was made: all other systems but WebAssembly take what is written.
+# optimize MODULE OUT
+optimize() {
+    if [ "$2" -nt "$1" ] && [ "$2" -nt "$root/bin/building.sh" ]; then return; fi
+    "$(clang_of_kit)" --no-default-config --target=x86_64-unknown-linux-gnu -O2 -emit-llvm -c -x ir "$1" -o "$2"
+}
+
 # Compiles an LLVM module for another system than x86-64 Linux: compile_module MODULE TRIPLE OUT. For Windows the allocator is
 # called as on Linux, with answers in two registers.
 compile_module() {
-    local text flags=(-O2 -fno-addrsig) status=0
+    local optimized=${1%.bc}.optimized.bc text flags=(-O2 -Xclang -disable-llvm-passes -fno-addrsig) status=0
+    optimize "$1" "$optimized" || return 1
     text=$(mktemp --suffix=.ll)
-    retarget "$1" "$2" |
+    retarget "$optimized" "$2" |
         case $2 in
             *windows*) sed 's/\(declare\|call\) \([^@]*@rattle_\(alloc\|realloc\|dealloc\)(\)/\1 x86_64_sysvcc \2/' ;;
             *) cat ;;
