@@ -31,42 +31,21 @@ form_number Json = 1
 abbrev pub IsForm : ℕ → Form → Type 0
 IsForm number form = number ≡ form_number form
 
--- the number names no form
-abbrev pub NamesNoForm : ℕ → Type 0
-NamesNoForm number = 1 < number
-
 -- the number names the mode
 abbrev pub IsMode : ℕ → Mode → Type 0
 IsMode number mode = number ≡ mode_number mode
-
--- the number names no mode
-abbrev pub NamesNoMode : ℕ → Type 0
-NamesNoMode number = 1 < number
 
 -- these numbers name the policy
 pub record IsPolicy (mode width : ℕ) (policy : Policy) : Type 0 where
   pub of_mode : mode ≡ mode_number policy.mode
   pub of_width : width ≡ policy.width
+  pub least : 1 ≤ width
   pub most : width ≤ 10000
-
--- these numbers name no policy
-abbrev pub NamesNoPolicy : ℕ → ℕ → Type 0
-NamesNoPolicy mode width = NamesNoMode mode ⊎ ((width ≡ 0) ⊎ (10000 < width))
-
-abbrev pub NamesNoOrder : ℕ → Type 0
-NamesNoOrder order = 2 < order
-
-abbrev pub NamesNoFlag : ℕ → Type 0
-NamesNoFlag flag = 1 < flag
 
 -- these numbers name the match
 abbrev pub IsMatch : ℕ → ℕ → Task → Type 0
 IsMatch mode strict (tasks.Match named asked) = IsMode mode named × (strict ≡ flag_number asked)
 IsMatch mode strict _ = ⊥
-
--- one of these numbers names no option of a match
-abbrev pub NamesNoMatch : ℕ → ℕ → Type 0
-NamesNoMatch mode strict = NamesNoMode mode ⊎ NamesNoFlag strict
 
 -- these numbers name the run
 abbrev pub IsRun : ℕ → ℕ → Task → Type 0
@@ -77,7 +56,3 @@ IsRun mode width _ = ⊥
 abbrev pub IsReplay : ℕ → ℕ → ℕ → ℕ → Task → Type 0
 IsReplay mode width order trace (tasks.Replay policy by traced) = IsPolicy mode width policy × (order ≡ order_number by) × (trace ≡ flag_number traced)
 IsReplay mode width order trace _ = ⊥
-
--- one of these numbers names no option of a replay
-abbrev pub NamesNoReplay : ℕ → ℕ → ℕ → ℕ → Type 0
-NamesNoReplay mode width order trace = NamesNoPolicy mode width ⊎ (NamesNoOrder order ⊎ NamesNoFlag trace)

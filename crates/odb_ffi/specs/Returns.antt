@@ -40,7 +40,11 @@ pub data Returns (P : Writes) (status text_length : ℕ) (old new : List ℕ) : 
   Given : (ended : Ended) (text : List ℕ) → P ended text → Fills text (status_of ended) status text_length old new → Returns P status text_length old new
   OutOfMemory : IsOutOfMemory status text_length old new → Returns P status text_length old new
 
+-- no option is named
+abbrev pub NamesNone : {O : Type 0} → (O → Type 0) → Type 0
+NamesNone {O} Names = (options : O) → ¬ Names options
+
 -- what a call with options returns: what it does by the options that its numbers name, or that they name none
-pub data ReturnsBy {O : Type 0} (Names : O → Type 0) (NamesNone : Type 0) (R : O → ℕ → ℕ → List ℕ → List ℕ → Type 0) (status text_length : ℕ) (old new : List ℕ) : Type 0 where
-  Named : (options : O) → Names options → R options status text_length old new → ReturnsBy Names NamesNone R status text_length old new
-  WrongOption : NamesNone → IsWrongOption status text_length old new → ReturnsBy Names NamesNone R status text_length old new
+pub data ReturnsBy {O : Type 0} (Names : O → Type 0) (R : O → ℕ → ℕ → List ℕ → List ℕ → Type 0) (status text_length : ℕ) (old new : List ℕ) : Type 0 where
+  Named : (options : O) → Names options → R options status text_length old new → ReturnsBy Names R status text_length old new
+  WrongOption : NamesNone Names → IsWrongOption status text_length old new → ReturnsBy Names R status text_length old new

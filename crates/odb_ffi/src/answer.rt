@@ -68,7 +68,7 @@ pub fn answer_as(
     buffer: &mut [u8],
     text_length: &mut usize,
 ) -> u32
-    ensures { ReturnsBy (options.IsForm form) (options.NamesNoForm form)
+    ensures { ReturnsBy (options.IsForm form)
         (λ form. Returns (Does task form batch.now second.now))
         result text_length.new buffer.old buffer.new }
 {

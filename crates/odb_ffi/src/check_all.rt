@@ -38,7 +38,7 @@ pub fn check_all_as(
     buffer: &mut [u8],
     text_length: &mut usize,
 ) -> u32
-    ensures { ReturnsBy (options.IsForm form) (options.NamesNoForm form)
+    ensures { ReturnsBy (options.IsForm form)
         (λ form. Returns (ChecksAll batch.now form))
         result text_length.new buffer.old buffer.new }
 {

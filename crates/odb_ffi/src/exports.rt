@@ -64,7 +64,7 @@ pub extern "C" fn odb_check_as(
     text_length: &mut usize,
     seed: u64,
 ) -> u32
-    ensures { ReturnsBy (options.IsForm form) (options.NamesNoForm form)
+    ensures { ReturnsBy (options.IsForm form)
         (λ form. Returns (Does tasks.Check form batch.now []))
         result text_length.new text.old text.new }
 {
@@ -95,7 +95,7 @@ pub extern "C" fn odb_check_all_as(
     text_length: &mut usize,
     seed: u64,
 ) -> u32
-    ensures { ReturnsBy (options.IsForm form) (options.NamesNoForm form)
+    ensures { ReturnsBy (options.IsForm form)
         (λ form. Returns (ChecksAll batch.now form))
         result text_length.new text.old text.new }
 {
@@ -127,7 +127,7 @@ pub extern "C" fn odb_plan_as(
     text_length: &mut usize,
     seed: u64,
 ) -> u32
-    ensures { ReturnsBy (options.IsForm form) (options.NamesNoForm form)
+    ensures { ReturnsBy (options.IsForm form)
         (λ form. Returns (Does tasks.Plan form batch.now []))
         result text_length.new text.old text.new }
 {
@@ -159,7 +159,7 @@ pub extern "C" fn odb_canon_as(
     text_length: &mut usize,
     seed: u64,
 ) -> u32
-    ensures { ReturnsBy (options.IsForm form) (options.NamesNoForm form)
+    ensures { ReturnsBy (options.IsForm form)
         (λ form. Returns (Does tasks.Canon form batch.now []))
         result text_length.new text.old text.new }
 {
@@ -204,7 +204,7 @@ pub extern "C" fn odb_match_as(
     text_length: &mut usize,
     seed: u64,
 ) -> u32
-    ensures { ReturnsBy (options.IsForm form) (options.NamesNoForm form)
+    ensures { ReturnsBy (options.IsForm form)
         (λ form. Returns (Does (tasks.Match modes.Continue false) form batch.now responses.now))
         result text_length.new text.old text.new }
 {
@@ -237,8 +237,8 @@ pub extern "C" fn odb_match_with(
     text_length: &mut usize,
     seed: u64,
 ) -> u32
-    ensures { ReturnsBy (options.IsMatch mode strict) (options.NamesNoMatch mode strict)
-        (λ task. ReturnsBy (options.IsForm form) (options.NamesNoForm form)
+    ensures { ReturnsBy (options.IsMatch mode strict)
+        (λ task. ReturnsBy (options.IsForm form)
         (λ form. Returns (Does task form batch.now responses.now)))
         result text_length.new text.old text.new }
 {
@@ -264,8 +264,8 @@ pub extern "C" fn odb_rest(
     text_length: &mut usize,
     seed: u64,
 ) -> u32
-    ensures { ReturnsBy (options.IsMode mode) (options.NamesNoMode mode)
-        (λ mode. ReturnsBy (options.IsForm form) (options.NamesNoForm form)
+    ensures { ReturnsBy (options.IsMode mode)
+        (λ mode. ReturnsBy (options.IsForm form)
         (λ form. Returns (RestLine mode batch.now responses.now form)))
         result text_length.new text.old text.new }
 {
@@ -290,7 +290,7 @@ pub extern "C" fn odb_run(
     text_length: &mut usize,
     seed: u64,
 ) -> u32
-    ensures { ReturnsBy (options.IsRun mode width) (options.NamesNoPolicy mode width)
+    ensures { ReturnsBy (options.IsRun mode width)
         (λ task. Returns (Does task forms.Lines batch.now events.now))
         result text_length.new text.old text.new }
 {
@@ -313,8 +313,8 @@ pub extern "C" fn odb_run_as(
     text_length: &mut usize,
     seed: u64,
 ) -> u32
-    ensures { ReturnsBy (options.IsRun mode width) (options.NamesNoPolicy mode width)
-        (λ task. ReturnsBy (options.IsForm form) (options.NamesNoForm form)
+    ensures { ReturnsBy (options.IsRun mode width)
+        (λ task. ReturnsBy (options.IsForm form)
         (λ form. Returns (Does task form batch.now events.now)))
         result text_length.new text.old text.new }
 {
@@ -342,7 +342,7 @@ pub extern "C" fn odb_replay(
     text_length: &mut usize,
     seed: u64,
 ) -> u32
-    ensures { ReturnsBy (options.IsReplay mode width order trace) (options.NamesNoReplay mode width order trace)
+    ensures { ReturnsBy (options.IsReplay mode width order trace)
         (λ task. Returns (Does task forms.Lines batch.now outcomes.now))
         result text_length.new text.old text.new }
 {
@@ -367,8 +367,8 @@ pub extern "C" fn odb_replay_as(
     text_length: &mut usize,
     seed: u64,
 ) -> u32
-    ensures { ReturnsBy (options.IsReplay mode width order trace) (options.NamesNoReplay mode width order trace)
-        (λ task. ReturnsBy (options.IsForm form) (options.NamesNoForm form)
+    ensures { ReturnsBy (options.IsReplay mode width order trace)
+        (λ task. ReturnsBy (options.IsForm form)
         (λ form. Returns (Does task form batch.now outcomes.now)))
         result text_length.new text.old text.new }
 {

@@ -2,6 +2,7 @@
 
 ghost use Rattle.std.specs.Prelude.{◌≡◌, ◌≢◌, Some, None, IfSome};
 ghost use Rattle.odb_ffi.specs.Options as options;
+ghost use Rattle.odb_ffi.specs.Returns.{NamesNone};
 
 use odb_check::Seed;
 use odb_engine::{Form, Setup, Task};
@@ -31,7 +32,7 @@ pub fn setup_of(form: Form, seed: u64) -> Setup
 /// Returns the mode that a number names, or `None` if it may not be.
 pub fn mode_of(mode: u32) -> Option<Mode>
     ensures some { IfSome result (options.IsMode mode) }
-    ensures none { result ≡ None → options.NamesNoMode mode }
+    ensures none { result ≡ None → NamesNone (options.IsMode mode) }
 {
     match mode {
         0 => Some(Mode::Continue),
@@ -43,7 +44,7 @@ pub fn mode_of(mode: u32) -> Option<Mode>
 /// Returns the policy that two numbers name, or `None` if one of them may not be.
 pub fn policy_of(mode: u32, width: u32) -> Option<Policy>
     ensures some { IfSome result (options.IsPolicy mode width) }
-    ensures none { result ≡ None → options.NamesNoPolicy mode width }
+    ensures none { result ≡ None → NamesNone (options.IsPolicy mode width) }
 {
     let mode = mode_of(mode)?;
     if width > MAX_WIDTH {
@@ -55,7 +56,7 @@ pub fn policy_of(mode: u32, width: u32) -> Option<Policy>
 /// Returns the form that a number names, or `None` if it may not be.
 pub fn form_of(form: u32) -> Option<Form>
     ensures some { IfSome result (options.IsForm form) }
-    ensures none { result ≡ None → options.NamesNoForm form }
+    ensures none { result ≡ None → NamesNone (options.IsForm form) }
 {
     match form {
         0 => Some(Form::Lines),
@@ -67,7 +68,7 @@ pub fn form_of(form: u32) -> Option<Form>
 /// Returns the order that a number names, or `None` if it may not be.
 fn order_of(order: u32) -> Option<Order>
     ensures some { IfSome result (λ named. order ≡ options.order_number named) }
-    ensures none { result ≡ None → options.NamesNoOrder order }
+    ensures none { result ≡ None → NamesNone (λ named. order ≡ options.order_number named) }
 {
     match order {
         0 => Some(Order::First),
@@ -80,7 +81,7 @@ fn order_of(order: u32) -> Option<Order>
 /// Returns the answer that a number is, 0 for no and 1 for yes, or `None` if it may not be.
 fn flag_of(number: u32) -> Option<bool>
     ensures some { IfSome result (λ named. number ≡ options.flag_number named) }
-    ensures none { result ≡ None → options.NamesNoFlag number }
+    ensures none { result ≡ None → NamesNone (λ named. number ≡ options.flag_number named) }
 {
     match number {
         0 => Some(false),
@@ -92,7 +93,7 @@ fn flag_of(number: u32) -> Option<bool>
 /// Returns the match that two numbers name, or `None` if one of them may not be.
 pub fn match_of(mode: u32, strict: u32) -> Option<Task>
     ensures some { IfSome result (options.IsMatch mode strict) }
-    ensures none { result ≡ None → options.NamesNoMatch mode strict }
+    ensures none { result ≡ None → NamesNone (options.IsMatch mode strict) }
 {
     let mode = mode_of(mode)?;
     let strict = flag_of(strict)?;
@@ -102,7 +103,7 @@ pub fn match_of(mode: u32, strict: u32) -> Option<Task>
 /// Returns the run that two numbers name, or `None` if one of them may not be.
 pub fn run_of(mode: u32, width: u32) -> Option<Task>
     ensures some { IfSome result (options.IsRun mode width) }
-    ensures none { result ≡ None → options.NamesNoPolicy mode width }
+    ensures none { result ≡ None → NamesNone (options.IsRun mode width) }
 {
     let policy = policy_of(mode, width)?;
     Some(Task::Run { policy })
@@ -111,7 +112,7 @@ pub fn run_of(mode: u32, width: u32) -> Option<Task>
 /// Returns the replay that four numbers name, or `None` if one of them may not be.
 pub fn replay_of(mode: u32, width: u32, order: u32, trace: u32) -> Option<Task>
     ensures some { IfSome result (options.IsReplay mode width order trace) }
-    ensures none { result ≡ None → options.NamesNoReplay mode width order trace }
+    ensures none { result ≡ None → NamesNone (options.IsReplay mode width order trace) }
 {
     Some(Task::Replay {
         policy: policy_of(mode, width)?,

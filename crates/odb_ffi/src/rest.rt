@@ -43,7 +43,7 @@ pub fn rest_as(
     buffer: &mut [u8],
     text_length: &mut usize,
 ) -> u32
-    ensures { ReturnsBy (options.IsForm form) (options.NamesNoForm form)
+    ensures { ReturnsBy (options.IsForm form)
         (λ form. Returns (RestLine mode batch.now responses.now form))
         result text_length.new buffer.old buffer.new }
 {

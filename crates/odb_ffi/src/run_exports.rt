@@ -67,7 +67,7 @@ pub extern "C" fn odb_run_open(
     text_length: &mut usize,
     seed: u64,
 ) -> u32
-    ensures opened { ReturnsBy (options.IsPolicy mode width) (options.NamesNoPolicy mode width)
+    ensures opened { ReturnsBy (options.IsPolicy mode width)
         (λ policy. calls.Opening policy batch.now events.now run.new.value)
         result text_length.new text.old text.new }
     ensures unopened { result ≢ 0 → run.new.value ≡ run.old.value }
