@@ -84,6 +84,7 @@ pub(crate) struct Tables<'b> {
 
 impl<'b> FirstTables<'b> {
     /// Adds the request at the position `i` to those before it.
+    #[inline(always)]
     fn add(&mut self, alloc: Global, i: u32) -> Result<(), AllocError>
         requires within { i < length (records self.old.batch.now) }
         requires before { AreTablesOf (records self.old.batch.now) i self.old.ids self.old.groups
@@ -108,6 +109,7 @@ impl<'b> FirstTables<'b> {
     }
 
     /// Adds all requests to empty tables.
+    #[inline(always)]
     fn fill(&mut self, alloc: Global) -> Result<(), AllocError>
         requires tables { AreTablesOf (records self.old.batch.now) 0 self.old.ids self.old.groups
             self.old.units.items self.old.starts.items }
@@ -132,6 +134,7 @@ impl<'b> FirstTables<'b> {
 }
 
 /// The tables of a batch.
+#[inline(always)]
 pub(crate) fn tables_of<'b>(
     alloc: Global,
     seed: Seed,

@@ -24,6 +24,7 @@ use std::alloc::{AllocError, Global};
 ///
 /// Clients often list the requests just before, or some in a row, so each name is guessed: the first as
 /// that of a request just before, and each further one as the id after the one before it.
+#[inline(always)]
 pub(crate) fn resolve_names(
     tables: &Tables<'_>,
     i: u32,

@@ -24,6 +24,7 @@ impl Method {
     ];
 
     /// Returns the method of this name, in any ASCII case, or `None` if the text names no method.
+    #[inline(always)]
     pub fn read(text: &str) -> Option<Method>
         ensures named { MatchOption result ((method : Method) → ¬ Names text.now method)
             (Names text.now) }

@@ -1,4 +1,6 @@
 //! The rules of a request, each asked for itself, whatever others the request breaks.
+//!
+//! What these tests share with the reading of a request is inlined there, as if it were called there alone.
 
 ghost use Rattle.std.specs.Prelude.{◌≡◌, ◌↔◌, IsTrue, IfOk};
 ghost use Rattle.serde_json.specs.View.{view};

@@ -33,6 +33,7 @@ fn is_of_kind(kind: BodyKind, body: &Value) -> bool
 }
 
 /// Returns whether the media type in the headers allows the body.
+#[inline(always)]
 pub(crate) fn is_allowed(
     alloc: Global,
     headers: &[Header<'_>],

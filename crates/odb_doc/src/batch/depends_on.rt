@@ -18,6 +18,7 @@ use smallvec::SmallVec;
 use std::alloc::Global;
 
 /// Returns the strings of an array, or F17 if an element is not a string.
+#[inline(always)]
 fn all_texts<'a>(alloc: Global, elements: &'a [Value]) -> Result<Names<'a>, Broken<RequestRule>>
     ensures texts { IfOk result (λ texts. texts_of (items_view elements.now)
         ≡ Some (texts_in texts.items)) }
@@ -35,6 +36,7 @@ fn all_texts<'a>(alloc: Global, elements: &'a [Value]) -> Result<Names<'a>, Brok
 }
 
 /// Returns the strings in `dependsOn`, or F17 if it is not an array of strings.
+#[inline(always)]
 pub(crate) fn listed_names<'a>(
     alloc: Global,
     member: Option<&'a Value>,

@@ -66,6 +66,7 @@ fn push_text<'a>(
 }
 
 /// Returns the members of an object, or F18 if a value is not a string.
+#[inline(always)]
 fn texts_of<'a>(
     alloc: Global,
     members: &'a Map<String, Value>,
@@ -83,6 +84,7 @@ fn texts_of<'a>(
 }
 
 /// Returns whether each name comes before the next.
+#[inline(always)]
 fn are_ascending(headers: &[Header<'_>]) -> bool
     ensures ordered { result ≡ true → IsInOrder (map lent_header headers.now) }
     ensures some { result ≡ false → HasUnordered headers.now }
@@ -107,6 +109,7 @@ fn sort(headers: &mut Vec<Header<'_>>)
 }
 
 /// Returns the headers in order of their names, or F19 if two have one name.
+#[inline(always)]
 fn in_order<'a>(mut headers: Vec<Header<'a>>) -> Result<Vec<Header<'a>>, Broken<RequestRule>>
     ensures sorted { IfOk result (λ sorted. IsPermutation headers.entry.items sorted.items
         × IsInOrder (map lent_header sorted.items)) }
@@ -126,6 +129,7 @@ fn in_order<'a>(mut headers: Vec<Header<'a>>) -> Result<Vec<Header<'a>>, Broken<
 
 /// Returns the headers of a request in order of their names, or the first of the rules F18 and F19 that
 /// it breaks.
+#[inline(always)]
 pub(crate) fn headers_of<'a>(
     alloc: Global,
     members: &Members<'a>,
@@ -187,6 +191,7 @@ fn is_content_type(name: &str) -> bool
 }
 
 /// Returns the value of the header `content-type`, or the empty text if there is none.
+#[inline(always)]
 pub(crate) fn content_type<'a>(headers: &[Header<'a>]) -> &'a str
     ensures { result.now ≡ content_type (map lent_header headers.now) }
 {

@@ -34,6 +34,7 @@ pub(crate) fn id_of<'a>(members: &Members<'a>) -> Option<&'a str>
 }
 
 /// Returns the method that `method` names.
+#[inline(always)]
 pub(crate) fn method_of(members: &Members<'_>) -> Option<Method>
     ensures { (d : Data) → AreMembersOf d members.now → MatchOption result
         ((method : Method) → ¬ HasMethod d method) (HasMethod d) }

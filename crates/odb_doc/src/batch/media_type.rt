@@ -112,6 +112,7 @@ impl BodyKind {
 
     /// Returns the kind that a `content-type` asks for. An empty one asks for any JSON value. Only a
     /// media type with a letter in upper case is copied.
+    #[inline(always)]
     pub(crate) fn of(alloc: Global, content_type: &str) -> Result<BodyKind, AllocError>
         ensures { IfOk result (HasKind content_type.now) }
     {

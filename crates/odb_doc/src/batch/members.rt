@@ -58,6 +58,7 @@ impl<'a> Members<'a> {
     }
 
     /// Finds the members of an object.
+    #[inline(always)]
     fn among(members: &'a Map<String, Value>) -> Self
         ensures { AreMembersOf (object (members_view members.now.entries)) result }
     {
@@ -69,6 +70,7 @@ impl<'a> Members<'a> {
     }
 
     /// Finds the members of a value, which has none if it is not an object.
+    #[inline(always)]
     pub(crate) fn of(element: &'a Value) -> Self
         ensures { AreMembersOf (view element.now) result }
     {
