@@ -13,6 +13,8 @@ const MEMBER = {
 }
 const LONGEST_ID = 100 // characters of an id that is shown
 const OF_ELEMENT = /^\/(\w+)\/(\d+)$/
+const WORD_AT_END = /[\w.+-]*$/u
+const LONGEST_WORD = 100 // characters of a number or a word that are marked
 // What may be a string, a number or a word, as far as it goes; or another character.
 const TOKEN = /"(?:[^"\\\n]|\\.)*"?|[\w.+-]+|[^]/uy
 
@@ -107,7 +109,7 @@ class Places {
   of(fault) {
     const found = this.#rangeOf(fault)
     const whole = { start: found.start, end: found.end }
-    return { whole, part: found.part ?? whole, id: found.id, ...this.lines.at(whole.start) }
+    return { whole, part: found.part ?? whole, id: found.id, ...this.lines.at(found.place ?? whole.start) }
   }
 
   #rangeOf(fault) {
@@ -117,13 +119,21 @@ class Places {
     const element = elements?.at(Number(position))
     if (element) return { ...element, ...elements.about(Number(position), MEMBER[code]) }
     if (code === 'F01') return { start: 0, end: 0 }
-    return this.#tokenAt(code === 'F02' ? this.#beforeByte(fault.offset) : skipSpace(this.#text, 0))
+    if (code !== 'F02') return this.#tokenAt(skipSpace(this.#text, 0))
+    const token = this.#tokenAt(this.#beforeByte(fault.offset))
+    const isEnd = token.start === token.end
+    return { start: isEnd ? token.start : this.#wordBefore(token.start), end: token.end, place: token.start }
   }
 
   /** How much of the text is before one of its bytes. */
   #beforeByte(offset) {
     const before = new TextEncoder().encode(this.#text).subarray(0, offset)
     return new TextDecoder('utf-8', { ignoreBOM: true }).decode(before).length
+  }
+
+  /** Where the number or the word begins that ends at this place, which is wrong with what is there; else the place. */
+  #wordBefore(end) {
+    return end - WORD_AT_END.exec(this.#text.slice(Math.max(0, end - LONGEST_WORD), end))[0].length
   }
 
   /** The range of the token there, which is empty at the end of the text. */

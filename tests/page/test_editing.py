@@ -41,19 +41,19 @@ def test_a_click_leads_to_the_place(page, example):
     assert found == ['"dependsOn": ["order"]', 0, "text"]
 
 
-# A text that is not JSON, and what cannot be there; after a number that is too large reading stops behind it.
+# A text that is not JSON, and what is marked: from the word or the number that goes wrong to the end of what cannot be there.
 BROKEN = [
     ('{"requests": [],}', "}"),
     ('{"requests": [}', "}"),
     ('{"requests": []', " "),
     ('{"requests": [{"id": "a" "url": "b"}]}', '"url"'),
-    ('{"requests": [], "@a": 1e999}', "}"),
+    ('{"requests": [], "@a": 1e999}', "1e999"),
     ('{"requests": [], "@a": 01}', "01"),
     ('{"requests": [], "@a": 1.e5}', "1.e5"),
-    ('{"requests": [], "@a": "\\x"}', '"\\x"'),
-    ('{"requests": [], "@a": "\\u00g"}', '"\\u00g"'),
+    ('{"requests": [], "@a": "\\x"}', "x"),
+    ('{"requests": [], "@a": "\\u00g"}', 'u00g"}'),
     ('{"requests": [], "@a": "\\ud800"}', '"\\ud800"'),
-    ('{"requests": [], "@ä𝄞": tru}', "tru"),
+    ('{"requests": [], "@ä𝄞": tru}', "tru}"),
     ('{"requests": []} 𝄞', "𝄞"),
 ]
 

@@ -29,7 +29,7 @@ METHOD, BODY = ("F14 BadMethod /requests/0", '"method": "got"'), ("F20 BodyNotAl
 @pytest.mark.parametrize("text, lines, offset, wanted", [
     (BATCH, [METHOD[0]], 0, [["F14", "a", 2, 3, METHOD[1]]]),
     (BATCH, [METHOD[0], BODY[0]], 0, [["F14", "a", 2, 3, METHOD[1]], ["F20", "b", 3, 3, BODY[1]]]),
-    ('{"\u00e4": tru}', ["F02 NotJson batch"], 10, [["F02", None, 1, 10, "}"]]),
+    ('{"\u00e4": tru}', ["F02 NotJson batch"], 10, [["F02", None, 1, 10, "tru}"]]),
     ('{"\u00e4": \U0001f4da}', ["F02 NotJson batch"], 7, [["F02", None, 1, 7, "\U0001f4da"]]),
     ("[", ["F02 NotJson batch"], 1, [["F02", None, 1, 2, ""]]),
 ])  # fmt: skip
