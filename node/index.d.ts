@@ -102,9 +102,9 @@ export interface Replay {
  * A document is refused: by its first fault, or by one of all that {@link faults} returns.
  *
  * Where its place begins in the document is looked up when `line`, `column` or `offset` is asked for, in a time in proportion
- * to the document: do not change the bytes of that before. In a document that is not JSON (F02) they are where reading stops:
- * at the character, string, number or word that cannot be there, or at the end. Of an object they are those in the text that
- * `JSON.stringify` writes of it. They are undefined for a fault that a live run has found.
+ * to the document: do not change the bytes of that before. In a document that is not JSON (F02) they are those of the first
+ * byte that cannot be there, or of the end. Of an object they are those in the text that `JSON.stringify` writes of it. They
+ * are undefined for a fault that a live run has found.
  */
 export class Fault extends Error {
   /** @param document The bytes of the document, which a fault keeps. */

@@ -48,6 +48,18 @@ def test_each_fault_of_a_batch(program, document):
         assert at == (position(document, place) if code != "F02" else counted(document, at[2]))
 
 
+def test_many_faults_are_found_in_one_scan(program):
+    front, element, count = b'{"requests":[', '{"id":"é#","method":"x","url":7,"if":1,"more":2}'.encode(), 10000
+    document = front + b",\n".join([element] * count) + b"]}"
+    text, status = call(program, ["check", "--all", "--where", "--json"], [document])
+    faults = json.loads(text)["faults"]
+    places = [(fault["place"], *(fault[key] for key in KEYS)) for fault in faults]
+    length = len(element) + len(b",\n")
+    begins = [(f"/requests/{i}", i + 1, 1 if i else len(front) + 1, len(front) + i * length) for i in range(count)]
+    assert status == 1
+    assert places == [place for place in begins for _ in range(5)]
+
+
 @st.composite
 def pairs(draw):
     """A command over two documents, with both, of which the second is damaged more often."""
@@ -99,6 +111,24 @@ def broken(draw):
     at = draw(of(*(it.end() for it in re.finditer(rb"[\[{,:]", data))))
     closing = b"]" if data[at - 1 : at] == b"{" else b"}"
     return data[:at] + draw(of(closing, b"x", b",", b":", b"\xff", b"'")) + data[at:], at
+
+
+# A value that is wrong, and how many of its bytes could be there.
+WRONG_VALUES = [
+    (b"tru]", 3), (b"truth", 3), (b"nulL", 3), (b"falsey", 5), (b"True", 0), (b"NaN", 0), (b"-]", 1), (b"-a", 1), (b"01", 1),
+    (b"-012", 2), (b"1.]", 2), (b"1.e5", 2), (b"1e]", 2), (b"1e+]", 3), (b"1.5.2", 3), (b"0x1", 1), (b"+1", 0), (b".5", 0),
+    (b"1e309]", 4), (b'12"a"', 2), (b'"\\x"', 2), (b'"a\\', 3), (b'"a\nb"', 2), (b'"\x1f"', 1), (b'"\xc3\xa9\xff"', 3), (b"'a'", 0),
+    (b'"\\ud800"', 0), (b'"\\udc00"', 0), (b'"\\ud800\\u0041" ', 0), (b'"\\u00g0"', 6), (b'"\\u123"', 6),
+]
+
+
+@pytest.mark.parametrize("value, good", WRONG_VALUES)
+def test_the_first_byte_of_a_wrong_value(program, value, good):
+    front = b'{"@a": ["\xc3\xa9", 1.5e3,\n '
+    document = front + value + (b', "end"]}' if value[-1:] not in b"\\" else b"")
+    [(_, code, place, found)] = faults_of(program, ["check"], [document])
+    assert (code, place) == ("F02", "batch")
+    assert found == counted(document, len(front) + good)
 
 
 @share(2)

@@ -47,9 +47,8 @@ class Fault(OdbError, ValueError):
 
     Its text is the code, the name and the place, as ``F41 ForwardName /requests/0``. Where that begins in the document, as
     ``line``, ``column`` and ``offset`` say, is looked up when one of them is asked for; a fault keeps its document for that.
-    In a document that is not JSON (F02) they are where reading stops: at the character, string, number or word that cannot
-    be there, or at the end. Of a mapping they are those in the JSON that ``json`` writes of it. They are None for a fault
-    that a live run has found.
+    In a document that is not JSON (F02) they are those of the first byte that cannot be there, or of the end. Of a mapping
+    they are those in the JSON that ``json`` writes of it. They are None for a fault that a live run has found.
 
     Attributes:
         place: The document, as ``batch``, or its element, as ``/requests/0``, counted from 0; ``report``

@@ -26,7 +26,7 @@ use Rattle.odb_engine.specs.declared.ending.Ended.TheVariants.{Refused}
 use Rattle.odb_engine.specs.declared.form.Form.{Form}
 use Rattle.odb_engine.specs.AllFaults.{AreFaultsIn, AreFaultsOf, ChecksAll, faults_text}
 use Rattle.odb_engine.specs.Answered.{answer_found}
-use Rattle.odb_engine.specs.Cascade.{AnswersValue, RefusesBytes, Writes}
+use Rattle.odb_engine.specs.Cascade.{Answers, AnswersValue, RefusesBytes, Writes}
 use Rattle.odb_engine.specs.Commands.{Counts}
 use Rattle.odb_engine.specs.Forms.{fault_text}
 use Rattle.odb_engine.specs.Engines.{Ends}
@@ -78,14 +78,17 @@ pub ends-answered : {W : Type 0} (contents : W → Option (List ℕ)) (P : Write
     → IfOk found (λ answer. P answer.ended answer.text.items) → ((found ≡ Err halts.Read) ↔ ReadFailed) → Ends contents (answer_found found) (found ≡ Err halts.Read) old new result → Ends contents P ReadFailed old new result
 ends-answered contents P ReadFailed old new found result so read is = Ends-weaker contents (answer_found found) P _ ReadFailed old new result (answer-written P found so) read is
 
--- what is written of bytes that are no document
-pub all-alone : (bytes : List ℕ) (form : Form) (ended : Ended) (text : List ℕ) (refusal : Refusal) (found shown : List Refusal) → RefusesBytes Batch bytes (printed refusal) → found ≡ refusal ∷ [] → shown ≡ found → (ended ≡ Refused) × (text ≡ faults_text form (map printed shown))
-    → ChecksAll bytes form ended text
-all-alone bytes form ended text refusal found shown refuses is same (ends, prints) =
-    inr ((fault_text form (printed refusal), inl (record { refusal = printed refusal; is = refuses; ends = refl; prints = refl })), record { refusals = map printed shown; all = faults-alone bytes refusal shown refuses (same ∙ is); ends = ends; prints = prints })
+-- the fault of bytes that are no document
+pub all-alone : (bytes : List ℕ) (form : Form) (refusal : Refusal) (found : List Refusal) → RefusesBytes Batch bytes (printed refusal) → found ≡ refusal ∷ [] → ((line : List ℕ) × Answers Counts bytes form Refused line) × AreFaultsIn bytes (map printed found)
+all-alone bytes form refusal found refuses is = ((fault_text form (printed refusal), inl (record { refusal = printed refusal; is = refuses; ends = refl; prints = refl })), faults-alone bytes refusal found refuses is)
 
--- what is written of a document whose value the check refuses
-pub all-inside : (bytes : List ℕ) (value : Data) (form : Form) (ended : Ended) (text : List ℕ) (refusal : Refusal) (found shown : List Refusal) → IsDocument bytes value → AnswersValue Counts value form Refused (fault_text form (printed refusal)) → AreFaultsOf value (map printed found) → shown ≡ found
-    → (ended ≡ Refused) × (text ≡ faults_text form (map printed shown)) → ChecksAll bytes form ended text
-all-inside bytes value form ended text refusal found shown document answers are same (ends, prints) =
-    inr ((fault_text form (printed refusal), inr (record { value = value; document = document; holds = answers })), record { refusals = map printed shown; all = faults-inside bytes value (map printed shown) document (subst (λ (xs : List Refusal). AreFaultsOf value (map printed xs)) (sym same) are); ends = ends; prints = prints })
+-- all faults of a document whose value the check refuses
+pub all-inside : (bytes : List ℕ) (value : Data) (form : Form) (refusal : Refusal) (found : List Refusal) → IsDocument bytes value → AnswersValue Counts value form Refused (fault_text form (printed refusal)) → AreFaultsOf value (map printed found)
+    → ((line : List ℕ) × Answers Counts bytes form Refused line) × AreFaultsIn bytes (map printed found)
+all-inside bytes value form refusal found document answers are = ((fault_text form (printed refusal), inr (record { value = value; document = document; holds = answers })), faults-inside bytes value (map printed found) document are)
+
+-- what is written of a document that is refused
+pub all-written : (bytes : List ℕ) (form : Form) (ended : Ended) (text : List ℕ) (found shown : List Refusal) → ((line : List ℕ) × Answers Counts bytes form Refused line) × AreFaultsIn bytes (map printed found) → shown ≡ found → (ended ≡ Refused) × (text ≡ faults_text form (map printed shown))
+    → ChecksAll bytes form ended text
+all-written bytes form ended text found shown (refused, all) same (ends, prints) =
+    inr (refused, record { refusals = map printed shown; all = subst (λ (xs : List Refusal). AreFaultsIn bytes (map printed xs)) (sym same) all; ends = ends; prints = prints })

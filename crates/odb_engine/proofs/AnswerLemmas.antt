@@ -1,10 +1,6 @@
 -- What a command writes to memory is the text of its answer.
-use Rattle.std.proofs.Common.{◌≡◌, ℕ, [], Some, Result, Ok, Err, IfOk, Vec, Global, false}
-use Rattle.std.proofs.lemmas.Result.{IfOk-at_ok}
-use Rattle.odb_io.specs.Devices.{Writing}
+use Rattle.std.proofs.Common.{Result, Ok, Err, IfOk}
 use Rattle.odb_engine.specs.declared.answer.Answer.{Answer}
-use Rattle.odb_engine.specs.declared.ending.Ended.{Ended}
-use Rattle.odb_engine.specs.declared.ending.EngineFault.{EngineFault}
 use Rattle.odb_engine.specs.declared.form.Form.{Form}
 use Rattle.odb_engine.specs.Cascade.{WritesIn}
 use Rattle.odb_engine.specs.Halts.{Found, text_found}

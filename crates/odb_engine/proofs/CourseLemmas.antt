@@ -1,9 +1,8 @@
 -- What a replay may write of a batch, by one document of outcomes, in an order: one text.
-use Rattle.std.proofs.Common.{◌∙◌, ℕ, Bool, List, Option, Some, inl, inr, sym, ap, rules}
+use Rattle.std.proofs.Common.{◌∙◌, Bool, List, Option, inl, inr, sym, ap, rules}
 use Rattle.std.proofs.lemmas.Option.{same_Some}
 use Rattle.serde_json.specs.Data.{Data}
 use Rattle.odb_doc.specs.declared.recorded.outcome.Outcome.{Outcome}
-use Rattle.odb_doc.specs.declared.fault.Place.TheVariants as places
 use Rattle.odb_doc.specs.recorded.LeastOutcomeFault.{IsOutcomesDocument, RefusesOutcomes}
 use Rattle.odb_doc.specs.recorded.OutcomeFaults as outcome_faults
 use Rattle.odb_doc.specs.recorded.Outcomes.{Recorded, AreOutcomesOf}
@@ -15,14 +14,12 @@ use Rattle.odb_exec.specs.Faults.{exec_row}
 use Rattle.odb_sched.specs.run.Choosing.{AllowsOrder}
 use Rattle.odb_exec.specs.Recordings.{Faults, HasOneCourse, HasOneFault, FaultsOrFinishes, recorded_for}
 use Rattle.odb_sched.specs.run.State.{State, first_state}
-use Rattle.odb_engine.specs.declared.ending.Ended.{Ended}
 use Rattle.odb_engine.specs.declared.form.Form.{Form}
 use Rattle.odb_engine.specs.Cascade.{IsOne}
 use Rattle.odb_engine.specs.Forms.{fault_text}
 use Rattle.odb_doc.specs.Refusals.{Printed}
-use Rattle.odb_engine.specs.Replays.{Replays, ReplaysBatch, ReplaysEntries, ReplaysValue, LacksOutcome, result_text}
-use Rattle.odb_engine.proofs.LawLemmas.{document_one}
-use Rattle.odb_engine.proofs.SecondLemmas.{IsOneKind, reading_one, some_document_one}
+use Rattle.odb_engine.specs.Replays.{ReplaysEntries, ReplaysValue, LacksOutcome, result_text}
+use Rattle.odb_engine.proofs.SecondLemmas.{IsOneKind, reading_one}
 
 -- the laws of odb_sched on an order, at the start of a run and with recorded outcomes
 pub record HasOrder (order : Order) (recorded : List (Option Outcome)) (first : State) : Type 0 where

@@ -1,5 +1,5 @@
 -- The ids and groups of the requests of a batch, and their positions in the order of their ids.
-use Rattle.std.proofs.Common.{◌≡◌, ◌∙◌, ◌↔◌, ◌⊎◌, ℕ, ◌+◌, ◌<◌, ◌≤◌, List, [], ◌∷◌, ◌++◌, length, map, take, Option, Some, None, option_map, unwrap_or, All, Contains, IfSome, Result, Ok, Err, true, false, String, string_bytes, refl, sym, ap, subst, arith, add-one, append_assoc, inl, inr, get_or, slice_get, slice_index_or}
+use Rattle.std.proofs.Common.{◌≡◌, ◌∙◌, ◌↔◌, ℕ, ◌+◌, ◌<◌, List, [], ◌∷◌, ◌++◌, length, take, Option, Some, None, option_map, unwrap_or, All, Contains, IfSome, Err, false, string_bytes, refl, sym, ap, subst, arith, add-one, append_assoc, inl, inr, get_or, slice_get, slice_index_or}
 use Rattle.std.specs.Cmp.Lexicographic.{bytes_decides, slice_cmp}
 use Rattle.std.specs.List.Sorted.{IsBinarySearchResult, IsSortedBy}
 use Rattle.std.specs.Ordering.{is_eq, is_lt, nat_cmp}

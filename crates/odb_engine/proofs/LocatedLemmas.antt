@@ -1,6 +1,6 @@
 -- Faults with where they are, and what is written of two documents.
-use Rattle.std.proofs.Common.{◌≡◌, ◌∙◌, ◌↔◌, ◌<◌, ◌+◌, ℕ, Bool, true, false, List, [], ◌∷◌, ◌++◌, length, take, get_or, map, cond, Option, None, Some, Result, Ok, Err, option_map, string_bytes, inl, inr, refl, sym, ap, subst}
-use Rattle.std.specs.List.{All}
+use Rattle.std.proofs.Common.{◌≡◌, ◌∙◌, ◌↔◌, ◌<◌, ◌+◌, ℕ, zero, suc, arith, Bool, true, false, List, [], ◌∷◌, ◌++◌, length, take, get_or, map, cond, Option, None, Some, Result, Ok, Err, option_map, inl, inr, refl, sym, ap, subst}
+use Rattle.std.specs.List.{All, AllZip}
 use Rattle.std.proofs.lemmas.List.{map-append, take_more}
 use Rattle.std.proofs.lemmas.List.Elements.{All-nil, All-append, All-cons}
 use Rattle.serde_json.specs.Data.{Data}
@@ -27,7 +27,8 @@ use Rattle.odb_engine.specs.declared.halt.Halt.TheVariants as halts
 use Rattle.odb_engine.specs.Cascade.{Answers, IsLeast, IsLeastOfBatch, WritesIn, at_place}
 use Rattle.odb_engine.specs.Forms.{fault_text}
 use Rattle.odb_engine.specs.Halts.{Found}
-use Rattle.odb_engine.specs.Located.{AreLocated, HasPosition, IsInEither, Locates, LocatesEither, LocatesFault, LocatesFound}
+use Rattle.odb_engine.specs.Answered.{LocatesEither, LocatesFault, LocatesFound}
+use Rattle.odb_engine.specs.Located.{AreLocated, HasPosition, IsInEither, Locates, numbered}
 use Rattle.odb_engine.proofs.EngineLemmas.{FoundText, halt_in}
 use Rattle.odb_engine.proofs.RestLemmas.{least-answers}
 
@@ -46,6 +47,18 @@ located-next number document refusals k d faults more fault within before is pos
           ∙ ap (λ (r : Refusal). map printed (take k refusals) ++ printed r ∷ []) is ∙ sym named;
       positions = subst (All IsPlaced) (sym all) (All-append IsPlaced (map printed_at faults) (printed_at fault ∷ []) before.positions (All-cons IsPlaced (printed_at fault) [] here (All-nil IsPlaced)));
     }
+
+-- R holds of the elements at a place of two lists
+zip-at : {A B : Type 0} (R : A → B → Type 0) (xs : List A) (ys : List B) (k : ℕ) (d : A) (e : B) → AllZip R xs ys → k < length xs → R (get_or xs k d) (get_or ys k e)
+zip-at R [] ys k d e zip within = absurd (omega (arith, within))
+zip-at R (x ∷ xs) [] k d e zip within = absurd zip
+zip-at R (x ∷ xs) (y ∷ ys) zero d e zip within = zip.0
+zip-at R (x ∷ xs) (y ∷ ys) (suc k) d e zip within = zip-at R xs ys k d e zip.1 (omega (arith, within))
+
+-- the position of a fault, as it is printed
+pub position-at : (number : Option ℕ) (document : List ℕ) (refusals : List Refusal) (positions : List Position) (k : ℕ) (d : Refusal) (e : Position) (shown : Position) → AllZip (λ (refusal : Refusal). Stands document refusal.place) refusals positions → k < length refusals
+    → shown ≡ numbered number (get_or positions k e) → HasPosition number false document (get_or refusals k d).place shown
+position-at number document refusals positions k d e shown stand within is = record { found = get_or positions k e; stands = zip-at (λ (refusal : Refusal). Stands document refusal.place) refusals positions k d e stand within; is = is }
 
 -- no fault yet
 pub located-none : (number : Option ℕ) (document : List ℕ) → AreLocated number document [] []

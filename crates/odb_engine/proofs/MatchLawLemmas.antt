@@ -1,9 +1,8 @@
 -- What a match writes of a batch and the bytes of a response document is one text.
-use Rattle.std.proofs.Common.{◌≡◌, ◌∙◌, ℕ, Bool, true, false, true≢false, List, Some, IsSome, is_some, inl, inr, sym, ap, subst}
+use Rattle.std.proofs.Common.{◌≡◌, ◌∙◌, ℕ, Bool, true, false, true≢false, List, IsSome, is_some, inl, inr, sym, ap, subst}
 use Rattle.std.proofs.lemmas.Option.{same_Some}
 use Rattle.std.specs.List.{AllZip}
 use Rattle.serde_json.specs.Data.{Data}
-use Rattle.odb_doc.specs.declared.fault.Place.TheVariants as places
 use Rattle.odb_doc.specs.batch.Records.{Record}
 use Rattle.odb_check.specs.PlanGraph.{PlanGraph}
 use Rattle.odb_check.specs.Plans.{batch_plan_graph}
@@ -22,10 +21,8 @@ use Rattle.odb_doc.specs.Refusals.{Printed}
 use Rattle.odb_engine.specs.Cascade.{IsOne}
 use Rattle.odb_engine.specs.Forms.{fault_text}
 use Rattle.odb_engine.specs.Matches.{AreImpossible, IsAnswered, MatchesValue, Misfits, OfEntries, WritesStatuses, decided}
-use Rattle.odb_engine.specs.Inputs.{BySecond}
 use Rattle.odb_engine.specs.declared.form.Form.{Form}
-use Rattle.odb_engine.proofs.LawLemmas.{document_one}
-use Rattle.odb_engine.proofs.SecondLemmas.{reading_one, some_document_one}
+use Rattle.odb_engine.proofs.SecondLemmas.{reading_one}
 
 -- the laws of odb_reply on its own relations
 pub record AreOneMatch : Type 0 where

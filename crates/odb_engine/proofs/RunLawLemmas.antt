@@ -1,10 +1,9 @@
 -- What recorded events may write of a batch: one text.
-use Rattle.std.proofs.Common.{◌≡◌, ◌∙◌, ℕ, zero, suc, true, List, [], ◌∷◌, ◌++◌, length, slice_get, IsSomeAnd, Some, inl, inr, refl, sym, ap, subst}
+use Rattle.std.proofs.Common.{◌≡◌, ◌∙◌, ℕ, zero, suc, true, List, [], ◌∷◌, ◌++◌, length, slice_get, IsSomeAnd, inl, inr, refl, sym, ap, subst}
 use Rattle.std.specs.List.{AllZip}
 use Rattle.std.proofs.lemmas.Bool.{both_ways}
 use Rattle.std.proofs.lemmas.Option.{same_Some}
 use Rattle.serde_json.specs.Data.{Data}
-use Rattle.odb_doc.specs.declared.fault.Place.TheVariants as places
 use Rattle.odb_doc.specs.recorded.EventFaults as event_faults
 use Rattle.odb_doc.specs.recorded.Events.{EventValue, AreEventsOf}
 use Rattle.odb_doc.specs.recorded.LeastEventFault.{IsEventsDocument, RefusesEvents}
@@ -29,10 +28,9 @@ use Rattle.odb_engine.specs.declared.form.Form.{Form}
 use Rattle.odb_engine.specs.Cascade.{IsOne}
 use Rattle.odb_engine.specs.Forms.{fault_text}
 use Rattle.odb_text.specs.Lines.{response_line}
-use Rattle.odb_engine.specs.Runs.{AreResolved, IsLeastOfRun, IsResult, Runs, RunsBatch, RunsEvents, RunsValue, end_of}
+use Rattle.odb_engine.specs.Runs.{AreResolved, IsLeastOfRun, IsResult, RunsEvents, RunsValue, end_of}
 use Rattle.odb_engine.specs.Runs.IsLeastOfRun.{OfIds, OfEvent, OfEnd}
-use Rattle.odb_engine.proofs.LawLemmas.{document_one}
-use Rattle.odb_engine.proofs.SecondLemmas.{IsOneKind, reading_one, some_document_one}
+use Rattle.odb_engine.proofs.SecondLemmas.{IsOneKind, reading_one}
 use Rattle.odb_sched.proofs.ResolveLemmas.{known-from}
 use Rattle.odb_exec.proofs.RecordedLemmas.{same_place}
 

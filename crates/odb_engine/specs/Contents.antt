@@ -55,6 +55,10 @@ AcceptsContent (Held value) P = AcceptsValue value P
 abbrev pub IsAskedFor : {S : Type 0} → Type 0 → Content → S → S → Type 0
 IsAskedFor was_read content old new = (new ≡ old) ⊎ (was_read × AcceptsContent content (λ _. Unit {0}))
 
+-- The same of two inputs: the first was read to the end of these bytes.
+abbrev pub AskedFor : {R S : Type 0} → (R → Option (List ℕ)) → Reading R → Reading R → List ℕ → Reading S → Reading S → Type 0
+AskedFor remaining first read bytes old new = IsAskedFor (WasRead remaining first read bytes) (Bytes bytes) old new
+
 -- the input was read to the end of this document
 abbrev pub WasReadAs : {R : Type 0} → (R → Option (List ℕ)) → Reading R → Reading R → Content → Type 0
 WasReadAs remaining old new (Bytes bytes) = WasRead remaining old new bytes

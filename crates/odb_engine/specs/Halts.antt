@@ -1,23 +1,17 @@
 -- Why an engine halts before it writes, and what it writes of what it found.
-use Rattle.std.specs.Prelude.{◌≡◌, ◌≢◌, ◌↔◌, List, ℕ, Option, Some, None, Result, Ok, Err, IsTrue, OnOk, OnErr, String, string_bytes}
+use Rattle.std.specs.Prelude.{◌≡◌, List, Option, Some, None, Result, Ok, Err, String, string_bytes}
 use Rattle.std.specs.declared.alloc.Global.{Global}
-use Rattle.std.specs.Io.KnownBytes.{Appends}
-use Rattle.odb_io.specs.Devices.{AppendsPrefix, Writing}
 use Rattle.odb_doc.specs.batch.Records.{Record}
 use Rattle.odb_check.specs.declared.fault.CheckFault.{CheckFault}
 use Rattle.odb_check.specs.FaultTable.{check_row}
 use Rattle.odb_check.specs.LeastNameFault.{RefusesNames}
-use Rattle.odb_engine.specs.declared.ending.Ended.{Ended}
 use Rattle.odb_engine.specs.declared.ending.Ended.TheVariants.{Done, Refused}
-use Rattle.odb_engine.specs.declared.ending.EngineFault.{EngineFault}
-use Rattle.odb_engine.specs.declared.ending.EngineFault.TheVariants as faults
 use Rattle.odb_engine.specs.declared.halt.Halt.{Halt}
 use Rattle.odb_engine.specs.declared.halt.Halt.TheVariants as halts
 use Rattle.odb_engine.specs.declared.form.Form.{Form}
 use Rattle.odb_doc.specs.Refusals.{Printed}
 use Rattle.odb_doc.specs.Refusals as refusals
 use Rattle.odb_engine.specs.Cascade.{Writes, WritesIn, Prints}
-use Rattle.odb_engine.specs.Engines.{Ends}
 use Rattle.odb_engine.specs.Forms.{fault_text}
 
 -- a halt by a fault is one by such a fault

@@ -1,10 +1,9 @@
 -- What is written of documents whose faults are reported with where they are: a result as it is, and a fault with the position
 -- that odb_spans finds for its place.
-use Rattle.std.specs.Prelude.{◌≡◌, ◌⊎◌, ℕ, List, Bool, true, false, Option, Some, None, Result, Ok, Err, String, string_bytes, if◌then◌else◌, map}
-use Rattle.std.specs.declared.alloc.Global.{Global}
+use Rattle.std.specs.Prelude.{◌≡◌, ◌⊎◌, ℕ, List, Bool, true, false, Option, Some, None, if◌then◌else◌, map}
 use Rattle.std.specs.List.{All}
 use Rattle.odb_doc.specs.declared.fault.Place.{Place}
-use Rattle.odb_doc.specs.Refusals.{Printed, printed}
+use Rattle.odb_doc.specs.Refusals.{Printed}
 use Rattle.odb_doc.specs.batch.Records.{Record}
 use Rattle.odb_spans.specs.declared.position.Position.{Position}
 use Rattle.odb_spans.specs.Positions.{Stands, StandsInPair, is_in_batch}
@@ -14,8 +13,6 @@ use Rattle.odb_engine.specs.declared.ending.Ended.{Ended}
 use Rattle.odb_engine.specs.declared.ending.Ended.TheVariants.{Done, Refused}
 use Rattle.odb_engine.specs.declared.form.Form.{Form}
 use Rattle.odb_engine.specs.declared.form.Form.TheVariants.{Lines, Json}
-use Rattle.odb_engine.specs.declared.halt.Halt.{Halt}
-use Rattle.odb_engine.specs.declared.halt.Halt.TheVariants as halts
 use Rattle.odb_engine.specs.declared.lines.work.LineWork.{LineWork}
 use Rattle.odb_engine.specs.declared.lines.work.LineWork.TheVariants as line_works
 use Rattle.odb_engine.specs.declared.lines.work.Work.{Work}
@@ -23,7 +20,7 @@ use Rattle.odb_engine.specs.declared.lines.work.Work.TheVariants as works
 use Rattle.odb_engine.specs.declared.located.pair.PairWork.{PairWork}
 use Rattle.odb_engine.specs.declared.located.pair.PairWork.TheVariants as pair_works
 use Rattle.odb_engine.specs.AllFaults.{AreFaultsIn, ChecksAll}
-use Rattle.odb_engine.specs.Cascade.{Answers, Prints, Writes, WritesIn}
+use Rattle.odb_engine.specs.Cascade.{Answers, WritesIn}
 use Rattle.odb_engine.specs.Commands.{Counts}
 use Rattle.odb_engine.specs.Contents.Given.{InMemory}
 use Rattle.odb_engine.specs.Forms.{fault_text}
@@ -58,13 +55,6 @@ pub record ReportsAt (P : WritesIn) (IsAt : Whereabouts) (form : Form) (ended : 
 abbrev pub Locates : WritesIn → Whereabouts → WritesIn
 Locates P IsAt form ended text = ((ended ≡ Done) × P form Done text) ⊎ ReportsAt P IsAt form ended text
 
--- a fault is printed with where it is, under this name
-pub record LocatesFault (IsAt : Position → Type 0) (form : Form) (name : List ℕ) (refusal : Printed) (ended : Ended) (text : List ℕ) : Type 0 where
-  pub position : Position
-  pub is_at : IsAt position
-  pub ends : ended ≡ Refused
-  pub prints : text ≡ located_text form name (record { refusal = refusal; position = position })
-
 -- ---- one document, or the line of a log
 
 -- a position in a line is printed with the number of the line in its log
@@ -97,10 +87,8 @@ pub record AreLocated (number : Option ℕ) (document : List ℕ) (refusals : Li
   pub are : map (λ fault. fault.refusal) faults ≡ refusals
   pub positions : All (λ fault. HasPosition number false document fault.refusal.place fault.position) faults
 
--- all faults of a document are printed with where they are
-pub record PrintsLocated (name : List ℕ) (number : Option ℕ) (document : List ℕ) (form : Form) (ended : Ended) (text : List ℕ) : Type 0 where
-  pub refusals : List Printed
-  pub all : AreFaultsIn document refusals
+-- faults of a document are printed with where they are
+pub record PrintsAll (name : List ℕ) (number : Option ℕ) (document : List ℕ) (form : Form) (refusals : List Printed) (ended : Ended) (text : List ℕ) : Type 0 where
   pub faults : List PrintedAt
   pub located : AreLocated number document refusals faults
   pub ends : ended ≡ Refused
@@ -114,7 +102,7 @@ OfLineWork line_works.CheckAll document = ChecksAll document
 -- the check of a batch writes its counts, or all its faults with where they are
 abbrev pub LocatesAll : List ℕ → Option ℕ → List ℕ → WritesIn
 LocatesAll name number document form ended text =
-    ((ended ≡ Done) × Answers Counts document form Done text) ⊎ (((line : List ℕ) × Answers Counts document form Refused line) × PrintsLocated name number document form ended text)
+    ((ended ≡ Done) × Answers Counts document form Done text) ⊎ (((line : List ℕ) × Answers Counts document form Refused line) × ((refusals : List Printed) × AreFaultsIn document refusals × PrintsAll name number document form refusals ended text))
 
 -- what a work writes of a document, or of a line, with where the faults are
 abbrev pub LocatesWork : LineWork → List ℕ → Option ℕ → List ℕ → WritesIn
@@ -127,18 +115,6 @@ LocatesWork line_works.CheckAll name number document = LocatesAll name number do
 abbrev pub IsInEither : List ℕ → List ℕ → List ℕ → List ℕ → Whereabouts
 IsInEither batch_name batch second_name second place name position =
     (name ≡ (if is_in_batch place then batch_name else second_name)) × Stands (if is_in_batch place then batch else second) place position
-
--- a fault of one of two documents is printed with where it is
-abbrev pub LocatesEither : Form → List ℕ → List ℕ → List ℕ → List ℕ → Printed → Writes
-LocatesEither form batch_name batch second_name second refusal =
-    LocatesFault (Stands (if is_in_batch refusal.place then batch else second) refusal.place) form (if is_in_batch refusal.place then batch_name else second_name) refusal
-
--- what is written of what was found of two documents
-abbrev pub LocatesFound : Form → List ℕ → List ℕ → List ℕ → List ℕ → Result (String Global) Halt → Writes
-LocatesFound form batch_name batch second_name second (Ok found) ended text = Prints (string_bytes found) ended text
-LocatesFound form batch_name batch second_name second (Err (halts.Refused refusal)) ended text = LocatesEither form batch_name batch second_name second (printed refusal) ended text
-LocatesFound form batch_name batch second_name second (Err halts.Read) ended text = ⊥
-LocatesFound form batch_name batch second_name second (Err halts.OutOfMemory) ended text = ⊥
 
 -- what is written of the requests of a batch document by a second document
 abbrev pub OfPairWork : PairWork → List ℕ → List ℕ → List Record → WritesIn

@@ -17,7 +17,6 @@ use Rattle.odb_rest.specs.Units.{AreMarksOf, IsInRest}
 use Rattle.odb_send.specs.Parts.{IsBatchIn}
 use Rattle.odb_engine.specs.declared.ending.Ended.{Ended}
 use Rattle.odb_engine.specs.declared.ending.Ended.TheVariants.{Done, Refused}
-use Rattle.odb_engine.specs.declared.form.Form.{Form}
 use Rattle.odb_engine.specs.Cascade.{Answers, Reports, WritesIn}
 use Rattle.odb_engine.specs.Contents.{Given, OfGiven}
 use Rattle.odb_engine.specs.Contents.Given.{InMemory}

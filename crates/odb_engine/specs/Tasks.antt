@@ -1,10 +1,11 @@
 -- What a task writes: of the requests of a batch and a second document, and of one line of a log.
 use Rattle.std.specs.Prelude.{◌≡◌, ◌⊎◌, ℕ, Bool, true, false, List, [], codes}
-use Rattle.serde_json.specs.Data.{Data, array, item, no_items}
+use Rattle.serde_json.specs.Data.{Data}
 use Rattle.odb_doc.specs.declared.fault.Place.TheVariants as places
 use Rattle.odb_doc.specs.Documents.{IsDocument}
 use Rattle.odb_doc.specs.batch.Records.{Record}
 use Rattle.odb_doc.specs.Refusals.{Printed}
+use Rattle.odb_spans.specs.Positions as spans
 use Rattle.odb_sched.specs.run.Choosing.{AllowsOrder}
 use Rattle.odb_engine.specs.declared.ending.Ended.{Ended}
 use Rattle.odb_engine.specs.declared.form.Form.{Form}
@@ -38,24 +39,20 @@ takes_second (tasks.Match mode strict) = true
 takes_second (tasks.Replay policy order traced) = true
 takes_second (tasks.Run policy) = true
 
--- an array of these two values
-abbrev pub IsPair : Data → Data → Data → Type 0
-IsPair value first second = value ≡ array (item first (item second no_items))
-
 -- F07
 abbrev pub not_pair : Printed
 not_pair = record { code = codes "F07"; name = codes "NotPair"; place = places.Batch }
 
 -- the fault of a value that is not an array of two values
 pub record IsNoPair (value : Data) (refusal : Printed) : Type 0 where
-  pub none : (first second : Data) → ¬ IsPair value first second
+  pub none : (first second : Data) → ¬ value ≡ spans.pair first second
   pub is : refusal ≡ not_pair
 
 -- what is written of an array of two values: of the first as a batch document, and by the second
 pub record WritesPair (P : List Record → Data → WritesIn) (value : Data) (form : Form) (ended : Ended) (text : List ℕ) : Type 0 where
   pub first : Data
   pub second : Data
-  pub pair : IsPair value first second
+  pub pair : value ≡ spans.pair first second
   pub so : AnswersValue (λ requests. P requests second) first form ended text
 
 -- what is written of the two documents in the value of a line
@@ -81,4 +78,4 @@ pub record IsLineOf (batch second line : List ℕ) : Type 0 where
   pub second_value : Data
   pub batch_is : IsDocument batch batch_value
   pub second_is : IsDocument second second_value
-  pub line_is : IsDocument line (array (item batch_value (item second_value no_items)))
+  pub line_is : IsDocument line (spans.pair batch_value second_value)

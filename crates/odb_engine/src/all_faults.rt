@@ -6,12 +6,10 @@ ghost use Rattle.serde_json.specs.View.{view};
 ghost use Rattle.odb_doc.specs.Refusals.{printed};
 ghost use Rattle.odb_engine.specs.declared.ending.Ended.TheVariants as ends;
 ghost use Rattle.odb_engine.specs.AllFaults.{AreFaultsIn, AreFaultsOf, ChecksAll, faults_text};
-ghost use Rattle.odb_engine.specs.Cascade.{Answers};
-ghost use Rattle.odb_engine.specs.Commands.{Counts};
-ghost use Rattle.odb_engine.specs.Halts.{Found};
+ghost use Rattle.odb_engine.specs.Answered.{IsVerdict};
 
 use crate::answer::Answer;
-use crate::command::{text_in, text_of};
+use crate::command::text_in;
 use crate::disposal::DropOrLeak;
 use crate::ending::Ended;
 use crate::form::Form;
@@ -121,13 +119,35 @@ fn faults_answer(alloc: Global, form: Form, refusals: &[Refusal]) -> Result<Answ
     })
 }
 
-/// Returns what [`Task::Check`] writes of a batch document in memory, or its least fault.
-pub(crate) fn counted(alloc: Global, document: &[u8], setup: Setup) -> Result<String, Halt>
-    ensures { Found (Answers Counts document.now) setup.form result }
+/// What a check of all faults finds: the text for an accepted document, or all faults of a refused one.
+#[derive(Drop)]
+pub(crate) enum Verdict {
+    Accepted(String),
+    Refused(Vec<Refusal>),
+}
+
+/// Checks a batch document in memory. It is parsed once; the requests of a refused one are read twice.
+pub(crate) fn verdict_in(
+    alloc: Global,
+    document: &[u8],
+    setup: Setup,
+) -> Result<Verdict, AllocError>
+    ensures { IfOk result (IsVerdict document.now setup.form) }
 {
-    let (mut first, mut none): (_, &[u8]) = (document, &[]);
-    let mut task = Task::Check;
-    text_of(alloc, &mut first, &mut none, &mut task, setup)
+    let value = match value_in(alloc, document, Place::Batch) {
+        Ok(value) => value,
+        Err(halt) => return Ok(Verdict::Refused(only(alloc, halt.refusal()?)?)),
+    };
+    let value = DropOrLeak {
+        value,
+        disposal: setup.disposal,
+    };
+    let (mut none, mut check): (&[u8], _) = (&[], Task::Check);
+    match text_in(alloc, &value.value, &mut none, &mut check, setup) {
+        Ok(text) => Ok(Verdict::Accepted(text)),
+        Err(Halt::Refused(_)) => Ok(Verdict::Refused(faults_of(alloc, &value.value, setup)?)),
+        Err(_) => Err(AllocError),
+    }
 }
 
 /// Checks a batch document in memory: returns what [`Task::Check`] writes if it is accepted, and else all its
@@ -146,29 +166,8 @@ pub fn check_all_in_memory(
 ) -> Result<Answer, AllocError>
     ensures { IfOk result (λ answer. ChecksAll document.now setup.form answer.ended answer.text.items) }
 {
-    let value = match value_in(alloc, document, Place::Batch) {
-        Ok(value) => value,
-        Err(Halt::Refused(refusal)) => return faults_answer(
-            alloc,
-            setup.form,
-            &only(alloc, refusal)?,
-        ),
-        Err(_) => return Err(AllocError),
-    };
-    let value = DropOrLeak {
-        value,
-        disposal: setup.disposal,
-    };
-    let (mut none, mut check): (&[u8], _) = (&[], Task::Check);
-    match text_in(alloc, &value.value, &mut none, &mut check, setup) {
-        Ok(text) => Ok(Answer {
-            ended: Ended::Done,
-            text: text.into_bytes(),
-        }),
-        Err(Halt::Refused(_)) => {
-            let faults = faults_of(alloc, &value.value, setup)?;
-            faults_answer(alloc, setup.form, &faults)
-        }
-        Err(_) => Err(AllocError),
+    match verdict_in(alloc, document, setup)? {
+        Verdict::Accepted(text) => Ok(Answer::done(text)),
+        Verdict::Refused(faults) => faults_answer(alloc, setup.form, &faults),
     }
 }

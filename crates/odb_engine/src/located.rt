@@ -10,11 +10,12 @@ ghost use Rattle.odb_engine.specs.declared.halt.Halt.TheVariants as halts;
 ghost use Rattle.odb_engine.specs.declared.lines.work.LineWork.TheVariants as works;
 ghost use Rattle.odb_engine.specs.Engines.{Ends};
 ghost use Rattle.odb_engine.specs.Inputs.{IsFresh, ReadsFew, SomeDocument};
-ghost use Rattle.odb_engine.specs.Located.{AreLocated, HasPosition, LocatesFault, LocatesWork, PrintsLocated, StandsIn, all_located_text, located_text, numbered};
+ghost use Rattle.odb_engine.specs.Answered.{LocatesFault};
+ghost use Rattle.odb_engine.specs.Located.{AreLocated, HasPosition, LocatesWork, PrintsAll, StandsIn, all_located_text, located_text, numbered};
 
 mod pair;
 
-use crate::all_faults::{counted, faults_in};
+use crate::all_faults::{Verdict, verdict_in};
 use crate::answer::Answer;
 use crate::check_all::put_answer;
 use crate::ending::{Ended, EngineFault};
@@ -25,7 +26,7 @@ use crate::lines::{LineWork, Work, text_of_work};
 use crate::setup::Setup;
 use odb_doc::{Place, Refusal};
 use odb_io::{Input, Output};
-use odb_spans::{Position, position_in_pair, position_of};
+use odb_spans::{Position, position_in_pair, position_of, positions_of};
 use odb_text::{Located, all_located_json, located_json, located_line, located_lines};
 pub use pair::{Names, PairWork, locate_pair};
 use std::alloc::{AllocError, Global};
@@ -147,21 +148,6 @@ fn answer_of_work(
     }
 }
 
-/// Returns the fault of a document with where it is.
-fn located_in(
-    alloc: Global,
-    document: &[u8],
-    number: Option<usize>,
-    refusal: Refusal,
-) -> Result<Located, AllocError>
-    ensures refusal { IfOk result (λ fault. fault.refusal ≡ refusal) }
-    ensures position { IfOk result (λ fault. HasPosition number false document.now refusal.place
-        fault.position) }
-{
-    let position = position_at(alloc, document, number, false, refusal.place)?;
-    Ok(Located { refusal, position })
-}
-
 /// Returns faults of a document with where they are, in this order.
 fn all_located(
     alloc: Global,
@@ -172,27 +158,31 @@ fn all_located(
     ensures { IfOk result (λ faults. AreLocated number document.now (map printed refusals.now)
         (map printed_at faults.items)) }
 {
+    let positions = positions_of(alloc, document, refusals)?;
     let mut faults = Vec::with_capacity(alloc, refusals.len())?;
-    for refusal in refusals {
-        faults.push(located_in(alloc, document, number, *refusal)?)?;
+    for at in 0..refusals.len() {
+        faults.push(Located {
+            refusal: refusals[at],
+            position: numbered(number, positions[at]),
+        })?;
     }
     Ok(faults)
 }
 
-/// Returns all faults of a batch document in memory with where they are.
-fn located_faults(
+/// Returns the answer that prints these faults of a document with where they are.
+fn located_answer(
     alloc: Global,
     document: &[u8],
     name: &str,
     number: Option<usize>,
-    setup: Setup,
+    form: Form,
+    refusals: &[Refusal],
 ) -> Result<Answer, AllocError>
-    ensures { IfOk result (λ answer. PrintsLocated name.now number document.now setup.form
+    ensures { IfOk result (λ answer. PrintsAll name.now number document.now form (map printed refusals.now)
         answer.ended answer.text.items) }
 {
-    let refusals = faults_in(alloc, document, setup)?;
-    let faults = all_located(alloc, document, number, &refusals)?;
-    let text = all_located_text(alloc, setup.form, name, &faults)?;
+    let faults = all_located(alloc, document, number, refusals)?;
+    let text = all_located_text(alloc, form, name, &faults)?;
     Ok(Answer {
         ended: Ended::Refused,
         text: text.into_bytes(),
@@ -210,10 +200,11 @@ fn check_all_located(
     ensures { IfOk result (λ answer. LocatesWork works.CheckAll name.now number document.now setup.form
         answer.ended answer.text.items) }
 {
-    match counted(alloc, document, setup) {
-        Ok(text) => Ok(Answer::done(text)),
-        Err(Halt::Refused(_)) => located_faults(alloc, document, name, number, setup),
-        Err(_) => Err(AllocError),
+    match verdict_in(alloc, document, setup)? {
+        Verdict::Accepted(text) => Ok(Answer::done(text)),
+        Verdict::Refused(faults) => {
+            located_answer(alloc, document, name, number, setup.form, &faults)
+        }
     }
 }
 
@@ -223,7 +214,7 @@ fn check_all_located(
 ///
 /// `name` is that of the document, or of the log. If the document is a line of a log, `number` is that of the line,
 /// which is reported as the line of each fault; the column and the offset count within it. Of a good document nothing
-/// else is written, and it takes no more time; a position is found in O(n) for a document of n bytes.
+/// else is written, and it takes no more time; the positions of all faults are found in O(n) for a document of n bytes.
 ///
 /// # Errors
 ///

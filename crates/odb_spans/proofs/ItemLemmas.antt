@@ -1,13 +1,18 @@
 -- One item of an array.
-use Rattle.std.proofs.Common.{◌≡◌, ◌∙◌, ℕ, suc, ◌+◌, ◌<◌, ◌≤◌, List, [], ◌++◌, length, drop, slice_get, Option, Some, None, refl, sym, ap, subst, arith}
+use Rattle.std.proofs.Common.{◌≡◌, ◌∙◌, ◌⊎◌, ℕ, zero, suc, ◌+◌, ◌-◌, ◌<◌, ◌≤◌, List, [], ◌∷◌, ◌++◌, length, drop, get_or, slice_get, Option, Some, None, inl, inr, refl, sym, ap, subst, arith}
 use Rattle.std.specs.Prelude.{IsUtf8}
+use Rattle.std.specs.List.{All}
 use Rattle.std.specs.Str.{IsCharBoundary}
+use Rattle.std.proofs.lemmas.List.{length-append}
+use Rattle.std.proofs.lemmas.List.Elements.{All-head, All-tail}
+use Rattle.std.proofs.lemmas.Option.{slice_get_cases}
 use Rattle.json.specs.Token.{Token}
 use Rattle.json.specs.Json as json
 use Rattle.json.specs.Tree.{items_tokens, members_tokens}
 use Rattle.odb_spans.specs.Extents.{value_extent}
+use Rattle.odb_spans.specs.Spans.{IsWithin}
 use Rattle.odb_spans.specs.Walks.{Steps}
-use Rattle.odb_spans.specs.Parts.{GivesItem, HasItems, HasValue, IsMemberOf, IsNextItem, IsSomeMemberOf, IsValueSpan, ItemLeft, ItemLiesAt, LiesAt, LiesAtSome, LiesInMemberSome, append_items, items_in, list_of}
+use Rattle.odb_spans.specs.Parts.{GivesItem, HasItems, HasValue, IsItemAt, IsMemberOf, IsNextItem, IsSomeMemberOf, IsValueSpan, ItemLeft, ItemLiesAt, ItemsPassed, LiesAt, LiesAtSome, LiesInMemberSome, append_items, items_in, list_of}
 use Rattle.odb_spans.specs.declared.span.Span.{Span}
 use Rattle.odb_spans.specs.declared.walk.Step.TheVariants.{Element}
 use Rattle.odb_spans.proofs.MemberLemmas.{append-item, count-item, first-item, rest-items}
@@ -54,6 +59,52 @@ item-later text at position left span js ts more next = record {
 
 pub no-items : (text : List ℕ) (at position left : ℕ) (js : json.Items) (ts : List Token) (more : ItemLeft text at position left js ts) → more.others ≡ json.no_items → slice_get (list_of js) position ≡ None
 no-items text at position left js ts more none = more.same ∙ ap (λ o. slice_get (list_of o) left) none
+
+-- ---- all items
+
+each-pushed : {X : Type 0} (P : ℕ → Option X → Type 0) (xs : List X) (x : X) → ((k : ℕ) → k < length xs → P k (slice_get xs k)) → P (length xs) (Some x) → (k : ℕ) → k < length (xs ++ x ∷ []) → P k (slice_get (xs ++ x ∷ []) k)
+each-pushed P [] x earlier last zero below = last
+each-pushed P [] x earlier last (suc k) below = absurd (omega (arith, below))
+each-pushed P (y ∷ ys) x earlier last zero below = earlier 0 (omega arith)
+each-pushed P (y ∷ ys) x earlier last (suc k) below = each-pushed (λ n. P (suc n)) ys x (λ n less. earlier (suc n) (omega (arith, less))) last k (omega (arith, below))
+
+-- none has come yet
+pub begin-passed : (text : List ℕ) (start : ℕ) (js : json.Items) (ts : List Token) → HasItems text start js ts → ItemsPassed text start [] js ts
+begin-passed text start js ts has = record { here = λ position below. absurd (omega (arith, below)); left = λ position past. subst (λ n. ItemLeft text start position n js ts) (omega arith) (begin-item text start position js ts has) }
+
+-- the next item comes after those that have come
+pub pass-item : (text : List ℕ) (at : ℕ) (spans : List Span) (span : Span) (js : json.Items) (ts : List Token) → ItemsPassed text at spans js ts → ((js : json.Items) (ts : List Token) → HasItems text at js ts → IsNextItem text span js ts)
+    → ItemsPassed text span.end (spans ++ span ∷ []) js ts
+pass-item text at spans span js ts passed next =
+    let long : length (spans ++ span ∷ []) ≡ suc (length spans) = omega (arith, length-append spans (span ∷ [])) in
+    let none : length spans - length spans ≡ 0 = omega arith in
+    let first : ItemLeft text at (length spans) 0 js ts = subst (λ n. ItemLeft text at (length spans) n js ts) none (passed.left (length spans) (omega arith)) in
+    record {
+      here = each-pushed (λ position found. IsItemAt text position found js ts) spans span passed.here (item-here text at (length spans) span js ts first (next first.others ts first.has));
+      left = λ position past.
+          (let rest = position - length (spans ++ span ∷ []) in
+          let more : position - length spans ≡ suc rest = omega (arith, past, long) in
+          let left : ItemLeft text at position (suc rest) js ts = subst (λ n. ItemLeft text at position n js ts) more (passed.left position (omega (arith, past, long))) in
+          item-later text at position rest span js ts left (next left.others ts left.has));
+    }
+
+item-passed : (text : List ℕ) (at : ℕ) (spans : List Span) (js : json.Items) (ts : List Token) → ItemsPassed text at spans js ts → ((js : json.Items) (ts : List Token) → HasItems text at js ts → js ≡ json.no_items) → (position : ℕ)
+    → ((span : Span) × (position < length spans) × (slice_get spans position ≡ Some span) × (get_or spans position span ≡ span)) ⊎ ((length spans ≤ position) × (slice_get spans position ≡ None)) → IsItemAt text position (slice_get spans position) js ts
+item-passed text at spans js ts passed none position (inl found) = passed.here position found.1
+item-passed text at spans js ts passed none position (inr past) =
+    let left = passed.left position past.0 in
+    subst (λ o. IsItemAt text position o js ts) (sym past.1) (no-items text at position (position - length spans) js ts left (none left.others ts left.has), tt)
+
+-- no item is left
+pub all-passed : (text : List ℕ) (at : ℕ) (spans : List Span) (js : json.Items) (ts : List Token) → ItemsPassed text at spans js ts → ((js : json.Items) (ts : List Token) → HasItems text at js ts → js ≡ json.no_items) → (position : ℕ)
+    → IsItemAt text position (slice_get spans position) js ts
+all-passed text at spans js ts passed none position = item-passed text at spans js ts passed none position (slice_get_cases spans position).1
+
+-- the bounds of one of several spans
+pub bound-at : (len : ℕ) (spans : List Span) → All (λ span. IsWithin len (Some span)) spans → (position : ℕ) → IsWithin len (slice_get spans position)
+bound-at len [] all position = tt
+bound-at len (span ∷ spans) all zero = All-head (λ s. IsWithin len (Some s)) span spans all
+bound-at len (span ∷ spans) all (suc position) = bound-at len spans (All-tail (λ s. IsWithin len (Some s)) span spans all) position
 
 -- ---- the array at a member
 

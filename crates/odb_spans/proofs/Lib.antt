@@ -22,3 +22,4 @@ mod PairLemmas
 mod FillLemmas
 mod WithoutLemmas
 mod ElementLemmas
+mod FoundLemmas

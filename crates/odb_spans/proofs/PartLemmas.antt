@@ -1,5 +1,5 @@
 -- A value, a name and the members of an object as parts of a text.
-use Rattle.std.proofs.Common.{◌≡◌, ◌∙◌, ℕ, ◌+◌, ◌-◌, ◌<◌, ◌≤◌, List, [], ◌∷◌, ◌++◌, length, take, drop, get_or, Bool, true, false, refl, sym, ap, arith, add-zero, lt_of_not-le}
+use Rattle.std.proofs.Common.{◌≡◌, ◌∙◌, ℕ, ◌+◌, ◌-◌, ◌<◌, ◌≤◌, List, [], ◌∷◌, ◌++◌, length, take, drop, get_or, Bool, true, false, Result, Ok, Err, IfOk, refl, sym, ap, arith, add-zero, lt_of_not-le}
 use Rattle.std.specs.Str.{IsCharBoundary}
 use Rattle.std.proofs.lemmas.Bool.{true≢false}
 use Rattle.std.proofs.lemmas.List.{drop-drop, get_or-drop, get_or_default}
@@ -178,3 +178,8 @@ name-part text at end k ts within solid extent faces =
       follow = ap (λ n. tokens_from after_key text n) extent ∙ ap (λ l. punctuate after_key (lex between l)) (sym (drop-drop (value_extent (drop at text)) at text))
           ∙ ap (punctuate after_key) (cut.after ∙ ap first_left lexed) ∙ is.follow;
     }
+
+-- what follows of a value that is returned
+pub if-ok : {A E : Type 0} (P Q : A → Type 0) (r : Result A E) → ((a : A) → P a → Q a) → IfOk r P → IfOk r Q
+if-ok P Q (Ok a) f h = f a h
+if-ok P Q (Err e) f h = tt

@@ -1,5 +1,5 @@
 -- What a scan finds of the parts of a document: for private clauses, nothing to believe.
-use Rattle.std.specs.Prelude.{◌≡◌, ◌≤◌, ◌<◌, ◌+◌, ℕ, suc, drop, ⊤, List, [], ◌∷◌, ◌++◌, length, slice_get, true, Bool, Option, Some, None, IsUtf8, bytes_eq, codes}
+use Rattle.std.specs.Prelude.{◌≡◌, ◌≤◌, ◌<◌, ◌+◌, ◌-◌, ℕ, suc, drop, ⊤, List, [], ◌∷◌, ◌++◌, length, slice_get, true, Bool, Option, Some, None, IsUtf8, bytes_eq, codes}
 use Rattle.std.specs.Str.{IsCharBoundary}
 use Rattle.std.specs.List.{All, AllZip}
 use Rattle.json.specs.Token.{Token}
@@ -8,6 +8,9 @@ use Rattle.json.specs.Lex.{Place, fresh, after_value, may_begin, tokens}
 use Rattle.json.specs.Json as json
 use Rattle.json.specs.Find.{get, get_member, is_null, later_or}
 use Rattle.json.specs.Tree.{json_tokens, items_tokens, members_tokens}
+use Rattle.serde_json.specs.Data.{Data}
+use Rattle.odb_doc.specs.Documents.{IsJson}
+use Rattle.odb_spans.specs.Positions.{BeginsIn}
 use Rattle.odb_spans.specs.Spans.{EachSpan, IsWithin, bytes_of}
 use Rattle.odb_spans.specs.Cuts.{IsCut, IsClear}
 use Rattle.odb_spans.specs.Extents.{value_extent}
@@ -292,15 +295,28 @@ abbrev pub ItemLiesAt : List ℕ → Option Span → ℕ → json.Json → List 
 ItemLiesAt text None position j ts = ⊤
 ItemLiesAt text (Some span) position j ts = HoldsInArray (LiesAt text span) position j ts
 
--- the item at a position of an array, which begins after its opening bracket
-pub record FindsItem (text : List ℕ) (start position : ℕ) (span : Option Span) : Type 0 where
-  pub bounds : IsWithin (length text) span
-  pub finds : (js : json.Items) (ts : List Token) → HasItems text start js ts → IsValueSpan text span (slice_get (list_of js) position) × ItemLiesAt text span position (json.array js) ts
+-- the item at this position of js, if any, lies at the span
+abbrev pub IsItemAt : List ℕ → ℕ → Option Span → json.Items → List Token → Type 0
+IsItemAt text position span js ts = IsValueSpan text span (slice_get (list_of js) position) × ItemLiesAt text span position (json.array js) ts
+
+-- The items of js before `at` lie at the spans, and the others are still to come.
+pub record ItemsPassed (text : List ℕ) (at : ℕ) (spans : List Span) (js : json.Items) (ts : List Token) : Type 0 where
+  pub here : (position : ℕ) → position < length spans → IsItemAt text position (slice_get spans position) js ts
+  pub left : (position : ℕ) → length spans ≤ position → ItemLeft text at position (position - length spans) js ts
+
+-- the items of an array, which begins after its opening bracket
+pub record FindsItems (text : List ℕ) (start : ℕ) (spans : List Span) : Type 0 where
+  pub bounds : All (λ span. IsWithin (length text) (Some span)) spans
+  pub finds : (js : json.Items) (ts : List Token) → HasItems text start js ts → (position : ℕ) → IsItemAt text position (slice_get spans position) js ts
 
 -- the item at a position of the value there
 pub record GivesItem (text : List ℕ) (at position : ℕ) (span : Option Span) : Type 0 where
   pub bounds : IsWithin (length text) span
   pub gives : (j : json.Json) (ts : List Token) → HasValue text at j ts → IsValueSpan text span (slice_get (items_in (Some j)) position) × ItemLiesAt text span position j ts
+
+-- the items of the value there
+abbrev pub GivesItemsAt : List ℕ → ℕ → List Span → Type 0
+GivesItemsAt text at spans = (position : ℕ) → GivesItem text at position (slice_get spans position)
 
 -- the last member of this name has an array, whose item at this position lies at the span
 pub record LiesInMember (text : List ℕ) (span : Span) (name : List ℕ) (position : ℕ) (j : json.Json) : Type 0 where
@@ -317,6 +333,15 @@ LiesInMemberSome text (Some span) name position j = LiesInMember text span name 
 pub record FindsElement (name text : List ℕ) (start position : ℕ) (span : Option Span) : Type 0 where
   pub bounds : IsWithin (length text) span
   pub finds : (j : json.Json) → HasValue text start j [] → IsValueSpan text span (slice_get (items_in (get name j)) position) × LiesInMemberSome text span name position j
+
+-- the elements of the array at a member of the document's object, which begins there
+abbrev pub FindsElements : List ℕ → List ℕ → ℕ → List Span → Type 0
+FindsElements name text start spans = (position : ℕ) → FindsElement name text start position (slice_get spans position)
+
+-- the requests of the batch at these positions, if any, lie at the spans
+abbrev pub BeginRequests : List ℕ → List Span → Type 0
+BeginRequests text spans =
+    (position : ℕ) (span : Span) → slice_get spans position ≡ Some span → (span.start ≤ length text) × ((d : Data) → IsJson text d → BeginsIn text span.start (codes "requests") position d)
 
 -- the value is an array of two items, which lie at the spans
 pub record IsPairOf (text : List ℕ) (first second : Span) (j : json.Json) : Type 0 where

@@ -1,10 +1,12 @@
 //! Where parsing a document fails.
 
-ghost use Rattle.std.specs.Prelude.{◌≤◌, ◌<◌, length, IfOk, IfSome, OnErr};
+ghost use Rattle.std.specs.Prelude.{◌≤◌, ◌<◌, ◌+◌, length, IfOk, IfSome, OnErr};
 ghost use Rattle.serde_json.specs.Data.{Data};
 ghost use Rattle.odb_doc.specs.Documents.{IsJson};
 
-use crate::byte::Kind;
+use crate::byte::has_byte;
+use crate::extent::value_end;
+use crate::walk::past_blanks;
 use odb_doc::MAX_DOCUMENT_BYTES;
 use serde_json::Value;
 use std::alloc::{AllocError, Global};
@@ -29,46 +31,92 @@ fn bytes_before(document: &[u8], line: usize, column: usize) -> usize
     document.len().min(start.saturating_add(columns))
 }
 
-/// Returns where the last byte before a position is that is not a blank.
-fn last_before(document: &[u8], end: usize) -> Option<usize>
-    requires { end ≤ length document.now }
-    ensures { IfSome result (λ at. at < length document.now) }
+/// Returns how many bytes of the document are UTF-8; also those of a character that it cuts at its end.
+fn utf8_bytes(document: &[u8]) -> usize
+    ensures { result ≤ length document.now }
 {
-    for back in 0..end {
-        let at = end - 1 - back;
-        if !matches!(Kind::of(document[at]), Kind::Blank) {
-            return Some(at);
-        }
+    match str::from_utf8(document) {
+        Err(error) if error.error_len().is_some() => error.valid_up_to().min(document.len()),
+        _ => document.len(),
     }
-    None
 }
 
-/// Returns where a closing bracket is that cannot be there, if only blanks separate it from a position: the parser
-/// reports it there, where the next token begins.
+/// Returns whether bytes may follow with which these are JSON, or none need to.
 ///
 /// # Errors
 ///
-/// If memory for the value of the bytes up to it cannot be allocated.
-fn wrong_bracket(alloc: Global, document: &[u8], end: usize) -> Result<Option<usize>, AllocError>
-    requires { end ≤ length document.now }
-    ensures within { IfOk result (λ found. IfSome found (λ at. at ≤ length document.now)) }
-    ensures memory { OnErr result (0 < length document.now) }
+/// If memory for the value of the bytes cannot be allocated.
+fn begins_json(alloc: Global, bytes: &[u8]) -> Result<bool, AllocError>
+    ensures { OnErr result (0 < length bytes.now) }
 {
-    let Some(at) = last_before(document, end) else {
-        return Ok(None);
-    };
-    if !matches!(Kind::of(document[at]), Kind::Close) {
-        return Ok(None);
-    }
-    match Value::from_slice(alloc, &document[..at + 1]) {
+    match Value::from_slice(alloc, bytes) {
+        Ok(_) => Ok(true),
         Err(error) if error.is_memory() => Err(AllocError),
-        Err(error) if !error.is_eof() => Ok(Some(at)),
-        _ => Ok(None),
+        Err(error) => Ok(error.is_eof()),
     }
 }
 
-/// Returns where parsing a document fails, which is its end if it ends too soon. None for JSON, and for a
-/// document that is too large to be parsed.
+/// Returns a number between two others: the middle, or one that is within reach of a guess.
+fn between(low: usize, high: usize, guess: usize, reach: usize) -> usize
+    requires { low + 1 < high }
+    ensures above { low < result }
+    ensures below { result < high }
+{
+    let middle = low + (high - low) / 2;
+    let near = middle
+        .max(guess.saturating_sub(reach))
+        .min(guess.saturating_add(reach));
+    near.max(low + 1).min(high - 1)
+}
+
+/// Returns how far the token at a position reaches, with the byte after it, which may be what is wrong with a
+/// number or a word.
+fn token_end(text: &[u8], start: usize) -> usize
+    requires { start ≤ length text.now }
+    ensures { result ≤ length text.now }
+{
+    let end = value_end(text, start);
+    if end == text.len() || has_byte(text, start, b'"') {
+        end
+    } else {
+        end + 1
+    }
+}
+
+/// Returns the first byte that cannot be there, or the end of the text if it only ends too soon. `guess` is what
+/// the parser reports: where the token of that byte begins, or the token after it. If only half a surrogate pair
+/// is wrong, the position is that of its string.
+///
+/// # Errors
+///
+/// If memory for the value of a part of the text cannot be allocated.
+fn first_wrong(alloc: Global, text: &[u8], guess: usize) -> Result<usize, AllocError>
+    requires { guess ≤ length text.now }
+    ensures within { IfOk result (λ at. at ≤ length text.now) }
+    ensures memory { OnErr result (0 < length text.now) }
+{
+    let start = past_blanks(text, guess);
+    let end = token_end(text, start);
+    if begins_json(alloc, &text[..end])? {
+        return Ok(if end == text.len() { end } else { start });
+    }
+    let (mut good, mut bad, mut reach) = (0, end, 0_usize);
+    'search: while good + 1 < bad {
+        let at = between(good, bad, start, reach);
+        if begins_json(alloc, &text[..at])? {
+            good = at;
+        } else {
+            bad = at;
+        }
+        reach = reach.saturating_mul(2).max(1);
+    }
+    Ok(good)
+}
+
+/// Returns the first byte of a document that cannot be there, or its end if it ends too soon. None for JSON,
+/// and for a document that is too large to be parsed.
+///
+/// Costs O(n log k) for a document of n bytes with a wrong token of k bytes.
 ///
 /// # Errors
 ///
@@ -83,18 +131,11 @@ pub(crate) fn fault_in(alloc: Global, document: &[u8]) -> Result<Option<usize>, 
     }
     match Value::from_slice(alloc, document) {
         Ok(_) => Ok(None),
+        Err(error) if error.is_memory() => Err(AllocError),
         Err(error) => {
-            if error.is_memory() {
-                Err(AllocError)
-            } else if error.is_eof() {
-                Ok(Some(document.len()))
-            } else {
-                let at = bytes_before(document, error.line(), error.column());
-                match wrong_bracket(alloc, document, at)? {
-                    Some(bracket) => Ok(Some(bracket)),
-                    None => Ok(Some(at)),
-                }
-            }
+            let text = &document[..utf8_bytes(document)];
+            let guess = bytes_before(text, error.line(), error.column());
+            Ok(Some(first_wrong(alloc, text, guess)?))
         }
     }
 }

@@ -1,12 +1,13 @@
 //! The items of an array.
 
-ghost use Rattle.std.specs.Prelude.{◌≤◌, length};
-ghost use Rattle.odb_spans.specs.Parts.{FindsItem, GivesItem, GivesNext};
+ghost use Rattle.std.specs.Prelude.{◌≤◌, ◌<◌, length, IfOk, OnErr};
+ghost use Rattle.odb_spans.specs.Parts.{FindsItems, GivesItemsAt, GivesNext};
 
 use crate::byte::has_byte;
 use crate::extent::value_end;
 use crate::span::Span;
 use crate::walk::{Step, next};
+use std::alloc::{AllocError, Global};
 
 /// Returns where the next item of an array lies, none at its end. `at` is after its opening bracket or
 /// an item.
@@ -23,33 +24,35 @@ pub(crate) fn next_item(document: &[u8], at: usize) -> Option<Span>
     }
 }
 
-/// Returns where the item at a position of an array lies, none if the array is shorter. `start` is
-/// after its opening bracket.
-fn item_among(document: &[u8], start: usize, position: usize) -> Option<Span>
+/// Returns where the items of an array lie, in order. `start` is after its opening bracket.
+fn items_among(alloc: Global, document: &[u8], start: usize) -> Result<Vec<Span>, AllocError>
     requires { start ≤ length document.now }
-    ensures { FindsItem document.now start position result }
+    ensures { IfOk result (λ found. FindsItems document.now start found.items) }
 {
     let mut at = start;
-    let mut left = position;
+    let mut items = Vec::new(alloc);
     'items: loop {
-        let item = next_item(document, at)?;
-        if left == 0 {
-            return Some(item);
-        }
-        left -= 1;
+        let Some(item) = next_item(document, at) else {
+            return Ok(items);
+        };
+        items.push(item)?;
         at = item.end;
     }
 }
 
-/// Returns where the item at a position of the value at `at` lies, none if the value is not an array
-/// or is shorter.
-pub(crate) fn item_at(document: &[u8], at: usize, position: usize) -> Option<Span>
+/// Returns where the items of the value at `at` lie, in order; none if the value is not an array.
+///
+/// # Errors
+///
+/// If memory for the list cannot be allocated.
+pub(crate) fn items_at(alloc: Global, document: &[u8], at: usize) -> Result<Vec<Span>, AllocError>
     requires { at ≤ length document.now }
-    ensures { GivesItem document.now at position result }
+    ensures found { IfOk result (λ found. GivesItemsAt document.now at found.items) }
+    ensures memory { OnErr result (at < length document.now) }
 {
     if has_byte(document, at, b'[') {
-        item_among(document, at + 1, position)
+        items_among(alloc, document, at + 1)
     } else {
-        None
+        Ok(Vec::new(alloc))
     }
 }

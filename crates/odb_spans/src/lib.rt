@@ -5,8 +5,8 @@
 //! [`bodies_in`] returns for each request the [`Span`] of its body, by one scan of the document.
 //!
 //! A fault names an element by its [`Place`](odb_doc::Place). [`position_of`] returns the [`Position`] at
-//! which the element begins, with its line and column, and [`position_in_pair`] returns it for a line that
-//! holds two documents.
+//! which the element begins, with its line and column, [`positions_of`] those of many faults, and
+//! [`position_in_pair`] returns it for a line that holds two documents.
 #![tactic(auto)]
 
 mod bodies;
@@ -18,10 +18,12 @@ mod item;
 mod locate;
 mod member;
 mod position;
+mod positions;
 mod span;
 mod walk;
 
 pub use bodies::bodies_in;
-pub use locate::{position_in_pair, position_of};
+pub use locate::{is_in_batch, position_in_pair, position_of};
 pub use position::Position;
+pub use positions::positions_of;
 pub use span::Span;

@@ -1,15 +1,15 @@
 //! Where the element that a place names begins.
 
-ghost use Rattle.std.specs.Prelude.{◌≡◌, ◌≤◌, ◌<◌, ◌+◌, length, IfOk, IfSome, OnErr};
+ghost use Rattle.std.specs.Prelude.{◌≡◌, ◌≤◌, ◌<◌, ◌+◌, length, slice_get, IfOk, IfSome, OnErr};
 ghost use Rattle.serde_json.specs.Data.{Data};
 ghost use Rattle.odb_doc.specs.Documents.{IsJson};
 ghost use Rattle.odb_spans.specs.Positions.{BeginsIn, BeginsInPair, BeginsInPart, IsTextAt, Stands, StandsInPair, ValueBeginsAt};
 ghost use Rattle.odb_spans.specs.Positions as spec;
-ghost use Rattle.odb_spans.specs.Parts.{FindsElement, GivesPair};
+ghost use Rattle.odb_spans.specs.Parts.{FindsElements, GivesPair};
 
 use crate::byte::has_byte;
 use crate::fault::fault_in;
-use crate::item::{item_at, next_item};
+use crate::item::{items_at, next_item};
 use crate::member::last_member;
 use crate::position::Position;
 use crate::span::Span;
@@ -17,26 +17,32 @@ use crate::walk::value_start;
 use odb_doc::Place;
 use std::alloc::{AllocError, Global};
 
-/// Returns where the element at a position of the array at a member of the document's object lies, none
-/// if there is no such element. `start` is where the document's value begins.
-fn element_in(
+/// Returns where the elements of the array at a member of the document's object lie, in order; none if
+/// there is no such array. `start` is where the document's value begins.
+pub(crate) fn elements_in(
     alloc: Global,
     document: &[u8],
     start: usize,
     name: &str,
-    position: usize,
-) -> Result<Option<Span>, AllocError>
+) -> Result<Vec<Span>, AllocError>
     requires { start ≤ length document.now }
-    ensures found { IfOk result (λ found. FindsElement name.now document.now start position found) }
+    ensures found { IfOk result (λ found. FindsElements name.now document.now start found.items) }
     ensures memory { OnErr result (start < length document.now) }
 {
     if !has_byte(document, start, b'{') {
-        return Ok(None);
+        return Ok(Vec::new(alloc));
     }
     match last_member(alloc, document, start + 1, name)?.0 {
-        Some(value) => Ok(item_at(document, value.start, position)),
-        None => Ok(None),
+        Some(value) => items_at(alloc, document, value.start),
+        None => Ok(Vec::new(alloc)),
     }
+}
+
+/// Returns the span at a position of the list, if there is one.
+pub(crate) fn span_at(spans: &[Span], position: usize) -> Option<Span>
+    ensures { result ≡ slice_get spans.now position }
+{
+    spans.get(position).copied()
 }
 
 /// Returns where the element at a position of the array at a member begins, or the document's value if
@@ -53,7 +59,8 @@ fn element_offset(
     ensures memory { OnErr result (0 < length document.now) }
 {
     let start = value_start(document);
-    match element_in(alloc, document, start, name, position)? {
+    let elements = elements_in(alloc, document, start, name)?;
+    match span_at(&elements, position) {
         Some(element) => Ok(element.start),
         None => Ok(start),
     }
@@ -77,8 +84,8 @@ fn value_offset(alloc: Global, document: &[u8], place: Place) -> Result<usize, A
     }
 }
 
-/// Returns whether the place is in a batch, not in a second document.
-fn is_in_batch(place: Place) -> bool
+/// Returns whether a fault with this place is in a batch document, not in a second one.
+pub fn is_in_batch(place: Place) -> bool
     ensures { result ≡ spec.is_in_batch place }
 {
     matches!(place, Place::Batch | Place::Request(_))
@@ -100,7 +107,7 @@ fn fault_at(alloc: Global, document: &[u8], place: Place) -> Result<Option<usize
 }
 
 /// Returns the offset of the position in a document.
-fn offset_of(alloc: Global, document: &[u8], place: Place) -> Result<usize, AllocError>
+pub(crate) fn offset_of(alloc: Global, document: &[u8], place: Place) -> Result<usize, AllocError>
     ensures begins { IfOk result (λ offset. (d : Data) → IsJson document.now d
         → ValueBeginsAt document.now offset d place) }
     ensures within { IfOk result (λ offset. offset ≤ length document.now) }
@@ -179,12 +186,11 @@ fn offset_in_pair(alloc: Global, line: &[u8], place: Place) -> Result<usize, All
 /// and `Event` one of `events`. If a name repeats in an object, its last member counts. If there is no
 /// such element, and for the place of a whole document, the position is that of the document's value.
 ///
-/// If the document is not JSON, the position for a whole document is where parsing fails: at the first
-/// token that cannot be there, at the first byte that is not UTF-8, after a number out of range or a
-/// bracket that nests too deep, or at the end of a document that ends too soon. A document larger than
+/// If the document is not JSON, the position for a whole document is that of the first byte that cannot be
+/// there, or the end of a document that ends too soon. A document larger than
 /// [`odb_doc::MAX_DOCUMENT_BYTES`] is not parsed: the position is that of its value.
 ///
-/// Costs O(n) for a document of n bytes.
+/// Costs O(n) for a document of n bytes; if it is not JSON, O(n log k) for a wrong token of k bytes.
 ///
 /// # Errors
 ///
@@ -202,8 +208,8 @@ pub fn position_of(alloc: Global, document: &[u8], place: Place) -> Result<Posit
 /// second document: `Batch` and `Request` are places in the first, the others in the second.
 ///
 /// In its document the element is found as by [`position_of`]. If the line is not an array of two, the
-/// position is that of the line's value; if it is not JSON, the position for a whole document is where
-/// parsing the line fails.
+/// position is that of the line's value; if it is not JSON, the position for a whole document is that of
+/// the first byte that cannot be there.
 ///
 /// Costs O(n) for a line of n bytes.
 ///

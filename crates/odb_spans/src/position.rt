@@ -23,19 +23,32 @@ fn begins_character(byte: u8) -> bool
 }
 
 impl Position {
-    /// Returns the line and the column of an offset.
-    pub(crate) fn at(text: &[u8], offset: usize) -> Self
-        requires { offset ≤ length text.now }
+    /// The start of every text.
+    pub(crate) const START: Position = Position {
+        line: 1,
+        column: 1,
+        offset: 0,
+    };
+
+    /// Returns the line and the column of an offset. They are counted on from this position, or from the
+    /// start of the text if the offset comes before it.
+    pub(crate) fn moved_to(self, text: &[u8], offset: usize) -> Self
+        requires counts { IsPosition text.now self }
+        requires within { offset ≤ length text.now }
         ensures counts { IsPosition text.now result }
         ensures offset { result.offset ≡ offset }
     {
-        let mut line = 1;
-        let mut column = 1;
-        for byte in &text[..offset] {
-            if *byte == b'\n' {
+        let from = if offset < self.offset {
+            Position::START
+        } else {
+            self
+        };
+        let (mut line, mut column) = (from.line, from.column);
+        for at in from.offset..offset {
+            if text[at] == b'\n' {
                 line += 1;
                 column = 1;
-            } else if begins_character(*byte) {
+            } else if begins_character(text[at]) {
                 column += 1;
             }
         }
@@ -44,5 +57,14 @@ impl Position {
             column,
             offset,
         }
+    }
+
+    /// Returns the line and the column of an offset.
+    pub(crate) fn at(text: &[u8], offset: usize) -> Self
+        requires { offset ≤ length text.now }
+        ensures counts { IsPosition text.now result }
+        ensures offset { result.offset ≡ offset }
+    {
+        Position::START.moved_to(text, offset)
     }
 }

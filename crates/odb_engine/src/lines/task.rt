@@ -6,7 +6,8 @@ ghost use Rattle.serde_json.specs.View.{view};
 ghost use Rattle.odb_engine.specs.declared.halt.Halt.TheVariants as halts;
 ghost use Rattle.odb_engine.specs.Contents.Given.{InHand};
 ghost use Rattle.odb_engine.specs.Halts.{Found};
-ghost use Rattle.odb_engine.specs.Tasks.{IsPair, OfLine, OfPair, OfTask};
+ghost use Rattle.odb_engine.specs.Tasks.{OfLine, OfPair, OfTask};
+ghost use Rattle.odb_spans.specs.Positions as spans;
 
 use crate::command::text_of;
 use crate::halt::Halt;
@@ -26,8 +27,8 @@ const NOT_PAIR: Halt = Halt::Refused(Refusal {
 
 /// Takes an array of two values apart; `None` if the value is no such array.
 fn pair_of(value: Value) -> Option<(Value, Value)>
-    ensures pair { IfSome result (λ pair. IsPair (view value) (view pair.0) (view pair.1)) }
-    ensures none { result ≡ None → (first second : Data) → ¬ IsPair (view value) first second }
+    ensures pair { IfSome result (λ found. view value ≡ spans.pair (view found.0) (view found.1)) }
+    ensures none { result ≡ None → (first second : Data) → ¬ (view value ≡ spans.pair first second) }
 {
     let Value::Array(mut values) = value else {
         return None;

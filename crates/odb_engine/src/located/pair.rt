@@ -7,13 +7,14 @@ ghost use Rattle.odb_check.specs.Seeds.{IsSeeded};
 ghost use Rattle.odb_doc.specs.batch.Batches.{records};
 ghost use Rattle.odb_doc.specs.Refusals.{printed};
 ghost use Rattle.odb_send.specs.Parts.{IsBatchIn};
-ghost use Rattle.odb_spans.specs.Positions.{is_in_batch};
 ghost use Rattle.odb_engine.specs.Cascade.{Accepts, Answers, IsLeast};
 ghost use Rattle.odb_engine.specs.declared.halt.Halt.TheVariants as halts;
 ghost use Rattle.odb_engine.specs.Engines.{Ends};
 ghost use Rattle.odb_engine.specs.Halts.{Found, Halted};
-ghost use Rattle.odb_engine.specs.Inputs.{AskedFor, GivesDocument, IsFresh, ReadsFew, SomeDocument};
-ghost use Rattle.odb_engine.specs.Located.{LocatesEither, LocatesFound, LocatesPair, OfPairWork};
+ghost use Rattle.odb_engine.specs.Contents.{AskedFor};
+ghost use Rattle.odb_engine.specs.Inputs.{GivesDocument, IsFresh, ReadsFew, SomeDocument};
+ghost use Rattle.odb_engine.specs.Answered.{LocatesEither, LocatesFound};
+ghost use Rattle.odb_engine.specs.Located.{LocatesPair, OfPairWork};
 ghost use Rattle.odb_engine.specs.Rests.{EndsLine, RestsIn};
 
 use crate::answer::Answer;
@@ -32,6 +33,7 @@ use odb_check::Plan;
 use odb_doc::{Batch, Place, Refusal};
 use odb_io::{Input, Output};
 use odb_sched::Mode;
+use odb_spans::is_in_batch;
 use std::alloc::{AllocError, Global};
 use std::io::{Read, Write};
 
@@ -49,13 +51,6 @@ pub enum PairWork {
 pub struct Names<'n> {
     pub batch: &'n str,
     pub second: &'n str,
-}
-
-/// Returns whether a fault with this place is in the batch document, not in the second one.
-fn is_in_batch(place: Place) -> bool
-    ensures { result ≡ is_in_batch place }
-{
-    matches!(place, Place::Batch | Place::Request(_))
 }
 
 /// Returns the rest of the batch in a document by the responses in another, and a newline.

@@ -1,4 +1,4 @@
-use Rattle.std.proofs.Common.{◌<◌, ◌++◌, ◌∷◌, [], ℕ, List, Contains, sym, subst, arith}
+use Rattle.std.proofs.Common.{◌<◌, ℕ, List, Contains, sym, subst, arith}
 use Rattle.std.proofs.lemmas.List.Elements.{All-push}
 use Rattle.odb_engine.proofs.LabelLemmas.{all-below-push}
 use Rattle.odb_engine.proofs.labels.positions_below.Goals as goal

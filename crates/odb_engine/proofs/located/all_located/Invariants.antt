@@ -5,5 +5,5 @@ use Rattle.odb_engine.specs.Located.{AreLocated}
 use Rattle.odb_engine.proofs.located.all_located.Given as goal
 
 -- the faults so far
-abbrev pub invariant-loop-refusal : goal.invariant-loop-refusal
-invariant-loop-refusal l = AreLocated l.number l.document (map printed (take l.refusal-index l.refusals)) (map printed_at l.faults.items)
+abbrev pub invariant-loop-at : goal.invariant-loop-at
+invariant-loop-at l = AreLocated l.number l.document (map printed (take l.at l.refusals)) (map printed_at l.faults.items)

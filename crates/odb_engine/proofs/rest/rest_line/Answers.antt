@@ -4,7 +4,8 @@ use Rattle.odb_engine.specs.declared.ending.Ended.TheVariants.{Done}
 use Rattle.odb_engine.specs.Cascade.{Accepts, Answers}
 use Rattle.odb_engine.specs.Contents.Given.{ByReader}
 use Rattle.odb_engine.specs.Halts.{Found}
-use Rattle.odb_engine.specs.Inputs.{AskedFor, SomeDocument, WasRead}
+use Rattle.odb_engine.specs.Contents.{AskedFor}
+use Rattle.odb_engine.specs.Inputs.{SomeDocument, WasRead}
 use Rattle.odb_engine.specs.Rests.{Rests, RestsBy}
 use Rattle.odb_engine.proofs.EngineLemmas.{exit-error}
 use Rattle.odb_engine.proofs.FullPlanLemmas.{unread-found}

@@ -1,16 +1,12 @@
-use Rattle.std.proofs.Common.{◌≡◌, [], ◌+◌, get_or, Some, Result, Ok, Err, IfOk, sym, subst, arith, All, length}
+use Rattle.std.proofs.Common.{◌≡◌, [], ◌+◌, get_or, Some, sym, subst, arith, All, length}
 use Rattle.std.proofs.lemmas.List.Elements.{All-nil}
 use Rattle.odb_spans.specs.Spans.{IsWithin}
 use Rattle.odb_spans.specs.Parts.{GivesBodies, GivesItems, HaveBodiesIn, HaveBodyTexts, LieInArray, LiesInArray, LiesInItems}
 use Rattle.odb_spans.proofs.BracketLemmas.{array-at, no-array}
 use Rattle.odb_spans.proofs.MemberLemmas.{each-map}
-use Rattle.odb_spans.proofs.PartLemmas.{value-part, value-within}
+use Rattle.odb_spans.proofs.PartLemmas.{if-ok, value-part, value-within}
 use Rattle.odb_spans.proofs.bodies.bodies_at.Goals.{then-at-document-via-then-at-document, then-at-document-via-else-at-document+then-document-at-ne91}
 use Rattle.odb_spans.proofs.bodies.bodies_at.Goals as goal
-
-if-ok : {A E : Type 0} (P Q : A → Type 0) (r : Result A E) → ((a : A) → P a → Q a) → IfOk r P → IfOk r Q
-if-ok P Q (Ok a) f h = f a h
-if-ok P Q (Err e) f h = tt
 
 pub returns-then-at-document : goal.returns-then-at-document
 returns-then-at-document c =

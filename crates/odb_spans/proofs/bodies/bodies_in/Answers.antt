@@ -1,4 +1,4 @@
-use Rattle.std.proofs.Common.{◌≡◌, [], ◌+◌, get_or, Result, Ok, Err, IfOk, codes, sym, subst, arith}
+use Rattle.std.proofs.Common.{◌≡◌, [], ◌+◌, get_or, codes, sym, subst, arith}
 use Rattle.std.specs.List.{AllZip}
 use Rattle.json.specs.Find.{get, get_member}
 use Rattle.serde_json.specs.Data.{Data}
@@ -8,16 +8,12 @@ use Rattle.odb_spans.specs.Spans.{EachSpan, HasBodyAt, IsPlaceOfBody}
 use Rattle.odb_spans.specs.Parts.{FindsBodies, HaveBodiesIn}
 use Rattle.odb_spans.proofs.BracketLemmas.{no-object, object-at}
 use Rattle.odb_spans.proofs.DataLemmas.{bodies-data}
-use Rattle.odb_spans.proofs.PartLemmas.{value-within}
+use Rattle.odb_spans.proofs.PartLemmas.{if-ok, value-within}
 use Rattle.odb_spans.proofs.ReadLemmas.{tree-of}
 use Rattle.odb_spans.proofs.WholeLemmas.{whole}
 use Rattle.odb_spans.proofs.WithoutLemmas.{are-places}
 use Rattle.odb_spans.proofs.bodies.bodies_in.Goals.{then-first-document-via-then-first-document, then-first-document-via-else-first-document+then-document-first-ne123}
 use Rattle.odb_spans.proofs.bodies.bodies_in.Goals as goal
-
-if-ok : {A E : Type 0} (P Q : A → Type 0) (r : Result A E) → ((a : A) → P a → Q a) → IfOk r P → IfOk r Q
-if-ok P Q (Ok a) f h = f a h
-if-ok P Q (Err e) f h = tt
 
 pub returns-then-first-document-clause-bodies : goal.returns-then-first-document-clause-bodies
 returns-then-first-document-clause-bodies c d is =

@@ -1,7 +1,8 @@
 -- What is written of the documents of two readers.
 use Rattle.std.proofs.Common.{◌≡◌, ◌⊎◌, IfOk, List, inl, refl, subst, ℕ}
 use Rattle.odb_engine.specs.Cascade.{Accepts}
-use Rattle.odb_engine.specs.Inputs.{AskedFor, SomeDocument, WasRead}
+use Rattle.odb_engine.specs.Contents.{AskedFor}
+use Rattle.odb_engine.specs.Inputs.{SomeDocument, WasRead}
 use Rattle.odb_engine.specs.Located.{LocatesPair}
 use Rattle.odb_engine.proofs.EngineLemmas.{exit-error, some-document}
 use Rattle.odb_engine.proofs.RestLemmas.{asked-after}

@@ -1,11 +1,8 @@
 use Rattle.serde_json.specs.View.{view}
 use Rattle.odb_doc.specs.declared.fault.Place.TheVariants.{Outcomes}
 use Rattle.odb_check.specs.Plans.{plan_records}
-use Rattle.odb_engine.specs.Contents.{OfGiven}
-use Rattle.odb_engine.specs.Halts.{Found}
 use Rattle.odb_engine.specs.Replays.{ReplaysValue}
-use Rattle.odb_engine.proofs.EngineLemmas.{exit-error}
-use Rattle.odb_engine.proofs.SourceLemmas.{given-found, given-halt}
+use Rattle.odb_engine.proofs.SourceLemmas.{given-found}
 use Rattle.odb_engine.proofs.replay.ReplayRefMutDynChooserCommand.text.Goals as goal
 
 pub returns-clause-found : goal.returns-clause-found

@@ -1,0 +1,95 @@
+//! Where the elements begin that the places of many faults name, in one scan.
+
+ghost use Rattle.std.specs.Prelude.{◌≤◌, ◌<◌, length, IfOk, OnErr};
+ghost use Rattle.std.specs.List.{AllZip};
+ghost use Rattle.serde_json.specs.Data.{Data};
+ghost use Rattle.odb_doc.specs.Documents.{IsJson};
+ghost use Rattle.odb_spans.specs.Parts.{BeginRequests};
+ghost use Rattle.odb_spans.specs.Positions.{IsPosition, Stands, ValueBeginsAt};
+
+use crate::locate::{elements_in, offset_of, span_at};
+use crate::position::Position;
+use crate::span::Span;
+use crate::walk::value_start;
+use odb_doc::{Place, Refusal};
+use std::alloc::{AllocError, Global};
+
+/// Returns where the requests of a batch lie, if the last fault is one of a request.
+fn requests_in(alloc: Global, document: &[u8], faults: &[Refusal]) -> Result<Vec<Span>, AllocError>
+    ensures found { IfOk result (λ found. BeginRequests document.now found.items) }
+    ensures memory { OnErr result (0 < length faults.now) }
+{
+    match faults.last() {
+        Some(
+            Refusal {
+                place: Place::Request(_),
+                ..
+            },
+        ) => elements_in(alloc, document, value_start(document), "requests"),
+        _ => Ok(Vec::new(alloc)),
+    }
+}
+
+/// Returns the offset of a place, without a scan if it is that of one of these requests.
+fn offset_among(
+    alloc: Global,
+    document: &[u8],
+    requests: &[Span],
+    place: Place,
+) -> Result<usize, AllocError>
+    requires { BeginRequests document.now requests.now }
+    ensures begins { IfOk result (λ offset. (d : Data) → IsJson document.now d
+        → ValueBeginsAt document.now offset d place) }
+    ensures within { IfOk result (λ offset. offset ≤ length document.now) }
+{
+    match place {
+        Place::Request(at) => match span_at(requests, at) {
+            Some(request) => Ok(request.start),
+            None => offset_of(alloc, document, place),
+        },
+        _ => offset_of(alloc, document, place),
+    }
+}
+
+/// Returns the position of a place, with lines and columns counted on from an earlier position.
+fn next_position(
+    alloc: Global,
+    document: &[u8],
+    requests: &[Span],
+    last: Position,
+    place: Place,
+) -> Result<Position, AllocError>
+    requires requests { BeginRequests document.now requests.now }
+    requires counts { IsPosition document.now last }
+    ensures { IfOk result (Stands document.now place) }
+{
+    let offset = offset_among(alloc, document, requests, place)?;
+    Ok(last.moved_to(document, offset))
+}
+
+/// Returns for each fault where the element begins that its place names, as [`crate::position_of`] does.
+///
+/// Costs O(n) for a document of n bytes and any number of faults, if all are of requests and come in the
+/// order of their positions, as those of a check do. A fault of a whole document costs O(n).
+///
+/// # Errors
+///
+/// If an allocation fails. Not for no faults.
+pub fn positions_of(
+    alloc: Global,
+    document: &[u8],
+    faults: &[Refusal],
+) -> Result<Vec<Position>, AllocError>
+    ensures stand { IfOk result (λ positions. AllZip (λ fault. Stands document.now fault.place)
+        faults.now positions.items) }
+    ensures memory { OnErr result (0 < length faults.now) }
+{
+    let requests = requests_in(alloc, document, faults)?;
+    let mut positions = Vec::with_capacity(alloc, faults.len())?;
+    let mut last = Position::START;
+    for fault in faults {
+        last = next_position(alloc, document, &requests, last, fault.place)?;
+        positions.push(last)?;
+    }
+    Ok(positions)
+}
