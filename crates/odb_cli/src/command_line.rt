@@ -298,7 +298,7 @@ impl<'a> CommandLine<'a> {
     /// `Width` for a width that is not valid; `StandardInputTwice` for two documents on standard input;
     /// `Arguments` for all else that `clap` rejects, for help and the version, and out of memory.
     pub fn read(alloc: Global, args: &'a [String]) -> Result<CommandLine<'a>, BadArguments> {
-        let found = program(alloc)?
+        let found = program(alloc, args)?
             .try_get_matches_from(args)
             .map_err(BadArguments::Arguments)?;
         match found.subcommand() {

@@ -33,10 +33,14 @@ fn flag<'a>(arg: Arg<'a>, name: &'a str) -> Arg<'a> {
     arg.long(name).action(ArgAction::SetTrue)
 }
 
-/// Returns a command as `clap` is given it.
-fn command_of<'a>(alloc: Global, row: Row) -> Result<Command<'a>, AllocError> {
+/// Returns a command as `clap` is given it, with these arguments.
+fn command_of<'a>(
+    alloc: Global,
+    row: Row,
+    arguments: &[Argument],
+) -> Result<Command<'a>, AllocError> {
     let mut args = Vec::new(alloc);
-    for argument in row.arguments {
+    for argument in arguments {
         args.push(arg_of(alloc, argument)?)?;
     }
     Command::new(alloc, row.name)
@@ -46,11 +50,14 @@ fn command_of<'a>(alloc: Global, row: Row) -> Result<Command<'a>, AllocError> {
         .args(args)
 }
 
-/// Returns the whole program.
-pub fn program<'a>(alloc: Global) -> Result<Command<'a>, AllocError> {
+/// Returns the program as `clap` is given it for these words. Only the commands that they name have arguments: no other is
+/// read, and making the arguments of all takes longer than the check of a small batch.
+pub fn program<'a>(alloc: Global, words: &[String]) -> Result<Command<'a>, AllocError> {
     let mut commands = Vec::new(alloc);
     for row in rows() {
-        commands.push(command_of(alloc, row)?)?;
+        let is_named = words.iter().any(|word| word.as_str() == row.name);
+        let arguments = if is_named { row.arguments } else { &[] };
+        commands.push(command_of(alloc, row, arguments)?)?;
     }
     Command::new(alloc, "odb_batch")
         .about(PROGRAM_ABOUT)
@@ -64,8 +71,8 @@ pub fn program<'a>(alloc: Global) -> Result<Command<'a>, AllocError> {
 pub fn help_of(alloc: Global, name: Option<&str>) -> Result<String, AllocError> {
     for row in rows() {
         if name == Some(row.name) {
-            return command_of(alloc, row)?.render_help();
+            return command_of(alloc, row, row.arguments)?.render_help();
         }
     }
-    program(alloc)?.render_help()
+    program(alloc, &[])?.render_help()
 }
