@@ -8,9 +8,9 @@ ghost use Rattle.odb_doc.specs.Refusals.{printed};
 ghost use Rattle.odb_text.specs.Lines.{printed_at};
 ghost use Rattle.odb_engine.specs.declared.halt.Halt.TheVariants as halts;
 ghost use Rattle.odb_engine.specs.declared.lines.work.LineWork.TheVariants as works;
+ghost use Rattle.odb_engine.specs.Answered.{LocatesFault};
 ghost use Rattle.odb_engine.specs.Engines.{Ends};
 ghost use Rattle.odb_engine.specs.Inputs.{IsFresh, ReadsFew, SomeDocument};
-ghost use Rattle.odb_engine.specs.Answered.{LocatesFault};
 ghost use Rattle.odb_engine.specs.Located.{AreLocated, HasPosition, LocatesWork, PrintsAll, StandsIn, all_located_text, located_text, numbered};
 
 mod pair;
