@@ -1,4 +1,4 @@
-"""Runs a program for many worked cases by one start of the emulator that it needs, which takes as long to start as a case:
+"""Runs a program for many worked cases by one start of the emulator that it needs, which takes longer to start than a case:
 tests/library/forks.c starts the program as often."""
 
 import os
@@ -31,12 +31,12 @@ def read(folder, at, name):
 
 def tried(runs, runner, library, program, folder):
     """What a program does otherwise than cases show, a line each; the library is forks.c."""
+    runs = sorted(runs, key=lambda it: len(it.arguments))
     for at, it in enumerate(runs):
         write_case(it, folder, at)
     told = {"LD_PRELOAD": library, "CASES": folder, "COUNT": len(runs)}
     words = [word for name, value in told.items() for word in ("-E", f"{name}={value}")]
-    most = max(len(it.arguments) for it in runs)
-    subprocess.run([*runner, *words, program, *["-"] * most], check=True, timeout=SECONDS)
+    subprocess.run([*runner, *words, program], check=True, timeout=SECONDS)
     return [
         f"{it.name}: {line}"
         for at, it in enumerate(runs)
