@@ -105,6 +105,7 @@ static int run_cases(int count, char **arguments, char **environment)
         become(at);
         program(count, arguments, environment);
     }
+    alarm(0);
     for (int at = first; at < end; at++) {
         pid_t copy = copied();
         if (copy == 0) {
