@@ -40,12 +40,12 @@ prove_crates() {
 }
 
 # Whether rt ci has left every crate below as it is now. What it leaves has no stamp, so rt lib would
-# prove all of it again.
+# prove all of it again. The files may be older, of an earlier run that proved the same; their folder is of the last one.
 is_left_by_ci() {
     local name left newer
     for name in $(below); do
-        left=$root/crates/$name/out/rlib/$name.rlib/format
-        [ -f "$left" ] && [ ! -e "$root/crates/$name/out/rlib/stamp" ] || return 1
+        left=$root/crates/$name/out/rlib/$name.rlib
+        [ -f "$left/format" ] && [ ! -e "$root/crates/$name/out/rlib/stamp" ] || return 1
         newer=$(find "$root/crates.txt" "$root/crates/$name" -path '*/out' -prune -o -path '*/must-fail' -prune \
             -o -type f -newer "$left" -print -quit)
         [ -z "$newer" ] || return 1
