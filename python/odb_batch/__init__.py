@@ -57,7 +57,7 @@ from ._commands import (
     run,
 )
 from ._documents import Document, Events, Report, Start
-from ._events import Journal, JournalEvent, StartUnit, Stop
+from ._events import Journal, JournalEvent, ReportUnit, StartUnit, Stop
 from ._faults import Fault, OdbError, Refused
 from ._groups import MemberRefused, PreparedGroup
 from ._library import VERSION as __version__
@@ -90,6 +90,7 @@ __all__ = [
     "Refused",
     "Replay",
     "Report",
+    "ReportUnit",
     "Request",
     "RequestState",
     "Run",

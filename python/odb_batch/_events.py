@@ -15,12 +15,22 @@ class StartUnit(NamedTuple):
     ids: Tuple[str, ...]
 
 
+class ReportUnit(NamedTuple):
+    """An event of a batch: what all requests of a group are answered that was sent as one.
+
+    Attributes:
+        reports: The answer to each.
+    """
+
+    reports: Tuple[Report, ...]
+
+
 class Stop(NamedTuple):
     """An event of a batch: from now on nothing starts."""
 
 
 #: What has happened to a batch. The body of a Report is its JSON text as bytes, or None.
-JournalEvent = Union[Start, StartUnit, Report, Stop]
+JournalEvent = Union[Start, StartUnit, Report, ReportUnit, Stop]
 
 
 class Journal(Protocol):

@@ -7,7 +7,7 @@ from ._answers import FAILED, LOG, answer_to, shown
 from ._bodies import as_text, to_json
 from ._commands import MAX_WIDTH, Mode, plan
 from ._documents import Document, Report, Start, bytes_of
-from ._events import Journal, JournalEvent, StartUnit, Stop
+from ._events import Journal, JournalEvent, ReportUnit, StartUnit, Stop
 from ._faults import Fault, Refused
 from ._groups import MemberRefused, PreparedGroup
 from ._messages import Answer, GroupFailed, PreparedRequest, Refusal
@@ -115,9 +115,10 @@ class Work:
         others that were out are lost."""
         out: Dict[str, None] = {}
         for event in events:
-            if isinstance(event, Report):
-                self._take_report(event)
-                del out[event.id]
+            if isinstance(event, (Report, ReportUnit)):
+                for report in event.reports if isinstance(event, ReportUnit) else (event,):
+                    self._take_report(report)
+                    del out[report.id]
             elif isinstance(event, Stop):
                 self._run.stop()
             elif isinstance(event, StartUnit):
@@ -185,10 +186,9 @@ class Work:
         return PreparedGroup(str(unit.group), tuple(members), needs)
 
     def finish_group(self, unit: Unit, answers: Sequence[Answer]) -> None:
-        """Reports all requests of a group that was sent as one."""
+        """Reports all requests of a group that was sent as one, by one event: a process that ends keeps all or none."""
         unit.open = None
-        for id, answer in zip(unit.ids, answers):
-            self._report(id, answer)
+        self._note(ReportUnit(tuple(self._reported(id, answer) for id, answer in zip(unit.ids, answers))))
 
     # The requests of a group that are sent one after another
 
@@ -243,6 +243,10 @@ class Work:
         return Answer(answer.status, answer.headers), b""
 
     def _report(self, id: str, answer: Answer) -> None:
+        self._note(self._reported(id, answer))
+
+    def _reported(self, id: str, answer: Answer) -> Report:
+        """Reports the answer to a request; returns the event."""
         answer, text = self._written(id, answer)
         self._preparation.keep(id, answer)
         headers = shown(answer)
@@ -250,7 +254,7 @@ class Work:
             self._run.report(id, answer.status, headers or None, text)
         except Fault:
             headers, text = self._report_unread(id, answer, headers, text)
-        self._note(Report(id, answer.status, headers, text or None))
+        return Report(id, answer.status, headers, text or None)
 
     def _report_unread(
         self, id: str, answer: Answer, headers: Dict[str, str], text: bytes

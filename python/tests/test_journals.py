@@ -7,7 +7,7 @@ import pytest
 from hypothesis import given
 from hypothesis import strategies as st
 
-from odb_batch import Answer, Report, Start, StartUnit, Stop, match, perform_async, replay
+from odb_batch import Answer, Report, ReportUnit, Start, StartUnit, Stop, match, perform_async, replay
 from support.profiles import share
 from support.replays import MODES, placed, responses_of
 from support.strategies import recorded_batches
@@ -85,21 +85,33 @@ def ids_of(events, kind):
     return [it[0] for it in events if isinstance(it, kind)]
 
 
+def reported(events):
+    """The ids of the requests that are answered."""
+    units = [it.reports for it in events if isinstance(it, ReportUnit)]
+    return {*ids_of(events, Report), *ids_of(sum(units, ()), Report)}
+
+
 def test_a_batch_goes_on_after_each_of_its_events():
     response, _, journal = performed(BATCH, outcomes_of(BATCH))
     assert starts(journal) == STARTS
     events, methods = journal.written, {it["id"]: it["method"] for it in BATCH["requests"]}
     for cut in range(len(events) + 1):
         again, service, _ = performed(BATCH, outcomes_of(BATCH), events[:cut])
-        reported = set(ids_of(events[:cut], Report))
         started = set(ids_of(events[:cut], Start)).union(*ids_of(events[:cut], StartUnit))
         found = {it["id"]: it for it in responses_of(again)}
-        out = started - reported
+        out = started - reported(events[:cut])
         lost = {id for id in out if methods[id] != "get" or id == "d"}
         assert {id for id, it in found.items() if it["status"] == 500} == lost
         assert set(service.sent) & started == out - lost
         if not lost:
             assert again == response
+
+
+def test_what_a_group_is_answered_is_one_event():
+    """Else a process that ends between two of them would lose a part of the group, and answer 424 for what was performed."""
+    _, _, journal = performed(BATCH, outcomes_of(BATCH))
+    reports = [[it.id for it in event.reports] for event in journal.written if isinstance(event, ReportUnit)]
+    assert reports == [["c", "d"]] and set(ids_of(journal.written, Report)) == {"a", "b", "e"}
 
 
 def test_what_a_reference_stands_for_is_found_again():
@@ -202,7 +214,7 @@ def test_random_batches_go_on(recorded, mode, width, again_width, data):
     again, service, _ = performed(batch, outcomes, events[:cut], width=again_width, **options)
     statuses, requests = match(batch, again), {it["id"]: it for it in batch["requests"]}
     started = set(ids_of(events[:cut], Start)).union(*ids_of(events[:cut], StartUnit))
-    out = started.difference(ids_of(events[:cut], Report))
+    out = started - reported(events[:cut])
     for id in set(service.sent) & started:
         assert id in out and requests[id]["method"].upper() == "GET" and "atomicityGroup" not in requests[id]
     assert all(statuses[id] == 500 for id in out.difference(service.sent))

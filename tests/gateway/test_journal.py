@@ -11,14 +11,15 @@ from concurrent.futures import ThreadPoolExecutor
 
 import pytest
 
-from odb_batch import Report, Start, StartUnit, Stop
+from odb_batch import Report, ReportUnit, Start, StartUnit, Stop
 from odb_batch.gateway import _journal
 from odb_batch.gateway._journal import FileJournal, Journals, identity
 from support.servers import CONTINUE, JSON
 
 EVENTS = [
     Start("a"), Report("a", 201, {"location": "/x(1)"}, b'{"n":\n 9.990, "t": "\xc3\xbc"}'), StartUnit(("b", "c")),
-    Report("c", 204, {}), Report("b", 200, {}, b'"text"'), Stop(),
+    Report("c", 204, {}), Report("b", 200, {}, b'"text"'), StartUnit(("d", "e")),
+    ReportUnit((Report("d", 201, {"location": "/y"}, b"1.0"), Report("e", 204, {}))), Stop(),
 ]  # fmt: skip
 FIRST = identity(batch="1", mode="stop")
 REQUESTS = [
@@ -294,7 +295,8 @@ def test_a_batch_goes_on_wherever_its_journal_ends(pair, tmp_path):
         started = {
             id for it in happened for id in ([it["start"]] if isinstance(it.get("start"), str) else it.get("start", ()))
         }
-        out = started - {it["report"] for it in happened if "report" in it}
+        reports = [report for it in happened for report in it.get("reports", [it])]
+        out = started - {it["report"] for it in reports if "report" in it}
         del service.seen[:]
         status, _, text = ask("x")
         found = statuses(text)

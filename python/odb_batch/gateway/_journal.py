@@ -1,6 +1,7 @@
 """The journals of batches: a file for each Repeatability-Request-ID, a line for each event.
 
-The first line names the batch. Then come a line for each start and each report, and one if nothing starts any more.
+The first line names the batch. Then come a line for each start and each report, and one if nothing starts any more. What
+starts as one has one line for all its starts, and one for all its reports.
 A start is synced to the device before its request is sent, and the whole file before the batch is answered.
 """
 
@@ -14,7 +15,7 @@ import time
 from typing import Any, Callable, Dict, Iterator, List, Tuple
 
 from .._documents import Report, Start
-from .._events import JournalEvent, StartUnit, Stop
+from .._events import JournalEvent, ReportUnit, StartUnit, Stop
 from .._messages import Refusal
 
 _NAME_SIZE = 64
@@ -194,16 +195,28 @@ def _is_whole(line: bytes) -> bool:
 
 
 def _line(event: JournalEvent) -> bytes:
-    """The line of an event. A body is its text, as a string: so it keeps all digits of a number."""
+    """The line of an event."""
     members: Dict[str, Any]
     if isinstance(event, Report):
-        body = None if event.body is None else bytes(event.body).decode()
-        members = {"report": event.id, "status": event.status, "headers": dict(event.headers or {}), "body": body}
+        members = _members(event)
+    elif isinstance(event, ReportUnit):
+        members = {"reports": list(map(_members, event.reports))}
     elif isinstance(event, StartUnit):
         members = {"start": list(event.ids)}
     else:
         members = {"start": event.id} if isinstance(event, Start) else {"stop": True}
     return json.dumps(members, separators=(",", ":")).encode() + b"\n"
+
+
+def _members(report: Report) -> Dict[str, Any]:
+    """The members of a report. A body is its text, as a string: so it keeps all digits of a number."""
+    body = None if report.body is None else bytes(report.body).decode()
+    return {"report": report.id, "status": report.status, "headers": dict(report.headers or {}), "body": body}
+
+
+def _report(members: Dict[str, Any]) -> Report:
+    body = members["body"]
+    return Report(members["report"], members["status"], members["headers"], None if body is None else body.encode())
 
 
 _DAMAGED: Callable[[], Refusal] = lambda: Refusal(500, "BadJournal", "The journal of the batch is damaged")
@@ -214,9 +227,9 @@ def _event(line: bytes) -> JournalEvent:
     try:
         members = json.loads(line)
         if "report" in members:
-            body = members["body"]
-            text = None if body is None else body.encode()
-            return Report(members["report"], members["status"], members["headers"], text)
+            return _report(members)
+        if "reports" in members:
+            return ReportUnit(tuple(map(_report, members["reports"])))
         if "stop" in members:
             return Stop()
         start = members["start"]
