@@ -40,7 +40,7 @@ prove_crates() {
 }
 
 # Whether rt ci has left every crate below as it is now. What it leaves has no stamp, so rt lib would
-# prove all of it again. The files may be older, of an earlier run that proved the same; their folder is of the last one.
+# prove all of it again. A file that it takes from an earlier run keeps its old time, so the folder is compared.
 is_left_by_ci() {
     local name left newer
     for name in $(below); do

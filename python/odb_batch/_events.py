@@ -16,7 +16,7 @@ class StartUnit(NamedTuple):
 
 
 class ReportUnit(NamedTuple):
-    """An event of a batch: what all requests of a group are answered that was sent as one.
+    """An event of a batch: the answers to all requests of a group that was sent as one.
 
     Attributes:
         reports: The answer to each.

@@ -108,7 +108,7 @@ def test_a_batch_goes_on_after_each_of_its_events():
 
 
 def test_what_a_group_is_answered_is_one_event():
-    """Else a process that ends between two of them would lose a part of the group, and answer 424 for what was performed."""
+    """Else a process may end between two events, and the next one answers 424 for a request that was performed."""
     _, _, journal = performed(BATCH, outcomes_of(BATCH))
     reports = [[it.id for it in event.reports] for event in journal.written if isinstance(event, ReportUnit)]
     assert reports == [["c", "d"]] and set(ids_of(journal.written, Report)) == {"a", "b", "e"}
