@@ -11,6 +11,9 @@ import pytest
 
 from odb_batch import Fault, perform, perform_async
 from support.performing import GROUP, answering, gets, shown
+from support.servers import until
+
+SECONDS = 60  # until something that is waited for has come
 
 
 class TestThreads:
@@ -39,7 +42,7 @@ class TestThreads:
         def send(request):
             if request.id == "c":
                 third.set()
-            return (200 if request.id != "a" or third.wait(5) else 504,)
+            return (200 if request.id != "a" or third.wait(SECONDS) else 504,)
 
         assert shown(perform(gets(*"abc"), send, width=2)) == dict.fromkeys("abc", 200)
 
@@ -72,7 +75,7 @@ class TestThreads:
 
         def send(request):
             begun.set()
-            ended.wait(5)
+            ended.wait(SECONDS)
             return (200,)
 
         def performed():
@@ -81,11 +84,11 @@ class TestThreads:
 
         caller = threading.Thread(target=performed, daemon=True)
         caller.start()
-        assert begun.wait(5)
-        time.sleep(0.1)  # until the others are queued
+        assert begun.wait(SECONDS)
+        until(lambda: pool._work_queue.qsize() == 2)  # the others
         pool.shutdown(wait=False, cancel_futures=True)
         ended.set()
-        caller.join(5)
+        caller.join(SECONDS)
         assert not caller.is_alive()
 
 
@@ -186,7 +189,7 @@ class TestTasks:
                 if request.id == "c":
                     third.set()
                 elif request.id == "a":
-                    await asyncio.wait_for(third.wait(), 5)
+                    await asyncio.wait_for(third.wait(), SECONDS)
                 return (200,)
 
             return await perform_async(gets(*"abc"), send, width=2)
@@ -233,7 +236,7 @@ class TestTasks:
             async def tick():
                 while True:
                     ticks.append(None)
-                    await asyncio.sleep(0.001)
+                    await asyncio.sleep(0)
 
             async def send(request):
                 ticks.append(len(ticks))

@@ -10,6 +10,7 @@ from hypothesis import strategies as st
 from odb_batch import Answer, MemberRefused, PreparedGroup, Refusal, Request, match, perform_async, replay
 from support.profiles import share
 from support.replays import MODES, is_as_one, placed, responses_of
+from support.servers import SECONDS
 from support.strategies import recorded_batches
 
 BASE = "http://host/odata/"
@@ -150,12 +151,12 @@ def test_a_group_with_a_request_that_leads_out_is_not_sent():
 
 def test_a_group_that_takes_too_long():
     async def groups(group):
-        await asyncio.sleep(5)
+        await asyncio.sleep(SECONDS)
 
     async def send(request):
         return PLACES
 
-    response = asyncio.run(perform_async(BATCH, send, groups=groups, timeout=0.01, base=BASE))
+    response = asyncio.run(perform_async(BATCH, send, groups=groups, timeout=1, base=BASE))
     assert [it["status"] for it in responses_of(response)] == [201, 504, 504, 504, 424]
 
 

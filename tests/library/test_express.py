@@ -18,7 +18,7 @@ from support.program import ROOT
 APP = os.path.join(ROOT, "examples", "frameworks", "express_app.js")
 TOOL = ("-m", "odb_batch", "conformance")
 ABOUT = ("--set", "Books", "--key", "Id", "--body", '{"Title": "Conformance"}')
-SECONDS = 20
+SECONDS = 120
 WIDTHS = (1, 8)
 CLIENTS, ROUNDS = 8, 12
 

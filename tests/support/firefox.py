@@ -20,7 +20,7 @@ SETTINGS = {
     "app.normandy.enabled": False,
 }
 SECONDS = 300
-PATIENCE = 60  # seconds until a page has what is waited for
+PATIENCE = 300  # seconds until a page has what is waited for
 
 # Runs a module in the page, outside the sandbox of the protocol, and hands what it has found over in an attribute.
 IN_PAGE = """

@@ -58,7 +58,7 @@ class Ledger:
 
     @contextlib.contextmanager
     def transaction(self, group):
-        assert self.writer.acquire(timeout=5), "deadlock"
+        assert self.writer.acquire(timeout=60), "deadlock"
         try:
             yield
             if group in self.fails:

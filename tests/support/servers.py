@@ -11,12 +11,13 @@ import socket
 import subprocess
 import sys
 import tempfile
+import time
 
 import pytest
 
 from .commands import with_package
 
-SECONDS = 20
+SECONDS = 120  # until something that is waited for has come, also beside much other work
 JSON = {"Content-Type": "application/json"}
 CONTINUE = {**JSON, "Prefer": "continue-on-error"}
 
@@ -26,6 +27,14 @@ def folder_for_databases():
     SIGKILL.
     """
     return tempfile.mkdtemp(dir="/dev/shm" if os.access("/dev/shm", os.W_OK) else None)
+
+
+def until(condition):
+    """Waits until a condition holds."""
+    end = time.monotonic() + SECONDS
+    while not condition():
+        assert time.monotonic() < end, f"nothing came within {SECONDS} seconds"
+        time.sleep(0.01)
 
 
 def skip_without(*modules):
@@ -115,6 +124,6 @@ def conformance(server, folder, *options):
     body = ["--set", "Books", "--key", "Id", "--body", '{"Title": "Emma"}', "--breaks", os.path.join(folder, "breaks")]
     words = [sys.executable, "-m", "odb_batch", "conformance", server.url, *body, *options]
     done = subprocess.run(
-        words, stdout=subprocess.PIPE, stderr=subprocess.STDOUT, text=True, env=with_package(), timeout=300
+        words, stdout=subprocess.PIPE, stderr=subprocess.STDOUT, text=True, env=with_package(), timeout=5 * SECONDS
     )
     return done.returncode, done.stdout

@@ -12,7 +12,7 @@ from .program import ROOT, older_than
 # nobody brings it up to date, which takes 20 seconds and 700 MB.
 DISK = "drive_c/windows/system32"
 NO_UPDATE = ".update-timestamp"
-SECONDS = 60
+SECONDS = 300
 WINE = {"WINEDEBUG": "-all", "WINEBOOTSTRAPMODE": "1", "LC_ALL": "C.UTF-8"}
 
 

@@ -3,7 +3,6 @@
 import copy
 import json
 import pickle
-import time
 from decimal import Decimal
 
 import pytest
@@ -11,6 +10,7 @@ import pytest
 from odb_batch import Counts, Fault, check
 from odb_batch.client import Batch, headers
 from odb_batch.testing import Scripted
+from support.counting import lines_of
 
 
 def requests_of(batch):
@@ -188,13 +188,20 @@ class TestGroups:
         assert [first.id, second.id] == ["g1", "g2"] and batch.check() == (1, 1)
 
     def test_as_many_as_a_batch_may_have(self):
-        batch, begun = Batch(), time.perf_counter()
-        for k in range(5000):
-            with batch.group():
-                batch.get("A", id=str(5001 + k))
-        for _ in range(5000):
-            batch.get("A")
-        assert time.perf_counter() - begun < 2 and batch.check() == (10_000, 5000)
+        """Each name that is free is found at once, not by a look at all that are taken."""
+
+        def filled(batch, count):
+            for k in range(count):
+                with batch.group():
+                    batch.get("A", id=str(count + 1 + k))
+            for _ in range(count):
+                batch.get("A")
+
+        batch = Batch()
+        filled(batch, 5000)
+        assert batch.check() == (10_000, 5000)
+        few, many = (lines_of(lambda: filled(Batch(), count)) for count in (100, 400))
+        assert many < 5 * few
 
     def test_no_group_in_another(self):
         batch = Batch()
