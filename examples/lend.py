@@ -43,18 +43,21 @@ def posting(url: str) -> Callable[[bytes], Posted]:
     return post
 
 
-def send_patiently(batch: Batch, post: Callable[[bytes], Posted], times: int = 3) -> Dict[str, Result]:
-    """Sends a batch, and after a while what is left of it."""
+def send_patiently(batch: Batch, post: Callable[[bytes], Posted], idle: int = 5) -> Tuple[Dict[str, Result], Batch]:
+    """Sends a batch, and what is left of it, until nothing is left or so many sends in a row have settled nothing.
+
+    Returns what each request was answered last, and the batch of what is left."""
     found: Dict[str, Result] = {}
-    wait = 0.0
-    for _ in range(times):
-        time.sleep(wait)
+    tries = 0
+    while batch and tries < idle:
         results = batch.send(post, limit=20)
         found.update({result.id: result for result in results})
-        batch, wait = results.rest(), results.retry_after
-        if not batch:
-            break
-    return found
+        rest = results.rest()
+        tries = 0 if len(rest) < len(batch) else tries + 1
+        batch = rest
+        if batch and tries < idle:
+            time.sleep(min(max(results.retry_after, 2.0**tries - 1), 60))
+    return found, batch
 
 
 def main() -> None:

@@ -11,6 +11,21 @@ def post(document: bytes) -> Tuple[int, Dict[str, str], bytes]:
     return 200, headers("stop"), document
 
 
+class Response:
+    """A response of a client of HTTP."""
+
+    status_code = 200
+    content = b""
+
+    @property
+    def headers(self) -> Dict[str, str]:
+        return {}
+
+
+def post_response(document: bytes) -> Response:
+    return Response()
+
+
 async def post_async(document: bytes) -> Answer:
     return Answer(429)
 
@@ -30,6 +45,7 @@ def check_building() -> Batch:
 
 def check_sending(batch: Batch) -> List[int]:
     results: Results = batch.send(post, limit=20, mode="stop")
+    batch.send(post_response)
     batch.send(post_async)  # type: ignore[arg-type]
     batch.send(post, mode="half")  # type: ignore[arg-type]
     try:

@@ -14,16 +14,17 @@ from .._bodies import is_json, to_json
 from .._commands import Counts, Mode, check, plan
 from .._documents import Document, bytes_of
 from .._elements import batch_text, element_text
-from .._messages import Answer, Answered, header_dict, media_type
+from .._messages import Answer, header_dict, media_type
 from .._preparation import CONDITIONS
 from .._requests import Request, requests
 from ._names import Group, Name, Reference
 from ._parts import MOST, Parts
+from ._posting import Posted, read_posted
 from ._results import Results
 
-#: Posts the bytes of a batch, and returns what that is answered: its status, its headers and its body.
-Post = Callable[[bytes], Answered]
-PostAsync = Callable[[bytes], Awaitable[Answered]]
+#: Posts the bytes of a batch, and returns what that is answered.
+Post = Callable[[bytes], Posted]
+PostAsync = Callable[[bytes], Awaitable[Posted]]
 
 # Ids to which no URL refers, since $ and such a name mean something else (OData URL Conventions 4.01).
 _RESERVED = frozenset({"all", "batch", "crossjoin", "entity", "id", "metadata", "root"})
@@ -274,12 +275,12 @@ class Batch:
 
         Where a part is answered as a whole, by a status that is not 2xx, each of its requests has that answer. Where
         ``post`` raises an exception, or what it returns is not the response to the part, each has 504 for a timeout,
-        also for an exception that comes from one, the answer of a Refusal, or else 502. After both nothing more is
-        sent, and the other requests are 424.
+        also for one of requests or httpx or an exception that comes from one, the answer of a Refusal, or else 502.
+        After both nothing more is sent, and the other requests are 424.
 
         Args:
-            post: Posts the bytes of a document, with the headers that :func:`headers` returns, and returns the status,
-                the headers and the bytes of the body that it is answered.
+            post: Posts the bytes of a document, with the headers that :func:`headers` returns. It returns the status,
+                the headers and the bytes of the body that it is answered, or a response of requests or httpx.
             limit: How many requests the service takes in a batch, from 1 to 10,000.
             mode: ``"continue"``; or ``"stop"`` if the service stops at the first error, as it does without the header
                 ``Prefer: continue-on-error``. Then nothing is sent after an error.
@@ -288,7 +289,7 @@ class Batch:
             Fault: The batch is refused. Nothing was sent.
             ValueError: A group has more requests than the limit, or an option has a value that it may not have. Nothing
                 was sent.
-            TypeError: What ``post`` returns is not a status with headers and a body.
+            TypeError: What ``post`` returns is neither a status with headers and a body nor such a response.
             MemoryError: An allocation failed.
         """
         parts = self.exchange(limit=limit, mode=mode)
@@ -319,7 +320,7 @@ class Batch:
         except StopIteration as end:
             return _results_of(end)
 
-    def exchange(self, *, limit: int = MOST, mode: Mode = "continue") -> Generator[bytes, Answered, Results]:
+    def exchange(self, *, limit: int = MOST, mode: Mode = "continue") -> Generator[bytes, Posted, Results]:
         """Yields one part after another, and is sent what it was answered, for clients that :meth:`send` does not fit.
 
         The exception by which a part was not answered is thrown into it. The value in the end is the results.
@@ -327,7 +328,7 @@ class Batch:
         parts = Parts(self.document(), limit, mode)
         while (document := parts.next()) is not None:
             try:
-                answered = yield document
+                answered = read_posted((yield document))
             except Exception as error:
                 parts.fail(error)
             else:

@@ -13,6 +13,7 @@ from .._preparation import Preparation
 from .._requests import Request, requests
 from .._responses import answers_of
 from .._urls import Service
+from ._posting import is_named_timeout
 
 # How many requests a batch may have.
 MOST = 10_000
@@ -117,6 +118,9 @@ class Parts:
         Raises:
             TypeError: It is not a status with headers and the bytes of a body.
         """
+        if not isinstance(answered, (tuple, list)):
+            kind = type(answered).__name__
+            raise TypeError(f"post must return (status, headers, body), or a response of requests or httpx, not a {kind}")
         status, headers, body = checked(answered)
         text = b"" if body is None else bytes_of(body)
         answer = Answer(status, headers, text)
@@ -189,4 +193,4 @@ def _is_timeout(error: BaseException) -> bool:
     while found is not None and found not in chain:
         chain.append(found)
         found = found.__cause__ or found.__context__
-    return any(isinstance(it, TIMEOUTS) for it in chain)
+    return any(isinstance(raised, TIMEOUTS) or is_named_timeout(type(raised)) for raised in chain)

@@ -23,8 +23,7 @@ def by_requests(url):
         with requests.Session() as session:
 
             def post(document):
-                answer = session.post(url, data=document, headers=headers(), timeout=5)
-                return answer.status_code, answer.headers, answer.content
+                return session.post(url, data=document, headers=headers(), timeout=5)
 
             return batch.send(post, **options)
 
@@ -104,6 +103,93 @@ def test_the_lending_library(client, limit, tmp_path):
     assert str(RequestFailed(results[late])).startswith(f"{late.id} 412 ")
 
 
+def posts_of_requests(url, timeout=5, **options):
+    """Sends a batch by a function that returns the response of requests."""
+    requests = pytest.importorskip("requests", reason="requests is not installed")
+
+    def send(batch):
+        with requests.Session() as session:
+
+            def post(document):
+                return session.post(url, data=document, headers=headers(), timeout=timeout, **options)
+
+            return batch.send(post)
+
+    return send
+
+
+def posts_of_httpx(url, timeout=5):
+    """Sends a batch by a function that returns the response of httpx."""
+    httpx = pytest.importorskip("httpx", reason="httpx is not installed")
+
+    def send(batch):
+        with httpx.Client(timeout=timeout) as client:
+            return batch.send(lambda it: client.post(url, content=it, headers=headers()))
+
+    return send
+
+
+def awaits_of_httpx(url, timeout=5):
+    """Sends a batch by a function that returns a promise of the response of httpx."""
+    httpx = pytest.importorskip("httpx", reason="httpx is not installed")
+
+    async def send(batch):
+        async with httpx.AsyncClient(timeout=timeout) as client:
+            return await batch.send_async(lambda it: client.post(url, content=it, headers=headers()))
+
+    return lambda batch: asyncio.run(send(batch))
+
+
+@pytest.fixture(params=[posts_of_requests, posts_of_httpx, awaits_of_httpx])
+def posting(request):
+    return request.param
+
+
+def test_a_response_is_returned_as_it_is(posting):
+    batch = Batch()
+    order = batch.post("Orders", {"Price": Decimal("9.990")})
+    with serving(application(Scripted(refusals=[503], retry_after=7), [])) as url:
+        refused = posting(url)(batch)
+        results = posting(url)(refused.rest())
+    assert refused[order].status == 503 and refused.retry_after == 7
+    assert results[order].status == 201 and results[order].headers["location"] == "/Made('1')"
+
+
+@contextlib.contextmanager
+def silent():
+    """A server that reads, and answers nothing as long as it is open."""
+    with socket.create_server(("127.0.0.1", 0)) as server:
+        taken = []
+
+        def serve():
+            with contextlib.suppress(OSError):
+                while True:
+                    taken.append(server.accept()[0])
+
+        threading.Thread(target=serve, daemon=True).start()
+        yield f"http://127.0.0.1:{server.getsockname()[1]}/"
+        server.shutdown(socket.SHUT_RDWR)
+        for connection in taken:
+            connection.close()
+
+
+def test_a_timeout_of_the_client_of_http(posting):
+    batch = Batch()
+    batch.get("A")
+    batch.post("B", {})
+    with silent() as url:
+        results = posting(url, timeout=0.2)(batch)
+    assert [it.status for it in results] == [504, 504] and type(results.error).__module__.partition(".")[0] in ("requests", "httpx")
+
+
+def test_a_service_that_is_not_there(posting):
+    batch = Batch()
+    batch.get("A")
+    with socket.create_server(("127.0.0.1", 0)) as server:
+        port = server.getsockname()[1]
+    assert posting(f"http://127.0.0.1:{port}/")(batch)["1"].status == 502
+
+
 @contextlib.contextmanager
 def hanging_up():
     """A server that reads a little, and hangs up."""
@@ -130,3 +216,17 @@ def test_a_service_that_hangs_up(client):
         results = client(url)(batch, limit=2)
     assert [it.status for it in results] == [502, 502, 424] and isinstance(results.error, Exception)
     assert len(results.rest()) == 2
+
+
+def cut_short(environ, start_response):
+    """Answers with less than it announces."""
+    start_response("200 OK", [("Content-Type", "application/json"), ("Content-Length", "100")])
+    return [b'{"responses"']
+
+
+def test_a_body_that_is_read_late_and_cut_short():
+    batch = Batch()
+    batch.get("A")
+    with serving(cut_short) as url:
+        results = posts_of_requests(url, stream=True)(batch)
+    assert results["1"].status == 502 and results.error is not None

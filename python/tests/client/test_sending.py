@@ -57,6 +57,14 @@ def of_a_client(cause):
             return error
 
 
+def named(module, *names):
+    """An exception of a client of HTTP: its class has such a name, and each base of it the next one."""
+    kind = OSError
+    for name in reversed(names):
+        kind = type(name, (kind,), {"__module__": module})
+    return kind("of the client")
+
+
 class TestResults:
     def test_by_request_and_in_order(self):
         sold = {"error": {"code": "Sold", "message": "gone"}}
@@ -287,6 +295,11 @@ class TestErrorsOfParts:
     @pytest.mark.parametrize("error, status", [
         (ConnectionResetError("gone"), 502), (TimeoutError(), 504), (asyncio.TimeoutError(), 504), (KeyError("x"), 502),
         (of_a_client(TimeoutError()), 504), (of_a_client(ConnectionError()), 502), (StopIteration(), 502),
+        (named("requests.exceptions", "ReadTimeout", "Timeout", "RequestException"), 504),
+        (named("httpx", "ReadTimeout", "TimeoutException", "TransportError"), 504),
+        (named("urllib3.exceptions", "ReadTimeoutError", "TimeoutError", "HTTPError"), 504),
+        (named("urllib3.exceptions", "NewConnectionError", "ConnectTimeoutError", "TimeoutError"), 502),
+        (named("requests.exceptions", "ConnectionError", "RequestException"), 502),
     ], ids=repr)  # fmt: skip
     def test_a_service_that_hangs_up(self, error, status):
         batch = gets("a")
@@ -311,6 +324,12 @@ class TestErrorsOfParts:
     ])  # fmt: skip
     def test_what_is_no_answer(self, answered):
         with pytest.raises(TypeError):
+            gets("a").send(lambda document: answered)
+
+    @pytest.mark.parametrize("answered", [None, 200, b"", {}, iter([200, {}, b""])], ids=repr)
+    def test_what_is_to_be_returned_is_said(self, answered):
+        wanted = r"^post must return \(status, headers, body\), or a response of requests or httpx, not a \w+$"
+        with pytest.raises(TypeError, match=wanted):
             gets("a").send(lambda document: answered)
 
 
