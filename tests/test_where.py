@@ -3,6 +3,7 @@
 import json
 import os
 import re
+import subprocess
 
 import pytest
 from hypothesis import assume, given
@@ -13,6 +14,7 @@ from support.calls import call
 from support.pages import OF_BATCHES
 from support.positions import counted, position, position_in_pair
 from support.profiles import share
+from support.program import ROOT
 from support.strategies import chance, of, text_of
 
 LINE = re.compile(r"(.*?):(\d+):(\d+): fault ([FSP]\d+) (\w+) (\S+)")
@@ -119,6 +121,7 @@ WRONG_VALUES = [
     (b"-012", 2), (b"1.]", 2), (b"1.e5", 2), (b"1e]", 2), (b"1e+]", 3), (b"1.5.2", 3), (b"0x1", 1), (b"+1", 0), (b".5", 0),
     (b"1e309]", 4), (b'12"a"', 2), (b'"\\x"', 2), (b'"a\\', 3), (b'"a\nb"', 2), (b'"\x1f"', 1), (b'"\xc3\xa9\xff"', 3), (b"'a'", 0),
     (b'"\\ud800"', 0), (b'"\\udc00"', 0), (b'"\\ud800\\u0041" ', 0), (b'"\\u00g0"', 6), (b'"\\u123"', 6),
+    (b'"abc\\u12"', 0), (b'"\\ud800", tru]', 13), (b"1" * 400, 308), (b'"\xe2\x82("', 1),
 ]
 
 
@@ -129,6 +132,25 @@ def test_the_first_byte_of_a_wrong_value(program, value, good):
     [(_, code, place, found)] = faults_of(program, ["check"], [document])
     assert (code, place) == ("F02", "batch")
     assert found == counted(document, len(front) + good)
+
+
+def recipe():
+    """The commands of docs/faults.md for a workflow of GitHub, over the file that is the first argument."""
+    with open(os.path.join(ROOT, "docs", "faults.md"), encoding="utf-8") as page:
+        blocks = page.read().split("```")
+    return next(it for it in blocks if "::error" in it).removeprefix("sh\n").replace("batch.json", '"$1"')
+
+
+@pytest.mark.parametrize("name, wanted", [
+    ("late.json", ["::error file=late.json,line=1,col=14::F41 ForwardName /requests/0"]),
+    ("x\n::error file=a::b\ny", ["::error file=y,line=1,col=14::F41 ForwardName /requests/0"]),
+    ("x\n::error file=a:1:1: fault F02 NotJson batch\ny,line=7", []),
+])  # fmt: skip
+def test_the_recipe_for_annotations_passes_on_faults_alone(program, tmp_path, name, wanted):
+    (tmp_path / name).write_text('{"requests":[{"id":"a","method":"get","url":"A","dependsOn":["b"]},{"id":"b","method":"get","url":"B"}]}')
+    path = f"{os.path.dirname(program)}:{os.environ['PATH']}"
+    done = subprocess.run(["bash", "-c", recipe(), "bash", name], cwd=tmp_path, env={**os.environ, "PATH": path}, capture_output=True, text=True)
+    assert (done.returncode, done.stdout.splitlines()) == (1, wanted)
 
 
 @share(2)
