@@ -5,12 +5,19 @@ import importlib
 import sys
 from typing import Sequence
 
+from ._library import MISSING
+
+# The exit status without the library; wrong arguments end with 2.
+UNUSABLE = 3
+
 # Each command: the module whose `main` takes the words after it and returns the exit status, and what it does.
 COMMANDS = {
     "gateway": ("odb_batch.gateway._tool", "answers $batch for services that have none"),
     "conformance": ("odb_batch.conformance._tool", "judges whether a service keeps what a batch promises"),
     "page": ("odb_batch._page", "opens a page in the browser in which a batch is checked, drawn and run"),
 }
+# Those that call the library, unless they print their help.
+OVER_LIBRARY = ("gateway", "conformance")
 
 
 def parser() -> argparse.ArgumentParser:
@@ -28,6 +35,9 @@ def parser() -> argparse.ArgumentParser:
 def main(words: Sequence[str]) -> int:
     """Does what the words of a command line ask; returns the exit status."""
     command = parser().parse_args(words[:1]).command
+    if MISSING is not None and command in OVER_LIBRARY and not {"-h", "--help"}.intersection(words):
+        print(f"error: {MISSING}", file=sys.stderr)
+        return UNUSABLE
     status: int = importlib.import_module(COMMANDS[command][0]).main(words[1:])
     return status
 

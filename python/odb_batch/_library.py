@@ -4,7 +4,7 @@ import ctypes
 import os
 import secrets
 import sys
-from typing import Any, Callable, Dict, List, Tuple
+from typing import Any, Callable, Dict, List, Optional, Tuple
 
 # Its name where it is not that of Linux.
 _NAMES = {"win32": "odb_batch.dll", "darwin": "libodb_batch.dylib"}
@@ -119,8 +119,33 @@ def _declare(library: ctypes.CDLL) -> str:
     return f"{found[0]}.{found[1]}.{number % 100}"
 
 
-_LIBRARY = _load()
-VERSION = _declare(_LIBRARY)
+class _Missing:
+    """Stands for a library that cannot be loaded: each use of it raises why."""
+
+    def __init__(self, error: ImportError) -> None:
+        self._error = error
+
+    def __getattr__(self, name: str) -> Any:
+        raise self._error
+
+
+def _is_command() -> bool:
+    """Whether this process runs ``python3 -m odb_batch``, of which the help and the page need no library. While Python
+    looks for the module to run, the first argument is ``-m``; Python 3.9 does not say which module that is."""
+    words: List[str] = getattr(sys, "orig_argv", [])
+    return sys.argv[:1] == ["-m"] and ("-m", "odb_batch") in zip(words, words[1:])
+
+
+_LIBRARY: Any
+#: Why there is no library, in a command of the package alone; else None, since the import of the package fails then.
+MISSING: Optional[ImportError] = None
+try:
+    _LIBRARY = _load()
+    VERSION = _declare(_LIBRARY)
+except ImportError as error:
+    if not _is_command():
+        raise
+    _LIBRARY, MISSING, VERSION = _Missing(error), error, f"{MAJOR}.{MINOR}"
 
 # Drawn once, and kept secret: nobody can choose names that make a call slow.
 _SEED = secrets.randbits(64)

@@ -9,10 +9,10 @@ from odb_batch.__main__ import COMMANDS
 from support.commands import with_package
 
 
-def called(*words):
+def called(*words, **variables):
     """Runs python3 -m with some words; returns its status, and what it prints."""
     words = [sys.executable, "-m", *words]
-    done = subprocess.run(words, env=with_package(), capture_output=True, text=True)
+    done = subprocess.run(words, env={**with_package(), **variables}, capture_output=True, text=True)
     return done.returncode, done.stdout, done.stderr
 
 
@@ -42,3 +42,30 @@ def test_a_package_may_be_called_by_its_name():
     wanted = called("odb_batch", "conformance", "--list", "--case", "chain")
     assert called("odb_batch.conformance", "--list", "--case", "chain") == wanted
     assert wanted[0] == 0 and wanted[1].startswith("chain ")
+
+
+NOWHERE = {"ODB_BATCH_LIBRARY": "/nowhere/libodb_batch.so.0"}
+# The option -m says which module is to be run.
+named = pytest.mark.skipif(sys.version_info < (3, 10), reason="Python 3.9 does not say which module it runs")
+
+
+@named
+@pytest.mark.parametrize("words", [(), *((name,) for name in COMMANDS)])
+def test_help_needs_no_library(words):
+    assert called("odb_batch", *words, "--help", **NOWHERE) == called("odb_batch", *words, "--help")
+
+
+@named
+@pytest.mark.parametrize("words", [
+    ["gateway", "--upstream", "http://127.0.0.1:1/"], ["conformance", "http://127.0.0.1:1/"], ["conformance", "--list"],
+])  # fmt: skip
+def test_what_needs_the_library_says_so(words):
+    status, out, error = called("odb_batch", *words, **NOWHERE)
+    assert (status, out, len(error.splitlines())) == (3, "", 1)
+    assert error.startswith("error: libodb_batch.so.0 cannot be loaded (/nowhere/libodb_batch.so.0: ")
+
+
+@named
+def test_the_page_needs_no_library(tmp_path):
+    wanted = called("odb_batch", "page", str(tmp_path / "page.html"))
+    assert called("odb_batch", "page", str(tmp_path / "page.html"), **NOWHERE) == wanted
