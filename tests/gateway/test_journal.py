@@ -5,6 +5,7 @@ import fcntl
 import json
 import os
 import secrets
+import threading
 import time
 from collections import Counter
 from concurrent.futures import ThreadPoolExecutor
@@ -14,7 +15,7 @@ import pytest
 from odb_batch import Report, ReportUnit, Start, StartUnit, Stop
 from odb_batch.gateway import _journal
 from odb_batch.gateway._journal import FileJournal, Journals, identity
-from support.servers import CONTINUE, JSON
+from support.servers import CONTINUE, JSON, SECONDS, until
 
 EVENTS = [
     Start("a"), Report("a", 201, {"location": "/x(1)"}, b'{"n":\n 9.990, "t": "\xc3\xbc"}'), StartUnit(("b", "c")),
@@ -227,10 +228,7 @@ def test_old_files_are_looked_for_again_after_an_error(tmp_path, monkeypatch, fr
 
     monkeypatch.setattr(Journals, "prune", prune)
     front("--upstream", "http://127.0.0.1:1/", "--journal", str(tmp_path), "--keep", "0.01")
-    end = time.monotonic() + 5
-    while len(calls) < 3 and time.monotonic() < end:
-        time.sleep(0.01)
-    assert len(calls) >= 3
+    until(lambda: len(calls) >= 3)
 
 
 @pytest.mark.parametrize("folder", ["no", "file"])
@@ -324,13 +322,19 @@ def test_another_batch_under_the_same_id(pair, change):
 
 
 def test_a_second_client_at_once(upstream, front, tmp_path):
-    service = upstream()
-    words = ["--upstream", service.url, "--journal", str(tmp_path), "--timeout", "2"]
+    from support.gateways import waiting
+
+    event = threading.Event()
+    service = upstream(waiting(event))
+    words = ["--upstream", service.url, "--journal", str(tmp_path)]
     fronts = [front(*words), front(*words)]
-    batch = json.dumps({"requests": [{"id": "a", "method": "post", "url": "hang"}]})
+    batch = json.dumps({"requests": [{"id": "a", "method": "post", "url": "slow"}]})
     headers = {**CONTINUE, "Repeatability-Request-ID": "x"}
     with ThreadPoolExecutor(4) as clients:
-        found = list(clients.map(lambda k: fronts[k % 2].ask("POST", "/odata/$batch", batch, headers)[0], range(4)))
+        asked = [clients.submit(fronts[k % 2].ask, "POST", "/odata/$batch", batch, headers) for k in range(4)]
+        until(lambda: sum(it.done() for it in asked) == 3)
+        event.set()
+        found = [it.result(SECONDS)[0] for it in asked]
     assert (sorted(found), len(service.seen)) == ([200, 409, 409, 409], 1)
 
 

@@ -9,7 +9,6 @@ import socket
 import subprocess
 import sys
 import threading
-import time
 from collections import Counter
 from concurrent.futures import ThreadPoolExecutor
 from http.client import HTTPException
@@ -17,7 +16,7 @@ from http.client import HTTPException
 import pytest
 
 from support.commands import with_package
-from support.servers import CONTINUE, JSON, SECONDS, Asked
+from support.servers import CONTINUE, JSON, SECONDS, Asked, until
 
 
 def refused(words, before="pass"):
@@ -47,27 +46,10 @@ def test_help_names_each_option_once():
     assert len(options) == len(set(options)) == 17
 
 
-def waiting(event):
-    """Answers in the usual way, but what is slow only after an event."""
-    from support.gateways import usual
-
-    async def answer(seen):
-        while "slow" in seen.path and not event.is_set():
-            await asyncio.sleep(0.01)
-        return usual(seen)
-
-    return answer
-
-
-def until(condition):
-    end = time.monotonic() + SECONDS
-    while not condition():
-        assert time.monotonic() < end
-        time.sleep(0.01)
-
-
 def test_sigterm(upstream, running):
     """What runs is answered, nothing more starts, and a new batch is refused."""
+    from support.gateways import waiting
+
     event = threading.Event()
     service = upstream(waiting(event))
     it = running("--upstream", service.url, "--width", "1", "--log", "none")

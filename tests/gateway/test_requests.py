@@ -3,11 +3,12 @@
 import json
 import re
 import socket
+import threading
 from concurrent.futures import ThreadPoolExecutor
 
 import pytest
 
-from support.servers import CONTINUE, JSON
+from support.servers import CONTINUE, JSON, SECONDS, until
 
 
 ELEVEN = json.dumps({"requests": [{"id": str(k), "method": "get", "url": "x"} for k in range(11)]})
@@ -257,11 +258,16 @@ def test_a_hundred_batches_at_once(upstream, front):
 
 
 def test_more_batches_than_may_be(upstream, front):
-    service = upstream()
-    it = front("--upstream", service.url, "--batches", "2", "--timeout", "2")
-    one = json.dumps({"requests": [{"id": "a", "method": "get", "url": "hang"}]})
+    from support.gateways import waiting
+
+    event = threading.Event()
+    it = front("--upstream", upstream(waiting(event)).url, "--batches", "2")
+    one = json.dumps({"requests": [{"id": "a", "method": "get", "url": "slow"}]})
     with ThreadPoolExecutor(4) as clients:
-        found = list(clients.map(lambda _: it.ask("POST", "/odata/$batch", one, CONTINUE), range(4)))
+        asked = [clients.submit(it.ask, "POST", "/odata/$batch", one, CONTINUE) for _ in range(4)]
+        until(lambda: sum(it.done() for it in asked) == 2)
+        event.set()
+        found = [it.result(SECONDS) for it in asked]
     assert sorted(status for status, _, _ in found) == [200, 200, 503, 503]
     assert {headers["retry-after"] for status, headers, _ in found if status == 503} == {"1"}
 

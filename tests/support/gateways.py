@@ -100,6 +100,17 @@ def usual(seen):
     return web.Response(status=201, body=body, content_type="application/json", headers={"Location": seen.path + "(1)"})
 
 
+def waiting(event):
+    """Answers in the usual way, but what is slow only after an event."""
+
+    async def answer(seen):
+        while "slow" in seen.path and not event.is_set():
+            await asyncio.sleep(0.01)
+        return usual(seen)
+
+    return answer
+
+
 async def hang_up(request):
     request.transport.close()
     return web.Response()
