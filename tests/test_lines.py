@@ -134,7 +134,14 @@ def test_terminal_shows_how_far_a_log_is(program):
 
 
 def test_terminal_shows_nothing_of_a_log_that_takes_less_than_a_second(program):
-    assert progress(program, (0, 0)) == b""
+    """On a busy machine it may take longer, and is tried again."""
+    end = time.monotonic() + SECONDS
+    while time.monotonic() < end:
+        begun = time.monotonic()
+        shown = progress(program, (0, 0))
+        if time.monotonic() - begun < 1:
+            break
+    assert shown == b""
 
 
 def test_full_device(program):

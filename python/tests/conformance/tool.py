@@ -47,7 +47,7 @@ def tool(*words, **options):
     """Runs the tool."""
     done = subprocess.run(
         [*TOOL, *words],
-        stdin=subprocess.DEVNULL, stdout=subprocess.PIPE, stderr=subprocess.PIPE, text=True, timeout=15 * SECONDS,
+        stdin=subprocess.DEVNULL, stdout=subprocess.PIPE, stderr=subprocess.PIPE, text=True, timeout=5 * SECONDS,
         env=with_package(), **options,
     )  # fmt: skip
     return Done(done.returncode, done.stdout, done.stderr)
