@@ -97,11 +97,30 @@ test('gives no name twice, also of a group without requests', () => {
   assert.deepEqual([empty.id, full.id, batch.check()], ['g1', 'g2', { requests: 1, groups: 1 }])
 })
 
+/** How often a name is looked up in a map while some work is done. */
+function lookupsOf(work) {
+  const { has } = Map.prototype
+  let count = 0
+  Map.prototype.has = function (name) {
+    count++
+    return has.call(this, name)
+  }
+  try {
+    work()
+  } finally {
+    Map.prototype.has = has
+  }
+  return count
+}
+
 test('takes as many groups and ids as a batch may have', () => {
-  const [batch, begun] = [new Batch(), performance.now()]
-  for (let k = 0; k < 5000; k++) batch.group(() => batch.get('A', { id: String(5001 + k) }))
-  for (let k = 0; k < 5000; k++) batch.get('A')
-  assert(performance.now() - begun < 2000)
+  const batch = new Batch()
+  const lookups = lookupsOf(() => {
+    for (let k = 0; k < 5000; k++) batch.group(() => batch.get('A', { id: String(5001 + k) }))
+    for (let k = 0; k < 5000; k++) batch.get('A')
+  })
+  // Some for each name, and not as many as there are names.
+  assert(lookups > 0 && lookups < 20 * 15000, `${lookups} lookups`)
   assert.deepEqual(batch.check(), { requests: 10000, groups: 5000 })
 })
 

@@ -329,7 +329,7 @@ everywhere('answers for a handler that ends its connection', { timeout: 2000, wi
   assert.deepEqual(closed, ['/odata/leaves'])
 })
 
-everywhere('answers what handlers do wrong', { timeout: 50, width: 8 }, async ({ responses, errors }, mount) => {
+everywhere('answers what handlers do wrong', { timeout: 1000, width: 8 }, async ({ responses, errors }, mount) => {
   const names = ['throws', 'cuts', 'hangs', ...(mount === 'express' ? [] : ['rejects'])] // Express 4 does not look at promises
   const found = await responses(batch(...names.map((name) => [name, 'get', name])))
   const expected = { throws: 500, cuts: 502, hangs: 504, ...(mount === 'express' ? {} : { rejects: 500 }) }
