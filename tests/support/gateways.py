@@ -159,6 +159,25 @@ ODD = {
 }
 
 
+class Raw:
+    """A service that answers each request by bytes, as they are, and keeps the bytes of what it has seen."""
+
+    def __init__(self, loop, answer):
+        self.seen, self.answer = [], answer
+        self.server = loop.run(asyncio.start_server(self._served, "127.0.0.1", 0))
+        self.port = self.server.sockets[0].getsockname()[1]
+        self.url = f"http://127.0.0.1:{self.port}"
+
+    async def _served(self, reader, writer):
+        with suppress(ConnectionError, asyncio.IncompleteReadError):
+            head = await reader.readuntil(b"\r\n\r\n")
+            size = [line.split(b":")[1] for line in head.lower().splitlines() if line.startswith(b"content-length:")]
+            self.seen.append(head + await reader.readexactly(int(size[0]) if size else 0))
+            writer.write(self.answer)
+            await writer.drain()
+        writer.close()
+
+
 class Front(Asked):
     """A gateway in this process, by the words of its command line."""
 

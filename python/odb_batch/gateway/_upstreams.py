@@ -8,9 +8,11 @@ import aiohttp
 from yarl import URL
 
 from .._endpoint import Room
-from .._messages import Answer, Refusal, header_dict
+from .._messages import Answer, Refusal
+from ._decoding import Decoder, headers_of
 from ._metrics import Metrics
 from ._options import Options
+from ._reasons import Reasons, reason_of
 
 # Shorter than a server keeps a connection without requests, or one might be sent while it closes it.
 _KEEPALIVE = 1.0
@@ -42,6 +44,7 @@ class Upstreams:
 
     def __init__(self, options: Options, metrics: Metrics) -> None:
         self._options, self._metrics = options, metrics
+        self._reasons = Reasons(options.log != "none")
         self.is_stopping = self._is_given_up = False
 
     async def open(self) -> None:
@@ -104,25 +107,48 @@ class Upstreams:
     async def _answer(self, request: Outgoing, room: Room) -> Answer:
         try:
             return room.fit(request.method, await self._exchanged(request, room))
-        except asyncio.TimeoutError:
-            raise Refusal(504, "Timeout", "No answer came in time") from None
-        except (aiohttp.ClientError, OSError) as error:
-            if self._is_given_up:
-                raise Refusal(504, "Stopped", "The gateway has stopped before an answer came") from None
-            if isinstance(error, aiohttp.ClientConnectorError):
-                raise Refusal(503, "Unreachable", "The service cannot be reached; the request was not sent") from None
-            raise Refusal(502, "BadGateway", "The connection broke before an answer came") from None
+        except Refusal as refusal:
+            if refusal.answer.status == 502:
+                self._say(request, refusal, "answer", refusal)
+            raise
+        except (asyncio.TimeoutError, aiohttp.ClientError, OSError) as error:
+            found = self._refusal(error)
+            if found.answer.body["error"]["code"] != "Stopped":
+                self._say(request, found, reason_of(error), f"{type(error).__name__}: {error}")
+            raise found from None
+
+    def _say(self, request: Outgoing, refusal: Refusal, reason: str, detail: object) -> None:
+        self._reasons.say(request.url, refusal.answer.body["error"]["code"], reason, detail)
+
+    def _refusal(self, error: BaseException) -> Refusal:
+        """What stands for an answer that has not come."""
+        if isinstance(error, asyncio.TimeoutError):
+            return Refusal(504, "Timeout", "No answer came in time")
+        if self._is_given_up:
+            return Refusal(504, "Stopped", "The gateway has stopped before an answer came")
+        if isinstance(error, aiohttp.ClientConnectorError):
+            return Refusal(503, "Unreachable", "The service cannot be reached; the request was not sent")
+        return Refusal(502, "BadGateway", "The connection broke before an answer came")
 
     async def _exchanged(self, request: Outgoing, room: Room) -> Answer:
         """The answer of a service, with more of its body than there is room for at most by a part."""
         headers = {"accept-encoding": "identity", **request.headers}
-        url, body = URL(request.url, encoded=True), bytearray()
+        url = URL(request.url, encoded=True)
         async with self.session(request.method).request(
             request.method, url, headers=headers, data=request.body or None, allow_redirects=False
         ) as answer:
-            coding = answer.headers.get("Content-Encoding", "").strip().lower()
-            if coding not in ("", "identity") and answer.status not in (204, 304):
-                raise Refusal(502, "Encoded", "The service has compressed its answer, though it was not asked to")
-            while len(body) <= room.left and (part := await answer.content.read(_PART)):
-                body += part
-        return Answer(answer.status, header_dict(answer.headers.items()), bytes(body))
+            if not 200 <= answer.status <= 599:
+                raise Refusal(502, "BadGateway", f"The service has answered with the status {answer.status}")
+            return Answer(answer.status, headers_of(answer.headers.items()), await _body(answer, room))
+
+
+async def _body(answer: aiohttp.ClientResponse, room: Room) -> bytes:
+    """The body of an answer without its coding; raises Refusal if it cannot be read: 502 ``Encoded``."""
+    coding, body = answer.headers.get("Content-Encoding", "").strip().lower(), bytearray()
+    is_coded = coding not in ("", "identity") and answer.status not in (204, 304)
+    decoder = Decoder(coding) if is_coded else None
+    while len(body) <= room.left and (part := await answer.content.read(_PART)):
+        body += part if decoder is None else decoder.decode(part, room.left + 1 - len(body))
+    if decoder is not None and len(body) <= room.left:
+        decoder.require_end()
+    return bytes(body)
