@@ -32,16 +32,94 @@ ROOT = os.path.dirname(os.path.dirname(os.path.realpath(__file__)))
 # other work, is without the proof of the crate that its edits are tried over, which all of them together double. A crate
 # without a number counts as the dearest did.
 EDITS = 60
-MINUTES = 28
+MINUTES = 31
 SECONDS = {
     "odb_dense": 11, "odb_names": 13, "odb_io": 16, "odb_doc": 28, "odb_check": 26, "odb_sched": 26, "odb_exec": 30,
     "odb_reply": 24, "odb_engine": 40,
 }  # fmt: skip
 OTHER = 70
 
+# The wrong bodies that an edit has to keep out, also where a clause states the exact result: what is wrong, and the edits
+# with such a body. No clause refuses a body whose allocation, or device, always fails: a test does, which makes the call
+# with enough memory, or with a device that works.
+WRONG_BODIES = {
+    "a name in dependsOn may appear later": ["a_name_that_appears_later_is_accepted"],
+    "an unlisted reference to an earlier member of the own group is refused": [
+        "an_unlisted_reference_to_a_member_of_the_own_group_is_refused"
+    ],
+    "a group is satisfied when its last member succeeds": ["a_group_is_satisfied_when_its_last_member_succeeds"],
+    "a member starts although another one has failed": ["a_member_starts_after_a_sibling_failed"],
+    "a failed dependency does not reach the other members of the group": [
+        "a_failure_is_not_propagated_to_the_other_members"
+    ],
+    "a run is finished while a request runs": ["a_run_is_finished_while_a_request_runs"],
+    "an undone request keeps its status": ["an_undone_request_keeps_its_201"],
+    "a request that never started has no response": ["what_never_started_has_no_response"],
+    "$crossjoin(A,B) is a reference, or %241/Orders is none": [
+        "crossjoin_with_arguments_is_a_reference",
+        "a_percent_encoded_reference_is_not_decoded",
+    ],
+    "a second report overwrites the first": ["a_report_overwrites_an_earlier_one"],
+    "the last fault is reported, or the least number before the least position": [
+        "a_fault_of_the_last_request_is_reported_first",
+        "the_least_number_is_reported_before_the_least_position",
+    ],
+    "a canonical text has the URL in lower case, header names as given, or the document itself": [
+        "the_canonical_text_has_the_url_in_lower_case",
+        "the_canonical_text_keeps_the_case_of_header_names",
+        "a_command_repeats_its_document",
+    ],
+    "a dependency that is listed twice is counted twice, so the request never becomes ready": [
+        "a_dependency_is_counted_twice"
+    ],
+    "a reference to a member of the own group is not counted": [
+        "the_reference_of_a_request_in_a_group_is_no_need"
+    ],
+    "every start, or every batch, is refused": ["every_start_is_refused", "check_always_refuses"],
+    "the service is never asked, and each request gets 200": ["the_service_is_never_asked"],
+    "every execution ends without an outcome": ["every_execution_ends_without_an_outcome"],
+    "304 stops a run": ["a_stopping_run_stops_at_304"],
+    "a text is written again after a short write": ["bytes_are_written_again_after_a_short_write"],
+    "responses are only counted, so one that appears twice stands for one that is missing": [
+        "a_repeated_response_stands_for_a_missing_one"
+    ],
+    "an event that may not come is left out": ["an_event_that_may_not_come_is_left_out"],
+    "the first ready request starts, whatever the chooser picks": [
+        "the_first_ready_request_starts_whatever_is_chosen"
+    ],
+    "a call always runs out of memory": [],
+    "an engine, or a device, always fails to read or to write": [
+        "every_answer_is_a_failed_input",
+        "every_answer_is_a_failed_output",
+    ],
+    "a request names a member of another group without that group": [
+        "a_member_of_another_group_is_accepted_without_its_group"
+    ],
+    "the width counts the started requests": ["the_width_counts_the_started_requests"],
+    "the plan is that of the empty batch": ["the_plan_is_that_of_the_empty_batch"],
+}
+TESTS = {
+    "a call always runs out of memory": [
+        "a_written_text_is_read_back",
+        "texts_as_json_are_read_again",
+        "takes_events_one_by_one_and_as_a_list",
+        "drives_and_executes_a_plan",
+        "gives_each_outcome_once",
+        "keys_and_recorded_runs",
+        "has_a_response_for_each_request",
+        "each_call_of_a_device_may_fail",
+    ],
+    "an engine, or a device, always fails to read or to write": [
+        "each_call_of_a_device_may_fail",
+        "remembers_a_read_that_failed",
+        "remembers_a_write_that_failed_or_took_nothing",
+    ],
+}
+
 BLOCK = re.compile(r"(?:pub )?(?:unsafe )?(impl|trait)\b(.*)")
 CALL = re.compile(r"( *)(pub )?(?:final )?(?:const )?(?:extern \"C\" )?fn (\w+)")
 CLAUSE = re.compile(r" +ensures\*? *(\w+)? *\{")
+TEST = re.compile(r"#\[test\]\s+fn (\w+)")
 
 
 def text_of(path):
@@ -152,6 +230,23 @@ def wrong(crate, every):
         asked[question] = name
 
 
+def proved_tests():
+    """The names of the proved tests."""
+    found = set()
+    for path in glob.glob(f"{ROOT}/crates/odb_tests*/src/**/*.rt", recursive=True):
+        found.update(TEST.findall(text_of(path)))
+    return found
+
+
+def gone():
+    """The edits and the tests of WRONG_BODIES that are no more, a line each."""
+    edits = {name[: -len(".edit")] for crate in crates() for name, _ in questions(crate)}
+    tests = proved_tests()
+    for body, named in WRONG_BODIES.items():
+        yield from (f"{body}: the edit {name} is gone" for name in named if name not in edits)
+        yield from (f"{body}: the test {name} is gone" for name in TESTS.get(body, []) if name not in tests)
+
+
 def with_those_below(crate):
     """The names of a crate and of all that it stands on; crates.txt lists the lowest first."""
     found, known = {crate}, crates()
@@ -223,6 +318,7 @@ def main():
         print(f"{crate}: {edits} edits; {total - len(unasked)} of {total} clauses of public calls are asked")
         if options.unasked:
             print("".join(f"  not asked: {it}\n" for it in unasked), end="")
+    faults += gone()
     if count > EDITS:
         faults.append(f"there are more than {EDITS} edits: drop one that asks less")
     if seconds > MINUTES * 60:
@@ -232,4 +328,5 @@ def main():
     return 1 if faults else 0
 
 
-sys.exit(main())
+if __name__ == "__main__":
+    sys.exit(main())
