@@ -108,7 +108,7 @@ export class Batch {
    * and `If-Match: $a` by its ETag. If there is none, the request is 424.
    *
    * If a part is answered as a whole, by a status that is not 2xx, each of its requests has that answer. If `post` throws, or if
-   * what it returns is not the response to the part, each has 504 for a timeout, else 502, or the answer of a `Refusal`. Then
+   * what it returns is not the response to the part, each has 504 for a timeout or an aborted fetch, else 502, or the answer of a `Refusal`. Then
    * nothing more is sent, and the other requests are 424.
    *
    * Rejects, and nothing was sent, with a `Fault` if the batch is refused, with a `RangeError` if a group has more requests than

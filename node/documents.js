@@ -51,10 +51,20 @@ function jsonOf(value) {
   return Buffer.from(text)
 }
 
+/** The bytes of a buffer. One that was handed to another thread has none: a TypeError, before any call of the library. */
+function viewOf(buffer) {
+  try {
+    return new Uint8Array(buffer)
+  } catch (error) {
+    throw new TypeError('the bytes of a detached ArrayBuffer are gone', { cause: error })
+  }
+}
+
 /** The bytes of an array of bytes, or undefined if a value is something else. Bytes that other threads share are copied. */
 function arrayOf(value) {
-  const bytes = BUFFERS.includes(kindOf(value)) ? new Uint8Array(value) : value
+  const bytes = BUFFERS.includes(kindOf(value)) ? viewOf(value) : value
   if (nameOfArray.call(bytes) !== 'Uint8Array') return undefined
+  if (bytes.length === 0) viewOf(bytes.buffer)
   return kindOf(bytes.buffer) === 'SharedArrayBuffer' ? new Uint8Array(bytes) : bytes
 }
 

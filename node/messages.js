@@ -8,6 +8,8 @@ const LEAST_STATUS = 200
 const MOST_STATUS = 599
 const BAD_GATEWAY = 502
 
+// The names of what a fetch is rejected with that a signal ends, as one of `AbortSignal.timeout` does.
+const OF_SIGNALS = ['AbortError', 'TimeoutError']
 // The codes of errors of Node, and of its fetch, by which no answer came in time, or the connection broke before it came.
 const LATE = /^(ETIMEDOUT|ESOCKETTIMEDOUT|UND_ERR_(CONNECT|HEADERS|BODY)_TIMEOUT)$/
 const BROKEN = /^(ECONN(REFUSED|RESET|ABORTED)|EPIPE|ENOTFOUND|EAI_AGAIN|EHOSTUNREACH|ENETUNREACH|UND_ERR_SOCKET)$/
@@ -59,16 +61,23 @@ function charsetOf(headers) {
   return /;\s*charset="?([\w-]+)/i.exec(headers['content-type'] ?? '')?.[1].toLowerCase() ?? 'utf-8'
 }
 
-/** The answer in what a function that sends returns: an answer, or the response of a fetch, whose body is read. */
+/**
+ * The answer in what a function that sends returns: an answer, or the response of a fetch, whose body is read. Throws for a status
+ * that is not a whole number: what is no answer must not commit a group.
+ */
 async function readAnswer(given) {
   if (typeof given !== 'object' || given === null) throw new TypeError(`send must return an answer, not ${String(given)}`)
+  const { status } = given
+  if (!Number.isInteger(status)) {
+    throw new TypeError(`the status of an answer must be a whole number, not the ${typeof status} ${String(status)}`)
+  }
   const body = typeof given.arrayBuffer === 'function' ? Buffer.from(await given.arrayBuffer()) : given.body
-  return { status: given.status, headers: foldedOf(given.headers), body }
+  return { status: finalStatus(status), headers: foldedOf(given.headers), body }
 }
 
 /** A status that may be reported. */
 function finalStatus(status) {
-  return Number.isInteger(status) && status >= LEAST_STATUS && status <= MOST_STATUS ? status : BAD_GATEWAY
+  return status >= LEAST_STATUS && status <= MOST_STATUS ? status : BAD_GATEWAY
 }
 
 function isSuccess({ status }) {
@@ -87,7 +96,8 @@ function failed() {
 function refusalOf(error, other = failed) {
   if (error instanceof Refusal) return error
   const codes = [error?.code, error?.cause?.code].map(String)
-  if (error?.name === 'TimeoutError' || codes.some((it) => LATE.test(it))) {
+  const names = [error?.name, error?.cause?.name]
+  if (names.some((it) => OF_SIGNALS.includes(it)) || codes.some((it) => LATE.test(it))) {
     return new Refusal(504, 'Timeout', 'No answer came in time')
   }
   return codes.some((it) => BROKEN.test(it)) ? broken() : other()
@@ -98,7 +108,6 @@ module.exports = {
   Refusal,
   broken,
   charsetOf,
-  finalStatus,
   foldedOf,
   isSuccess,
   mediaTypeOf,

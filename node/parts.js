@@ -5,7 +5,7 @@
 const { match, numbersOf, plan } = require('./commands.js')
 const { arrayOf, bytesOf, jsonOf } = require('./documents.js')
 const { batchText, elementText, isPlain, unitsOf } = require('./elements.js')
-const { Refusal, broken, finalStatus, isSuccess, refusalOf } = require('./messages.js')
+const { Refusal, broken, isSuccess, refusalOf } = require('./messages.js')
 const { References } = require('./references.js')
 const { requests } = require('./requests.js')
 const { answersOf } = require('./responses.js')
@@ -135,7 +135,7 @@ class Parts {
   /** Takes what the part that is out was answered. */
   take({ status, headers, body }) {
     if (!isSuccess({ status })) {
-      this.#end({ status: finalStatus(status), headers, body })
+      this.#end({ status, headers, body })
       return
     }
     let found

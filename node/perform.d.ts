@@ -24,7 +24,7 @@ export interface PreparedRequest {
 
 /** What a request is answered. */
 export interface Answer {
-  /** The final status, from 200 to 599; another one is shown as 502. */
+  /** The final status, from 200 to 599; another whole number is shown as 502, and what is not one is an error: 500. */
   status: number
   /** The headers. Those of one connection, as `Connection` and `Set-Cookie`, are not shown. */
   headers?: Record<string, unknown> | Iterable<readonly [string, string]> | null
@@ -45,8 +45,8 @@ export interface Fetched {
 }
 
 /**
- * Sends a request. What it throws is an answer, too: a {@link Refusal} its own, an error of the name `TimeoutError` or of a
- * code such as `ETIMEDOUT` 504, one of a code such as `ECONNRESET` 502, and any other 500.
+ * Sends a request. What it throws is an answer, too: a {@link Refusal} its own, an error of the name `TimeoutError` or
+ * `AbortError` or of a code such as `ETIMEDOUT` 504, one of a code such as `ECONNRESET` 502, and any other 500.
  */
 export type Send = (request: PreparedRequest) => Answer | Fetched | Promise<Answer | Fetched>
 

@@ -4,7 +4,7 @@
 
 const { MOST_BYTES, asText, toWire } = require('./bodies.js')
 const { Fault } = require('./faults.js')
-const { Refusal, finalStatus, isSuccess } = require('./messages.js')
+const { Refusal, isSuccess } = require('./messages.js')
 const { References } = require('./references.js')
 const { Run } = require('./run.js')
 
@@ -81,8 +81,7 @@ class Work {
   }
 
   /** Reports what a started request is answered, and returns whether it has succeeded. */
-  report(id, { status: given, headers, text }) {
-    const status = finalStatus(given)
+  report(id, { status, headers, text }) {
     this.#put(id, status, headers, text)
     this.#references.keep(id, headers, text)
     this.#isStopped ||= this.#stopsAtErrors && status >= 400

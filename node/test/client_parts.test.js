@@ -113,6 +113,7 @@ const OF_OTHERS = '{"responses":[{"id":"z","status":200}]}'
 // How a part is not answered, and what its requests are answered then.
 const BROKEN = [
   ['a timeout', throwing({ name: 'TimeoutError' }), 504, Error],
+  ['a fetch that a signal has ended', throwing({ name: 'AbortError' }), 504, Error],
   ['a code of a timeout', throwing({ cause: { code: 'UND_ERR_HEADERS_TIMEOUT' } }), 504, Error],
   ['another error', throwing({}), 502, Error],
   ['responses to another batch', () => ({ status: 200, body: OF_OTHERS }), 502, Error],
@@ -120,7 +121,8 @@ const BROKEN = [
   ['too few responses', () => ({ status: 200, body: '{"responses":[]}' }), 502, Error],
   ['no body', () => ({ status: 204 }), 502, Error],
   ['nothing', () => undefined, 502, TypeError],
-  ['a status that is none', () => ({ status: 'ok' }), 502, undefined],
+  ['a status that is none', () => ({ status: 'ok' }), 502, TypeError],
+  ['a status that may not be reported', () => ({ status: 99 }), 502, undefined],
   ['a redirection', () => ({ status: 302, headers: { Location: '/login' } }), 302, undefined],
 ]
 

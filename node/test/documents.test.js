@@ -46,6 +46,19 @@ test('reads an empty document', () => {
   }
 })
 
+test('refuses bytes that were handed to another thread', () => {
+  const gone = Buffer.from(new ArrayBuffer(BYTES.length))
+  structuredClone(gone.buffer, { transfer: [gone.buffer] })
+  const expected = { name: 'TypeError', message: 'the bytes of a detached ArrayBuffer are gone' }
+  for (const document of [gone, gone.buffer]) {
+    for (const call of [check, (it) => match(BATCH, it), (it) => new Run(it), (it) => bytesOf(it)]) {
+      assert.throws(() => call(document), expected)
+    }
+  }
+  const live = new Run(BATCH, { events: [{ step: 'start', id: 'a' }] })
+  assert.throws(() => live.report('a', 200, null, gone), expected)
+})
+
 test('copies the bytes that another thread shares', () => {
   const memory = shared()
   for (const document of [memory, new Uint8Array(memory), Buffer.from(memory)]) {

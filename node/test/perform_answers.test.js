@@ -19,6 +19,7 @@ function errorOf(name, code) {
 const EXCEPTIONS = [
   [new Refusal(418, 'Teapot', 'short and stout'), 418],
   [errorOf('TimeoutError'), 504],
+  [errorOf('AbortError'), 504],
   [errorOf('Error', 'ETIMEDOUT'), 504],
   [errorOf('Error', 'ECONNRESET'), 502],
   [Object.assign(new TypeError('fetch failed'), { cause: errorOf('Error', 'ECONNREFUSED') }), 502],
@@ -45,9 +46,17 @@ test('answers 500 for what is not an answer', async () => {
   }
 })
 
-test('shows a status that is none as 502', async () => {
-  for (const status of [undefined, '200', 0, 100, 199, 600, 200.5, NaN]) {
+test('shows a status that may not be reported as 502', async () => {
+  for (const status of [0, 100, 199, 600]) {
     assert.deepEqual(await statusesOf(ONE, () => ({ status })), { a: 502 })
+  }
+})
+
+test('answers 500 for a status that is not a whole number', async () => {
+  for (const status of [undefined, null, '200', 200.5, NaN, 200n]) {
+    const errors = []
+    assert.deepEqual(await statusesOf(ONE, () => ({ status }), { log: (error) => errors.push(error.message) }), { a: 500 })
+    assert.deepEqual(errors, [`the status of an answer must be a whole number, not the ${typeof status} ${String(status)}`])
   }
 })
 

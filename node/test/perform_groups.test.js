@@ -63,6 +63,16 @@ test('rolls back a group whose last member fails, or is not modified', async () 
   }
 })
 
+test('rolls back a group in which an answer has no status that may be reported', async () => {
+  for (const [status, expected] of [['201', 500], [201.5, 500], [undefined, 500], [99, 502]]) {
+    const ledger = new Ledger()
+    const send = async ({ id }) => ({ status: id === 'b' ? status : 201 })
+    const found = await statusesOf(GROUP, send, { transaction: ledger.transaction })
+    assert.deepEqual(found, { x: 201, a: 424, b: expected, c: 424 }, String(status))
+    assert.deepEqual([ledger.committed, ledger.rolledBack], [[], ['g']])
+  }
+})
+
 test('rolls back a group when the run stops', async () => {
   const ledger = new Ledger()
   const document = batch(
