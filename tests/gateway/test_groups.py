@@ -40,7 +40,8 @@ def test_a_group_is_forwarded_as_a_batch(upstream, front, headers):
     places = {"location": "/v2/Orders(1)", "content-type": "application/json"}
     made = {"id": "r1", "status": 201, "headers": places, "body": {"n": 1}}
     orders, main = upstream(batching(made, {"id": "r2", "status": 204}, {"id": "r3", "status": 200})), upstream()
-    it = front("--route", f"/odata/Orders={orders.url}/v2/Orders", "--upstream", main.url, "--groups", "forward")
+    words = ["--send", "Authorization=/odata/Orders", "--groups", "forward"]
+    it = front("--route", f"/odata/Orders={orders.url}/v2/Orders", "--upstream", main.url, *words)
     found = it.batch(
         {"method": "post", "url": "Books", "body": 1},
         *group(

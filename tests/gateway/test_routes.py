@@ -82,6 +82,7 @@ def test_a_path_is_normalized_but_for_what_has_a_meaning():
         ["--listen", "1:99999"],
         ["--listen", "a..b:1"], ["--listen", "[::1:1"], ["--listen", "a b:1"], ["--listen", ":"], ["--listen", "a:"],
         ["--metrics", "/health"], ["--metrics", "/health/ready"], ["--upstream", "http://b/"], ["--metrics", "x"], ["--health", "health"], ["--groups", "some"], ["--log", "all"], ["--keep", "nan"], ["--credential", "a b"], ["--no"],
+        ["--send", "Authorization"], ["--send", "a b=/"], ["--send", "Cookie=http://a/"], ["--send", "Cookie=/x/"],
     )),
 ], ids=" ".join)  # fmt: skip
 def test_wrong_arguments(words, capsys):

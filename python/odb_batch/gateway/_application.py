@@ -10,7 +10,8 @@ from aiohttp import web
 from .._answers import FAILED, LOG
 from .._endpoint import Outer, folder_of, forwarded_hosts, message_of, performed, refused, too_long
 from .._faults import Fault
-from .._messages import Answer, Refusal, header_dict
+from .._messages import Answer, Refusal
+from ._credentials import Credentials, Incoming
 from ._journal import FileJournal, Journals, digest, identity
 from ._metrics import CONTENT_TYPE, Metrics, log_line
 from ._options import Options
@@ -40,7 +41,15 @@ class Gateway:
             {"batches": options.batches, "connections": options.connections, "width": options.width}
         )
         self._routes, self._upstreams = Routes(options.routes), Upstreams(options, self._metrics)
+        self._credentials = Credentials(options.routes, options.credentials, options.sent)
+        self._incoming = Incoming(options.credentials)
         self._journals = Journals(options.journal, options.keep) if options.journal else None
+
+    @property
+    def notice(self) -> str:
+        """What an operator should know at the start, in a line; empty if there is nothing."""
+        held_back = "there are several services, and none gets Authorization, Cookie and the like: see --send"
+        return held_back if self._credentials.are_held_back else ""
 
     def application(self) -> web.Application:
         """Returns the application that answers batches."""
@@ -139,7 +148,9 @@ class Gateway:
 
     def _performance(self, request: web.Request) -> Performance:
         """How the batch of a request is performed; raises Refusal if it is not one."""
-        headers = _headers(request)
+        headers = self._headers(request)
+        if headers.get("content-encoding", "identity").lower() != "identity":
+            raise Refusal(415, "BadCoding", "A batch is sent without Content-Encoding", accept_encoding="identity")
         scheme = headers.get("x-forwarded-proto", "").partition(",")[0].strip().lower()
         scheme = scheme if scheme in ("http", "https") else request.scheme
         host = headers.get("host") or "localhost"  # for a request without one aiohttp would ask the DNS
@@ -151,7 +162,17 @@ class Gateway:
             "x-forwarded-proto": scheme,
         }
         seen = f"{scheme}://{next(iter(forwarded_hosts(headers)), host)}/"
-        return Performance(self._options, self._routes, self._upstreams, self._metrics, outer, forwarded, seen)
+        services = (self._routes, self._credentials, self._upstreams, self._metrics)
+        return Performance(self._options, *services, outer, forwarded, seen)
+
+    def _headers(self, request: web.Request) -> Dict[str, str]:
+        """The headers of a request that hold for its batch."""
+        headers = self._incoming.headers(request.headers.items())
+        try:
+            "".join((request.path, *headers.values())).encode()
+        except UnicodeEncodeError:
+            raise Refusal(400, "BadHeader", "The URL or a header has bytes that are not UTF-8") from None
+        return headers
 
     async def _performed(self, request: web.Request, performance: Performance) -> Answer:
         """Performs a batch; raises what it is refused by."""
@@ -162,7 +183,7 @@ class Gateway:
         try:
             batch = await self._read(request)
             self._require_running()
-            headers = _headers(request)
+            headers = self._headers(request)
             id = headers.get("repeatability-request-id", "").encode()
             if self._journals is None or not id:
                 return performed(await performance.response(batch, None), performance.mode)
@@ -207,17 +228,6 @@ class Gateway:
             raise Refusal(408, "CutBody", "The batch did not come in time") from None
         except Exception:
             raise Refusal(400, "CutBody", "The batch cannot be read to its end") from None
-
-
-def _headers(request: web.Request) -> Dict[str, str]:
-    """The headers of a request but for those of its connection (RFC 9110, section 7.6.1)."""
-    headers = header_dict(request.headers.items())
-    dropped = {name.strip().lower() for name in headers.get("connection", "").split(",")}
-    try:
-        "".join((request.path, *headers.values())).encode()
-    except UnicodeEncodeError:
-        raise Refusal(400, "BadHeader", "The URL or a header has bytes that are not UTF-8") from None
-    return {name: value for name, value in headers.items() if name not in dropped}
 
 
 def _response(answer: Answer) -> web.Response:

@@ -6,6 +6,7 @@ from typing import NamedTuple, Optional, Sequence, Tuple, Union
 from urllib.parse import urlsplit
 
 from .._commands import MAX_WIDTH
+from ._credentials import USUAL
 from ._routes import Route, normalized
 
 PROGRAM = "python3 -m odb_batch gateway"
@@ -35,7 +36,8 @@ class Options(NamedTuple):
     journal: str = ""
     keep: float = 86_400.0
     grace: float = 25.0
-    credentials: Tuple[str, ...] = ("authorization", "cookie")
+    credentials: Tuple[str, ...] = USUAL
+    sent: Tuple[Tuple[str, str], ...] = ()
     health: str = "/health"
     metrics_path: str = ""
     metrics_at: Optional[Address] = None
@@ -100,6 +102,13 @@ def _header(text: str) -> str:
     return text.lower()
 
 
+def _sent(text: str) -> Tuple[str, str]:
+    name, _, prefix = text.partition("=")
+    if not re.fullmatch(r"/[!-~]*", prefix):
+        raise argparse.ArgumentTypeError(f"{text!r} is not HEADER=PREFIX, such as Authorization=/odata/")
+    return _header(name), normalized(prefix)
+
+
 def _metrics(text: str) -> Union[str, Address]:
     return _path(text) if text.startswith("/") else _address(text)
 
@@ -145,7 +154,9 @@ def parser() -> argparse.ArgumentParser:
     add("--journal", metavar="FOLDER", default="", help="keeps batches with a Repeatability-Request-ID there")
     add("--keep", metavar="S", type=_seconds, default=usual.keep, help="seconds for which a batch is kept; 86400")
     add("--credential", metavar="NAME", type=_header, action="append", default=[],
-        help="a header by which services know a client, beside Authorization and Cookie")  # fmt: skip
+        help="a header by which services know a client, beside Authorization, Cookie and X-Api-Key")  # fmt: skip
+    add("--send", metavar="HEADER=PREFIX", type=_sent, action="append", default=[], dest="sent",
+        help="the route that gets a credential; without it the one service gets all, and of several none")  # fmt: skip
     add("--grace", metavar="S", type=_seconds, default=usual.grace, help="seconds for what runs at SIGTERM; 25")
     add("--health", metavar="PATH", type=_path, default=usual.health, help="for probes; PATH/ready, too; /health")
     add("--metrics", metavar="PATH|PORT", type=_metrics, help="for Prometheus: here, or at a port of its own")
@@ -163,12 +174,16 @@ def options_of(words: Sequence[str]) -> Options:
         arguments.error("needed is --upstream or --route")
     if len({it.prefix for it in routes}) < len(routes):
         arguments.error("two routes have the same prefix")
+    for name, prefix in given.sent:
+        if prefix not in {route.prefix for route in routes}:
+            arguments.error(f"--send {name}={prefix}: no route has this prefix")
     if given.metrics in (given.health, f"{given.health}/ready"):
         arguments.error("--metrics and --health need different paths")
     has_path = isinstance(given.metrics, str)
     more = {
         "routes": tuple(routes),
-        "credentials": (*Options(()).credentials, *given.credential),
+        "credentials": (*USUAL, *given.credential),
+        "sent": tuple(given.sent),
         "forwards": given.groups == "forward",
         "metrics_path": given.metrics if has_path else "",
         "metrics_at": None if has_path else given.metrics,

@@ -2,7 +2,7 @@
 
 import re
 import time
-from typing import Dict, List, Optional, Tuple
+from typing import Collection, Dict, List, NamedTuple, Optional, Tuple
 from urllib.parse import urlsplit
 
 from .._endpoint import Outer, Room, folder_of
@@ -11,9 +11,10 @@ from .._groups import MemberRefused, PreparedGroup
 from .._messages import Answer, PreparedRequest, Refusal
 from .._perform_async import perform_async
 from .._requests import Request
+from ._credentials import Credentials
 from ._metrics import Metrics, log_line
 from ._options import Options
-from ._routes import Routes
+from ._routes import Route, Routes
 from ._upstreams import Outgoing, Upstreams
 
 # The headers of an answer that have a URL.
@@ -46,13 +47,15 @@ class Performance:
         self,
         options: Options,
         routes: Routes,
+        credentials: Credentials,
         upstreams: Upstreams,
         metrics: Metrics,
         outer: Outer,
         forwarded: Dict[str, str],
         seen: str,
     ) -> None:
-        self._options, self._routes, self._upstreams, self._metrics = options, routes, upstreams, metrics
+        self._options, self._routes, self._credentials = options, routes, credentials
+        self._upstreams, self._metrics = upstreams, metrics
         self._outer, self._forwarded, self._seen = outer, forwarded, seen
         self._room = Room(options.max_size)
         self.mode = outer.mode
@@ -76,12 +79,17 @@ class Performance:
     async def _send(self, request: PreparedRequest) -> Answer:
         """Sends a request to the service of its route."""
         try:
-            _, url = self._routes.target(request.url)
-            headers = {**self._outer.headers_of(request), **self._forwarded, "host": urlsplit(url).netloc}
+            route, url = self._routes.target(request.url)
+            headers = self._headers_for([route], url, self._outer.headers_of(request))
             answer = await self._exchanged(request.id, Outgoing(request.method, url, headers, request.body))
         except Refusal as refusal:
             raise self._counted(refusal) from None
         return self._shown(url, answer)
+
+    def _headers_for(self, routes: Collection[Route], url: str, headers: Dict[str, str]) -> Dict[str, str]:
+        """The headers of a request to a URL: those that the service of its routes gets, and those of the gateway."""
+        kept = self._credentials.headers_for(routes, headers)
+        return {**kept, **self._forwarded, "host": urlsplit(url).netloc}
 
     def _counted(self, refusal: Refusal) -> Refusal:
         self._metrics.fault(refusal.answer.body["error"]["code"])
@@ -116,42 +124,54 @@ class Performance:
     async def _send_group(self, group: PreparedGroup) -> List[Answer]:
         """Sends a group as a batch to the one service of its requests."""
         try:
-            service, sent, urls = self._of_one_service(group)
-            headers = {**self._outer.headers_of_batch(), **self._forwarded, "host": urlsplit(service).netloc}
-            answer = await self._exchanged(group.name, Outgoing("POST", service, headers, sent.batch()))
+            sent = self._of_one_service(group)
+            headers = self._headers_for(sent.routes, sent.url, self._outer.headers_of_batch())
+            answer = await self._exchanged(group.name, Outgoing("POST", sent.url, headers, sent.group.batch()))
         except Refusal as refusal:
             raise self._counted(refusal) from None
         except MemberRefused as refused:
             self._metrics.fault(refused.answer.body["error"]["code"])
             raise
-        answers = sent.answers(answer)
-        return [self._shown(urls.get(it.id, service), answer) for it, answer in zip(sent.requests, answers)]
+        answers = zip(sent.group.requests, sent.group.answers(answer))
+        return [self._shown(sent.urls.get(request.id, sent.url), answer) for request, answer in answers]
 
-    def _of_one_service(self, group: PreparedGroup) -> Tuple[str, PreparedGroup, Dict[str, str]]:
-        """The URL of the service's $batch, the group as it takes it, and the URLs of its requests by their ids."""
-        services: Dict[str, None] = {}
+    def _of_one_service(self, group: PreparedGroup) -> "_SentGroup":
+        """A group as its service takes it."""
+        routes: Dict[Route, None] = {}
         requests, urls = [], {}
         for request in group.requests:
             try:
-                found = self._member(request)
+                member, route, url = self._member(request)
             except Refusal as refusal:
                 raise MemberRefused(request.id, refusal.answer) from None
-            requests.append(found[0])
-            if found[1]:
-                services[found[1]] = None
-                urls[request.id] = found[2]
+            requests.append(member)
+            if route is not None:
+                routes[route] = None
+                urls[request.id] = url
+        services = {route.service for route in routes}
         if len(services) != 1:
             raise Refusal(501, "SeveralServices", "The requests of an atomicity group go to several services")
-        return next(iter(services)), group._replace(requests=tuple(requests)), urls
+        kept = [it._replace(headers=self._credentials.headers_for(routes, it.headers)) for it in requests]
+        return _SentGroup(services.pop(), group._replace(requests=tuple(kept)), urls, tuple(routes))
 
-    def _member(self, request: Request) -> Tuple[Request, str, str]:
-        """A request of a group as its service takes it, the URL of the service's $batch, and its own, if it has one."""
+    def _member(self, request: Request) -> Tuple[Request, Optional[Route], str]:
+        """A request of a group as its service takes it; its route and its URL there, if it refers to none of the group."""
         headers = self._outer.own_headers(request.headers)
         if request.reference is not None:
-            return request._replace(headers=headers), "", ""
+            return request._replace(headers=headers), None, ""
         route, url = self._routes.target(request.url)
         inside = url[len(folder_of(route.service)) :]
         if _IS_READ_OTHERWISE(inside):
             parts = urlsplit(url)
             inside = parts.path + (f"?{parts.query}" if parts.query else "")
-        return request._replace(url=inside, headers=headers), route.service, url
+        return request._replace(url=inside, headers=headers), route, url
+
+
+class _SentGroup(NamedTuple):
+    """A group that is sent as one: the URL of the service's $batch, the group as it takes it, the URLs of its requests by
+    their ids, and the routes that they take."""
+
+    url: str
+    group: PreparedGroup
+    urls: Dict[str, str]
+    routes: Tuple[Route, ...]

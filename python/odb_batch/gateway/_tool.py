@@ -43,13 +43,16 @@ async def _serve(options: Options) -> None:
     runners = []
     try:
         for app, address in apps:
-            runner = web.AppRunner(app, access_log=None)
+            # What is compressed is refused by its header: nothing is to be unpacked before.
+            runner = web.AppRunner(app, access_log=None, auto_decompress=False)
             runners.append(runner)
             await runner.setup()
             site = web.TCPSite(runner, address.host or None, address.port, shutdown_timeout=5)
             await site.start()
         found = [_shown(options.listen, address) for address in runners[0].addresses]
         print(f"listening on {found[0]}", file=sys.stderr, flush=True)
+        if gateway.notice and options.log != "none":
+            print(gateway.notice, file=sys.stderr, flush=True)
         await stopped.wait()
         await gateway.stop(hurry)
     finally:
