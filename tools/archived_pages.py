@@ -17,7 +17,7 @@ SHIPPED_FILES = (
 # What the pages name and the repository alone has.
 OF_REPOSITORY = (
     ".ci/", "bench/", "bin/building.sh", "bin/crates", "bin/odb_library", "bin/odb_page", "bin/odb_program", "bin/odb_wasm", "bin/release",
-    "crates/", "examples/service/tests/", "node/bundle", "node/compile", "node/module.js", "page/", "ports/", "python/odb_batch/",
+    "crates/", "examples/service/tests/", "node/bundle", "node/compile", "node/module.js", "node/test/", "page/", "ports/", "python/odb_batch/",
     "python/tests/", "tests/", "tools/", "wasm/",
 )  # fmt: skip
 
