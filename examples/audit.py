@@ -1,7 +1,7 @@
 #!/usr/bin/env python3
 """Audits a log of batches with the responses of their service, a pair a line, and counts the lines by fault.
 
-    python3 examples/audit.py LOG [--command match] [--jobs 4] [--program PATH]
+    python3 examples/audit.py LOG [--command match] [--strict] [--jobs 4] [--program PATH]
 
 Each line of the log is what `odb_batch match --lines` reads: the array `[batch, responses]`; or what another command reads.
 GNU parallel splits the log where it is installed; else this script gives each of its processes a part of the log. A part
@@ -68,10 +68,14 @@ def arguments() -> argparse.Namespace:
     option = parser.add_argument
     option("log", help="a file with a line for each batch")
     option("--command", default="match", choices=COMMANDS)
+    option("--strict", action="store_true", help="have match also refuse statuses that no finished run answers")
     option("--jobs", type=jobs_of, default=os.cpu_count() or 1, help="how many processes; as many as there are processors")
     option("--program", help="the program odb_batch; else the one on the PATH, of this clone or of this archive")
     option("--own", action="store_true", help="do not use GNU parallel")
-    return parser.parse_args()
+    options = parser.parse_args()
+    if options.strict and options.command != "match":
+        parser.error("--strict is an option of match alone")
+    return options
 
 
 def printed(*words: str) -> bytes:
@@ -155,16 +159,16 @@ def audit_part(command: List[str], log: str, begin: int, end: int) -> Counts:
     return counts
 
 
-def audit_by_own(program: str, command: str, log: str, jobs: int) -> Counts:
-    words = [program, command, "--lines", "--json"]
+def audit_by_own(program: str, command: List[str], log: str, jobs: int) -> Counts:
+    words = [program, *command]
     with ThreadPoolExecutor(jobs) as pool:
         return sum(pool.map(lambda part: audit_part(words, log, *part), parts_of(log, jobs)), Counts())
 
 
-def audit_by_parallel(program: str, command: str, log: str, jobs: int) -> Counts:
+def audit_by_parallel(program: str, command: List[str], log: str, jobs: int) -> Counts:
     words = ["parallel", "--plain", "--will-cite", "--pipe-part", "--block", "-1", "--jobs", str(jobs), "--arg-file", log]
     # The status of GNU parallel is how many jobs did not end with 0. One that refused lines has done its work.
-    job = f'"$ODB_BATCH" {command} --lines --json || test $? -eq 1'
+    job = f'"$ODB_BATCH" {" ".join(command)} || test $? -eq 1'
     variables = {**os.environ, "ODB_BATCH": program, "PARALLEL_SHELL": "/bin/sh"}
     with subprocess.Popen([*words, job], env=variables, stdin=subprocess.DEVNULL, stdout=subprocess.PIPE) as process:
         counts = counted(process.stdout)
@@ -179,7 +183,8 @@ def audit(options: argparse.Namespace) -> Counts:
     lines = lines_of(log)
     uses_parallel = lines and not options.own and printed("parallel", "--version").startswith(b"GNU parallel")
     way = audit_by_parallel if uses_parallel else audit_by_own
-    counts = way(program, options.command, log, options.jobs)
+    command = [options.command, "--lines", "--json", *(["--strict"] if options.strict else [])]
+    counts = way(program, command, log, options.jobs)
     if sum(counts.values()) != lines:
         raise Failed(f"{options.log} has {lines} lines, of which {sum(counts.values())} were counted")
     return counts

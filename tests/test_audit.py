@@ -19,6 +19,11 @@ AUDIT = os.path.join(EXAMPLES, "audit.py")
 BATCH = b'{"requests":[{"id":"1","method":"get","url":"A"}]}'
 FITS, FITS_NOT = b'{"responses":[{"id":"1","status":200}]}', b'{"responses":[]}'
 # A document of objects takes some 125 times its size in memory.
+# A group of which a half was performed: no run answers so.
+HALF = (
+    b'[{"requests":[{"id":"1","atomicityGroup":"g","method":"post","url":"A"},{"id":"2","atomicityGroup":"g","method":"post","url":"A"}]},'
+    b'{"responses":[{"id":"1","atomicityGroup":"g","status":201},{"id":"2","atomicityGroup":"g","status":409}]}]'
+)
 LARGE = b'{"requests":[{"id":"1","method":"post","url":"A","headers":{"content-type":"application/json"},"body":[%s]}]}'
 OBJECTS = b",".join([b'{"a":{"a":{"a":{}}}}'] * 400_000)
 # In a folder with such a name, GNU parallel and a shell would replace parts of a path that is not quoted.
@@ -73,6 +78,7 @@ class Place:
         for name, data in logs.items():
             self.write(name, data)
         long_line = b"[%s,%s]" % (BATCH, FITS + b" " * 3_000_000)
+        self.write("halves", b"\n".join([pairs(20, 0), HALF, HALF, pairs(20, 0)]))
         self.write("uneven", b"\n".join([pairs(20, 0), long_line, b"", pairs(20, 0)]))
         self.write("large", (BATCH + b"\n") * 50 + LARGE % OBJECTS + b"\n" + (BATCH + b"\n") * 50)
         os.mkfifo(self.path("pipe"))
@@ -120,6 +126,12 @@ def test_counts(place, way, name):
 
 
 @each_way
+@pytest.mark.parametrize("words, counts", [([], ("ok 42\n", "", 0)), (["--strict"], ("ok 40\nF77 2\n", "", 1))])
+def test_groups_that_are_half_performed(place, way, words, counts):
+    assert place.audit("halves", "--program", place.program, "--jobs", "3", *words, *way) == counts
+
+
+@each_way
 @pytest.mark.parametrize("name", STAND_INS)
 def test_stand_in(place, way, name):
     """A program that ends early, in all of its processes."""
@@ -143,7 +155,7 @@ def test_missing_log(place, way, name):
 JOBS = [["--jobs", it] for it in ("0", "-1", "four", "1.5", "1001", "")]
 
 
-@pytest.mark.parametrize("words", [*JOBS, ["--command", "explain"], ["--more"], ["second"]], ids=" ".join)
+@pytest.mark.parametrize("words", [*JOBS, ["--command", "explain"], ["--more"], ["second"], ["--strict", "--command", "check"]], ids=" ".join)
 def test_wrong_arguments(place, words):
     assert_ended(place.audit("mixed", "--program", place.program, *words), 2)
 
