@@ -18,12 +18,12 @@ SECONDS = 120
 AUDIT = os.path.join(EXAMPLES, "audit.py")
 BATCH = b'{"requests":[{"id":"1","method":"get","url":"A"}]}'
 FITS, FITS_NOT = b'{"responses":[{"id":"1","status":200}]}', b'{"responses":[]}'
-# A document of objects takes some 125 times its size in memory.
 # A group of which a half was performed: no run answers so.
 HALF = (
     b'[{"requests":[{"id":"1","atomicityGroup":"g","method":"post","url":"A"},{"id":"2","atomicityGroup":"g","method":"post","url":"A"}]},'
     b'{"responses":[{"id":"1","atomicityGroup":"g","status":201},{"id":"2","atomicityGroup":"g","status":409}]}]'
 )
+# A document of objects takes some 125 times its size in memory.
 LARGE = b'{"requests":[{"id":"1","method":"post","url":"A","headers":{"content-type":"application/json"},"body":[%s]}]}'
 OBJECTS = b",".join([b'{"a":{"a":{"a":{}}}}'] * 400_000)
 # In a folder with such a name, GNU parallel and a shell would replace parts of a path that is not quoted.
