@@ -4,9 +4,10 @@ import json
 import re
 import threading
 from ipaddress import IPv6Address
-from typing import Dict, Iterable, List, Mapping, NamedTuple, Optional, Tuple
+from typing import Dict, Iterable, List, Mapping, NamedTuple, Optional, Set, Tuple
 from urllib.parse import quote
 
+from ._answers import LOG
 from ._commands import Mode
 from ._faults import Fault
 from ._messages import Answer, PreparedRequest, Refusal, media_type
@@ -27,12 +28,19 @@ _ALLOWED = frozenset(
         "if-match",
         "if-modified-since", "if-none-match", "if-unmodified-since", "isolation", "odata-isolation", "odata-maxversion",
         "odata-version", "prefer", "repeatability-first-sent", "repeatability-request-id",
+        # What usual clients set: for traces (W3C Trace Context), for logs, and against forged requests.
+        "client-request-id", "traceparent", "tracestate", "x-correlation-id", "x-csrf-token", "x-request-id",
+        "x-requested-with",
     }
 )  # fmt: skip
+_ALLOWED_PREFIXES = ("sap-",)
 # What clients send with each request; in a batch it has no meaning, and is dropped.
 _IGNORED = frozenset(
     {"accept-encoding", "cache-control", "connection", "content-length", "date", "host", "pragma", "user-agent"}
 )
+# The headers of which the log has a line; a client chooses names, so they are not many.
+_WARNED: Set[str] = set()
+_WARNED_LOCK, _MOST_WARNED = threading.Lock(), 100
 _PREFERENCES = re.compile(r'(?:[^,"]|"[^"]*"?)+')
 # The preferences that are for the batch alone.
 _OF_BATCH = frozenset({"callback", "continue-on-error", "respond-async", "wait"})
@@ -86,7 +94,8 @@ class Outer:
             in front has. Whatever they are, a request is dispatched here, by its path.
 
     Raises:
-        Refusal: The method is not POST (405), the body is not in JSON (415), or the host is not one (400).
+        Refusal: The method is not POST (405), the body is not in JSON or is compressed (415), or the host is not one
+            (400).
     """
 
     def __init__(
@@ -103,6 +112,7 @@ class Outer:
             raise Refusal(405, "NotAllowed", f"{method} does not apply to a batch", allow="POST")
         if media_type(headers) != "application/json":
             raise Refusal(415, "BadMediaType", "A batch is in application/json", accept="application/json")
+        require_identity(headers)
         if not _is_authority(host):
             raise Refusal(400, "BadHost", "The host is not a name with a port")
         self.base = f"{scheme}://{host}{quote(folder, _PLAIN)}"
@@ -137,7 +147,8 @@ class Outer:
         for name, value in given.items():
             if name in _IGNORED:
                 continue
-            if name not in self._allowed:
+            if name not in self._allowed and not name.startswith(_ALLOWED_PREFIXES):
+                _warn_of(name)
                 raise Refusal(400, "HeaderNotAllowed", f"A request of a batch may not have the header {name}", name)
             if not _is_field_value(value):
                 raise Refusal(400, "BadHeader", f"The header {name} has a character that it may not have", name)
@@ -145,10 +156,26 @@ class Outer:
         return headers
 
 
+def _warn_of(name: str) -> None:
+    """Logs once in a process that requests have a header that is not allowed: clients may need it."""
+    with _WARNED_LOCK:
+        if name in _WARNED or len(_WARNED) >= _MOST_WARNED:
+            return
+        _WARNED.add(name)
+    LOG.warning("requests of batches have the header %s, which is not allowed; this is logged once", name)
+
+
 def forwarded_hosts(headers: Mapping[str, str]) -> List[str]:
     """Returns the hosts that a client has asked, by what proxies say."""
     named = headers.get("x-forwarded-host", "").split(",") + _FORWARDED.findall(headers.get("forwarded", ""))
     return [host for host in map(str.strip, named) if host and _is_authority(host)]
+
+
+def require_identity(headers: Mapping[str, str]) -> None:
+    """Raises Refusal if a body is compressed: what it would inflate to is not bounded."""
+    codings = {coding.strip().lower() for coding in headers.get("content-encoding", "").split(",")}
+    if not codings <= {"", "identity"}:
+        raise Refusal(415, "BadEncoding", "A batch may not have a Content-Encoding", accept_encoding="identity")
 
 
 def _is_inherited(name: str) -> bool:

@@ -93,7 +93,7 @@ class Preparation:
             given = self._requests[id]
             refers = given.reference is not None
             url = self.place(str(given.reference)) + given.rest if refers else joined(self._service.base, given.url)
-            self._urls[id] = self._service.target(url)
+            self._urls[id] = self._service.target(url, given.url)
         return self._urls[id]
 
     def place(self, id: str) -> str:

@@ -1,6 +1,7 @@
 """URLs of requests: joined to the base of the service, in ASCII, and not outside of it."""
 
 import re
+from functools import lru_cache
 from typing import Optional, Sequence
 from urllib.parse import quote, unquote, urljoin, urlsplit, urlunsplit
 
@@ -10,6 +11,9 @@ from ._messages import Refusal
 _IS_RELATIVE = re.compile(r"[^/:?#.\\]+(/[^/:?#.\\]*)*(\?[^#]*)?").fullmatch
 # What stays as it is in a URL, apart from letters, digits, - . _ and ~.
 _PLAIN = "!$%&'()*+,/:;=@"
+# What no path has, however it is encoded: control characters, ends of lines and halves of a surrogate pair.
+_FORBIDDEN = re.compile("[\x00-\x1f\x7f-\x9f\u2028\u2029\ud800-\udfff]").search
+_PORTS = {"http": "80", "https": "443"}
 
 
 def joined(base: str, url: str) -> str:
@@ -59,37 +63,55 @@ class Service:
         self._roots = tuple(filter(None, (base,) if roots is None else roots))
         parts = map(urlsplit, self._roots)
         # The scheme, the host and the decoded path of each.
-        self._places = [(it.scheme, it.netloc.lower(), unquote(it.path)) for it in parts]
+        self._places = [(it.scheme, _host(it.scheme, it.netloc), unquote(it.path)) for it in parts]
 
-    def target(self, url: str) -> str:
+    def target(self, url: str, given: str = "") -> str:
         """Returns an absolute URL in ASCII, without its fragment.
+
+        Args:
+            url: The URL.
+            given: The URL as the batch has it, for the message.
 
         Raises:
             Refusal: It cannot be read: 400 ``BadUrl``. It leads out of the service: 404 ``NotFound``. So does one with
-                a segment ``..``, or with a character that cannot be printed, however it is encoded.
+                a segment ``..``, or with a control character, however it is encoded.
         """
         try:
             parts = urlsplit(url)
+            url.encode()  # half of a surrogate pair is not a character
         except ValueError:
             raise Refusal(400, "BadUrl", "The URL cannot be read") from None
-        if self._places and not self._has(parts.scheme, parts.netloc.lower(), unquote(parts.path)):
-            raise Refusal(404, "NotFound", f"The URL leads out of {self._roots[0]}")
+        if self._places and not self._has(parts.scheme, _host(parts.scheme, parts.netloc), unquote(parts.path)):
+            raise self._outside(given)
         path, query = quote(parts.path, _PLAIN + "~"), quote(parts.query, _PLAIN + "~?")
         return urlunsplit((parts.scheme, parts.netloc, path, query, ""))
 
     def require_below(self, rest: str) -> None:
         """Raises Refusal, as `target` does, if what follows a reference may lead out of what that stands for."""
         if self._places and not _stays_below(unquote(urlsplit(f"x{rest}").path)):
-            raise Refusal(404, "NotFound", f"The URL leads out of {self._roots[0]}")
+            raise self._outside()
 
-    def _has(self, scheme: str, netloc: str, path: str) -> bool:
-        """Whether a URL is below a root, by its parts and its decoded path."""
-        below = (it for it in self._places if it[:2] == (scheme, netloc) and path.startswith(it[2]))
+    def _outside(self, given: str = "") -> Refusal:
+        is_elsewhere = given.startswith("/") and not unquote(given).startswith(("//", self._places[0][2]))
+        hint = ": drop the / that it begins with" if is_elsewhere else ""
+        return Refusal(404, "NotFound", f"The URL leads out of {self._roots[0]}{hint}")
+
+    def _has(self, scheme: str, host: str, path: str) -> bool:
+        """Whether a URL is below a root, by its scheme, its host and its decoded path."""
+        below = (it for it in self._places if it[:2] == (scheme, host) and path.startswith(it[2]))
         return any(below) and _stays_below(path)
 
 
+@lru_cache(maxsize=256)
+def _host(scheme: str, netloc: str) -> str:
+    """Returns the host of a URL in lower case, without the port that its scheme has by default."""
+    name, colon, port = netloc.lower().rpartition(":")
+    is_default = colon and not port.endswith("]") and port.lstrip("0") in ("", _PORTS.get(scheme))
+    return name if is_default else netloc.lower()
+
+
 def _stays_below(path: str) -> bool:
-    """Whether a decoded path has no segment that leads up, and no character that cannot be printed."""
+    """Whether a decoded path has no segment that leads up, and no control character."""
     # Servers take \ for / and drop what follows a ; in a segment, so these count here, too.
     segments = [segment.partition(";")[0] for segment in path.replace("\\", "/").split("/")]
-    return ".." not in segments and path.isprintable()
+    return ".." not in segments and _FORBIDDEN(path) is None

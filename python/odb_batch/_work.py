@@ -86,7 +86,7 @@ class Work:
         document = bytes_of(batch)
         given = requests(document)
         if len(given) > limit:
-            raise Refusal(413, "TooManyRequests", f"A batch may have {limit} requests")
+            raise Refusal(413, "BatchTooLong", f"A batch may have {limit} requests")
         has_groups = any(request.group is not None for request in given)
         if has_groups and not (has_transactions or sends_groups):
             raise Refusal(501, "NoGroups", "Atomicity groups are not supported here")

@@ -9,7 +9,7 @@ import threading
 
 import pytest
 
-from odb_batch import asgi, wsgi
+from odb_batch import _endpoint, asgi, wsgi
 from support.applications import CONTINUE, JSON, OverWsgi, batch
 
 
@@ -124,7 +124,7 @@ class TestRefused:
         status, _, text = over("/odata/$batch", limit=3).ask(
             "POST", "/odata/$batch", JSON, json.dumps({"requests": requests}).encode()
         )
-        assert (status, json.loads(text)["error"]["code"]) == (413, "TooManyRequests")
+        assert (status, json.loads(text)["error"]["code"]) == (413, "BatchTooLong")
 
     def test_groups_without_transactions(self, service):
         requests = [{"id": "a", "method": "post", "url": "A", "atomicityGroup": "g"}]
@@ -190,6 +190,35 @@ class TestHeaders:
             == "true"
         )
 
+    @pytest.mark.parametrize("name", [
+        "traceparent", "tracestate", "X-Request-ID", "X-Correlation-ID", "client-request-id", "X-CSRF-Token", "X-Requested-With",
+        "sap-contextid", "SAP-Language",
+    ])  # fmt: skip
+    def test_of_usual_clients_pass(self, service, name):
+        found = batch(service, {"url": "a", "headers": {name: "1"}}, headers={**CONTINUE, name: "of the batch"})["r0"]
+        assert (found["status"], found["body"]["headers"][name.lower()]) == (200, "1")
+
+    def test_that_are_not_allowed_are_logged_once(self, service, caplog, monkeypatch):
+        monkeypatch.setattr(_endpoint, "_WARNED", set())
+        for _ in range(2):
+            batch(service, *[{"url": "a", "headers": {name: "1"}} for name in ("X-Dry-Run", "X-Other", "X-Dry-Run")])
+        lines = [it.getMessage() for it in caplog.records if it.name == "odb_batch"]
+        assert [sum(f" {name}," in line for line in lines) for name in ("x-dry-run", "x-other")] == [1, 1]
+
+    def test_that_are_not_allowed_are_logged_for_some_names_alone(self, service, caplog, monkeypatch):
+        """Clients choose the names."""
+        monkeypatch.setattr(_endpoint, "_WARNED", set())
+        monkeypatch.setattr(_endpoint, "_MOST_WARNED", 2)
+        batch(service, *[{"url": "a", "headers": {f"X-{k}": "1"}} for k in range(5)])
+        assert len([it for it in caplog.records if it.name == "odb_batch"]) == 2
+
+    def test_that_the_connection_names_are_inherited_all_the_same(self, service):
+        """A client could else take away what a proxy has added."""
+        named = {"Connection": "X-Forwarded-For, Authorization", "X-Forwarded-For": "9.9.9.9", "Authorization": "Bearer 1"}
+        found = batch(service, {"url": "a"}, headers={**CONTINUE, **named})["r0"]["body"]["headers"]
+        assert (found["x-forwarded-for"], found["authorization"]) == ("9.9.9.9", "Bearer 1")
+        assert "connection" not in found
+
     def test_of_an_answer(self, service):
         headers = batch(service, {"url": "price"})["r0"]["headers"]
         assert headers == {"content-type": "application/json", "vary": "A, B"}
@@ -232,6 +261,18 @@ class TestBodies:
     def test_an_application_that_exits(self, service):
         with pytest.raises(SystemExit):
             batch(service, {"url": "exit"})
+
+
+class TestCompressedBatches:
+    @pytest.mark.parametrize("coding, status", [
+        ("gzip", 415), ("identity, br", 415), ("Deflate", 415), ("identity", 200), ("", 200),
+    ])  # fmt: skip
+    def test_are_refused(self, service, coding, status):
+        found, headers, text = service.ask(
+            "POST", "/odata/$batch", {**CONTINUE, "Content-Encoding": coding}, b'{"requests":[]}'
+        )
+        assert found == status
+        assert status == 200 or json.loads(text)["error"]["code"] == "BadEncoding" and headers["accept-encoding"] == "identity"
 
 
 class TestGroups:

@@ -167,7 +167,7 @@ class TestScripted:
         assert self.statuses(Scripted({"a": 404}, mode="stop")) == [404, 424, 424]
 
     @pytest.mark.parametrize("service, document, status, code", [
-        (Scripted(limit=2), BATCH, 413, "TooManyRequests"),
+        (Scripted(limit=2), BATCH, 413, "BatchTooLong"),
         (Scripted(), {"requests": [7]}, 400, "F10"),
         (Scripted(refusals=[503]), BATCH, 503, "Refused"),
     ])  # fmt: skip

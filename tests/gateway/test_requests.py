@@ -214,7 +214,7 @@ def test_no_request_is_sent_twice_by_a_library(upstream, loop, method):
     ("GET", "/odata/$batch", None, {}, 405, "NotAllowed"), ("POST", "/odata/Books", "{}", JSON, 404, "NotFound"),
     ("POST", "/odata/$batch", b" " * 100_001, JSON, 413, "TooLong"),
     ("POST", "/odata/$batch", b" " * 100_000, JSON, 400, "F02"),
-    ("POST", "/odata/$batch", ELEVEN, JSON, 413, "TooManyRequests"),
+    ("POST", "/odata/$batch", ELEVEN, JSON, 413, "BatchTooLong"),
     ("POST", "/odata/$batch", "{}", {**JSON, "Host": "a b"}, 400, "BadHost"),
     ("POST", "/odata/$batch", "{}", {**JSON, "X": b"\xff"}, 400, "BadHeader"),
 ], ids=range(9))  # fmt: skip

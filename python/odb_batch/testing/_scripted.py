@@ -70,7 +70,7 @@ class Scripted:
             return self._refusal(400, fault.code)
         with run:
             if sum(1 for _ in json.loads(document)["requests"]) > self._limit:
-                return self._refusal(413, "TooManyRequests")
+                return self._refusal(413, "BatchTooLong")
             while (ids := run.next_unit()) is not None:
                 self._perform(run, ids)
             return 200, dict(_JSON), run.response()
