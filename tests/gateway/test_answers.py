@@ -1,5 +1,5 @@
-"""Answers of services that are odd, but can be read: bytes in headers, headers that come twice, codings, statuses; and the
-reasons in the log for those that do not come.
+"""Answers of services that are odd, but can be read: bytes in headers, headers that come twice, codings, statuses; and
+the reasons in the log for those that do not come.
 """
 
 import gzip
@@ -40,7 +40,8 @@ def path_of(head):
 def test_a_byte_of_latin_1_keeps_the_body_and_the_other_headers(raw, front):
     service = raw(b"Location: /u/Books(1)", b"X-Name: caf\xe9", "X-Text: ü".encode())
     it = front("--upstream", service.url)
-    document = '{"requests":[{"id":"a","method":"post","url":"X"},{"id":"b","method":"get","url":"$a/L","dependsOn":["a"]}]}'
+    first, second = '{"id":"a","method":"post","url":"X"}', '{"id":"b","method":"get","url":"$a/L","dependsOn":["a"]}'
+    document = f'{{"requests":[{first},{second}]}}'
     status, _, text = it.ask("POST", "/u/$batch", document, CONTINUE)
     assert status == 200 and b'"body":{"a":9.990}' in text
     headers = json.loads(text)["responses"][0]["headers"]
@@ -58,7 +59,7 @@ def test_a_location_of_latin_1_can_be_referred_to(raw, front):
 
 @pytest.mark.parametrize("status", [101, 99, 600, 999])
 def test_a_status_that_is_not_final(raw, front, status):
-    (found,) = front("--upstream", raw(status=status).url, "--timeout", "5").batch({"method": "post", "url": "x"}).values()
+    found = front("--upstream", raw(status=status).url).batch({"method": "post", "url": "x"})["r0"]
     assert (found["status"], found["body"]["error"]["code"]) == (502, "BadGateway")
 
 
@@ -110,8 +111,8 @@ def test_several_members_of_gzip_are_one_body(raw, front):
 
 
 @pytest.mark.parametrize("coding, body", [
-    ("gzip", b"no"), ("gzip", gzip.compress(LONG)[:-9]), ("gzip", gzip.compress(BODY) + b"x"), ("deflate", b"no"), ("br", BODY),
-    ("gzip, gzip", gzip.compress(gzip.compress(BODY))),
+    ("gzip", b"no"), ("gzip", gzip.compress(LONG)[:-9]), ("gzip", gzip.compress(BODY) + b"x"), ("deflate", b"no"),
+    ("br", BODY), ("gzip, gzip", gzip.compress(gzip.compress(BODY))),
 ], ids=range(6))  # fmt: skip
 def test_an_answer_that_cannot_be_read(raw, front, coding, body):
     service = raw(f"Content-Encoding: {coding}".encode(), body=body)

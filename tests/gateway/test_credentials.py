@@ -1,4 +1,4 @@
-"""Which service gets which credentials, what proxies say of a client, and what a client cannot have removed on the way."""
+"""Which service gets which credentials, what proxies say of a client, and what a client cannot have removed."""
 
 import gzip
 import json
@@ -43,7 +43,8 @@ def test_one_service_gets_all_credentials(upstream, front):
 
 
 def test_options_say_which_service_gets_a_credential(pair):
-    words = ["--send", "authorization=/odata/Orders", "--send", "Cookie=/", "--send", "X-Own=/", "--send", "X-Own=/odata/Orders"]
+    sent = ("authorization=/odata/Orders", "Cookie=/", "X-Own=/", "X-Own=/odata/Orders")
+    words = [word for text in sent for word in ("--send", text)]
     secrets = {"Authorization": "Bearer 1", "Cookie": "a=b", "X_Api_Key": "k", "X_Own": "1", "X_Other": "1"}
     orders, main = pair(*words, **secrets)
     named = [*SECRETS, "X-Own", "X-Other"]
@@ -83,15 +84,16 @@ def test_the_start_says_that_credentials_are_held_back(upstream, running):
 
 
 PROXIES = {
-    "Proxy-Authorization": "Basic x", "Forwarded": "for=1.2.3.4;host=evil", "X-Real-IP": "1.2.3.4", "X-Forwarded-Port": "1",
-    "X-Forwarded-Server": "evil", "X-Forwarded-Prefix": "/evil",
+    "Proxy-Authorization": "Basic x", "Forwarded": "for=1.2.3.4;host=evil", "X-Real-IP": "1.2.3.4",
+    "X-Forwarded-Port": "1", "X-Forwarded-Server": "evil", "X-Forwarded-Prefix": "/evil",
 }  # fmt: skip
 
 
 def test_what_proxies_say_is_the_gateways_own(upstream, front):
     service = upstream()
     it = front("--upstream", service.url)
-    headers = {**CONTINUE, **PROXIES, "X-Forwarded-For": "5.6.7.8", "X-Forwarded-Host": "public", "X-Forwarded-Proto": "https"}
+    headers = {**CONTINUE, **PROXIES, "X-Forwarded-For": "5.6.7.8", "X-Forwarded-Host": "public"}
+    headers["X-Forwarded-Proto"] = "https"
     assert it.statuses({"url": "x"}, {"url": "http://evil/odata/x"}, headers=headers) == [200, 404]
     (seen,) = service.seen
     assert names(seen.headers, PROXIES) == set()
@@ -101,7 +103,7 @@ def test_what_proxies_say_is_the_gateways_own(upstream, front):
 
 def test_what_a_client_cannot_have_removed(upstream, front):
     service = upstream()
-    headers = {**CONTINUE, **SECRETS, "X-Forwarded-For": "5.6.7.8", "Host": "public", "X-Hop": "1", "X-Forwarded-Host": "a"}
+    headers = {**CONTINUE, **SECRETS, "X-Forwarded-For": "5.6.7.8", "X-Forwarded-Host": "a", "X-Hop": "1"}
     names_of = "X-Forwarded-For, x-forwarded-host, Host, Authorization, Cookie, x-api-key, Content-Type, X-Hop"
     it = front("--upstream", service.url)
     assert it.statuses({"url": "x"}, headers={**headers, "Connection": names_of}) == [200]

@@ -1,6 +1,7 @@
 """Batches with a Repeatability-Request-ID: files of events, cut at any byte, damaged, locked, old and full."""
 
 import asyncio
+import email.utils
 import fcntl
 import json
 import os
@@ -14,8 +15,8 @@ import pytest
 
 from odb_batch import Report, ReportUnit, Start, StartUnit, Stop
 from odb_batch.gateway import _journal
-from odb_batch.gateway._journal import FileJournal, Journals, identity
-from support.servers import CONTINUE, JSON, SECONDS, until
+from odb_batch.gateway._journal import Clock, FileJournal, Journals, identity
+from support.servers import CONTINUE, JSON, SECONDS, repeatable, until
 
 EVENTS = [
     Start("a"), Report("a", 201, {"location": "/x(1)"}, b'{"n":\n 9.990, "t": "\xc3\xbc"}'), StartUnit(("b", "c")),
@@ -95,8 +96,8 @@ def test_a_torn_line_is_dropped(tmp_path):
 ], ids=range(11))  # fmt: skip
 def test_a_damaged_file_is_not_gone_on_with(tmp_path, line, upstream, front):
     service = upstream()
-    it = front("--upstream", service.url, "--journal", str(tmp_path), "--groups", "forward")
-    headers = {**CONTINUE, "Repeatability-Request-ID": "x"}
+    it = front("--upstream", service.url, "--journal", str(tmp_path), "--one-client", "--groups", "forward")
+    headers = {**CONTINUE, **repeatable("x")}
     assert it.ask("POST", "/odata/$batch", BATCH, headers)[0] == 200
     with open(file_of(tmp_path), "rb+") as file:
         lines = file.read().splitlines(keepends=True)
@@ -107,18 +108,72 @@ def test_a_damaged_file_is_not_gone_on_with(tmp_path, line, upstream, front):
     assert (status, json.loads(text)["error"]["code"], len(service.seen)) == (500, "BadJournal", count)
 
 
+class Clocks:
+    """The clocks of a process, which tests set."""
+
+    def __init__(self):
+        self.ahead, self.steady = 0.0, 0.0
+
+    def journals(self, folder, keep=60):
+        return Journals(str(folder), keep, Clock(lambda: time.time() + self.ahead, lambda: self.steady))
+
+
+def pruned(journals, clocks, seconds=60):
+    """Removes what is old, and stays so for some seconds."""
+    journals.prune()
+    clocks.steady += seconds
+    journals.prune()
+
+
 def test_old_files_are_removed_unless_they_are_in_use(tmp_path):
-    journals = Journals(str(tmp_path), 60)
+    clocks = Clocks()
+    journals = clocks.journals(tmp_path)
     for name in ("old", "used", "new"):
         asyncio.run(_kept(journals, name))
     paths = {name: tmp_path / _journal.digest(name.encode()) for name in ("old", "used", "new")}
     (tmp_path / "other").write_text("")
     for name in (paths["old"], paths["used"], tmp_path / "other"):
-        os.utime(name, (0, time.time() - 61))
+        os.utime(name, (0, time.time() - 361))
+    os.utime(paths["new"], (0, time.time() - 300))
     with open(paths["used"]) as file:
         fcntl.flock(file, fcntl.LOCK_EX)
-        journals.prune()
+        pruned(journals, clocks, 59)
+        assert paths["old"].exists()
+        pruned(journals, clocks, 1)
     assert set(os.listdir(tmp_path)) == {paths["used"].name, paths["new"].name, "other"}
+
+
+def test_a_clock_that_is_ahead_removes_nothing(tmp_path):
+    clocks = Clocks()
+    journals = clocks.journals(tmp_path)
+    written(journals)
+    clocks.ahead = 172_800
+    pruned(journals, clocks)
+    assert events_of(journals) == EVENTS
+
+
+def test_a_machine_whose_clock_is_ahead_for_a_while_removes_nothing(tmp_path, monkeypatch):
+    """Its file system has the same clock, so each file is too old until the clock is set."""
+    clocks = Clocks()
+    journals = clocks.journals(tmp_path)
+    written(journals)
+    path, times = file_of(tmp_path), os.stat(file_of(tmp_path))
+    os.utime(path, (0, times.st_mtime - 172_800))
+    journals.prune()
+    os.utime(path, (0, times.st_mtime))
+    clocks.steady += 60
+    journals.prune()
+    os.utime(path, (0, times.st_mtime - 172_800))
+    journals.prune()
+    assert os.path.exists(path)
+
+
+def test_a_repeat_does_not_keep_a_file_for_longer(tmp_path):
+    journals = Journals(str(tmp_path), 60)
+    written(journals)
+    os.utime(file_of(tmp_path), (0, 7))
+    assert events_of(journals) == EVENTS
+    assert os.stat(file_of(tmp_path)).st_mtime == 7
 
 
 async def _kept(journals, name):
@@ -180,15 +235,17 @@ def test_a_link_is_not_followed(tmp_path):
     other.write_text("")
     os.utime(other, (0, 0))
     (folder / _journal.digest(b"x")).symlink_to(other)
-    journals = Journals(str(folder), 60)
+    clocks = Clocks()
+    journals = clocks.journals(folder)
     with pytest.raises(OSError):
         journals.open(b"x", FIRST)
-    journals.prune()
+    pruned(journals, clocks)
     assert other.read_text() == "" and len(os.listdir(folder)) == 1
 
 
 def test_a_file_that_is_removed_by_hand_leaves_nothing_open(tmp_path, monkeypatch):
-    journals, count = Journals(str(tmp_path), 60), lambda: len(os.listdir("/dev/fd"))
+    clocks, count = Clocks(), lambda: len(os.listdir("/dev/fd"))
+    journals = clocks.journals(tmp_path)
     before = count()
 
     async def close():
@@ -205,17 +262,18 @@ def test_a_file_that_is_removed_by_hand_leaves_nothing_open(tmp_path, monkeypatc
 
     with monkeypatch.context() as patched:
         patched.setattr(_journal.os, "unlink", gone)
-        journals.prune()
+        pruned(journals, clocks)
     assert count() == before
 
 
 def test_a_batch_that_goes_on_just_before_it_is_removed_is_kept(tmp_path, monkeypatch):
-    journals, locked = Journals(str(tmp_path), 60), _journal._locked
+    clocks, locked = Clocks(), _journal._locked
+    journals = clocks.journals(tmp_path)
     asyncio.run(_kept(journals, "x"))
     path = file_of(tmp_path)
     os.utime(path, (0, 0))
     monkeypatch.setattr(_journal, "_locked", lambda *given: (os.utime(path), locked(*given))[1])
-    journals.prune()
+    pruned(journals, clocks)
     assert os.path.exists(path)
 
 
@@ -227,7 +285,7 @@ def test_old_files_are_looked_for_again_after_an_error(tmp_path, monkeypatch, fr
         raise OSError(24, "Too many open files")
 
     monkeypatch.setattr(Journals, "prune", prune)
-    front("--upstream", "http://127.0.0.1:1/", "--journal", str(tmp_path), "--keep", "0.01")
+    front("--upstream", "http://127.0.0.1:1/", "--journal", str(tmp_path), "--one-client", "--keep", "0.01")
     until(lambda: len(calls) >= 3)
 
 
@@ -256,12 +314,12 @@ def pair(upstream, front, tmp_path):
 
     service = upstream(answer)
     it = front(
-        "--upstream", service.url, "--journal", str(tmp_path), "--groups", "forward", "--credential", "X-Api-Key"
+        "--upstream", service.url, "--journal", str(tmp_path), "--groups", "forward", "--client-header", "X-Client"
     )  # fmt: skip
 
     def ask(id, batch=BATCH, path="/odata/$batch", **headers):
         named = {name.replace("_", "-"): value for name, value in headers.items()}
-        return it.ask("POST", path, batch, {**CONTINUE, "Repeatability-Request-ID": id, **named})
+        return it.ask("POST", path, batch, {**CONTINUE, **repeatable(id), "X-Client": "ada", **named})
 
     return service, ask
 
@@ -310,15 +368,32 @@ def test_a_batch_goes_on_wherever_its_journal_ends(pair, tmp_path):
 
 
 @pytest.mark.parametrize("change", [
-    {"batch": BATCH + " "}, {"Prefer": ""}, {"Prefer": "continue-on-error, return=minimal"}, {"Authorization": "Bearer 2"}, {"Cookie": "a=b"},
-    {"path": "/other/$batch"}, {"X_Api_Key": "2"},
-], ids=str)  # fmt: skip
+    {"batch": BATCH + " "}, {"Prefer": ""}, {"Prefer": "continue-on-error, return=minimal"}, {"path": "/other/$batch"},
+    {"Repeatability_First_Sent": email.utils.formatdate(time.time() - 7, usegmt=True)},
+], ids=["batch", "prefer", "minimal", "path", "date"])  # fmt: skip
 def test_another_batch_under_the_same_id(pair, change):
     service, ask = pair
     assert ask("x")[0] == 200
     count = len(service.seen)
-    status, _, text = ask("x", **change)
+    status, headers, text = ask("x", **change)
     assert (status, json.loads(text)["error"]["code"], len(service.seen)) == (422, "AnotherBatch", count)
+    assert headers["repeatability-result"] == "rejected"
+
+
+def test_a_token_that_was_renewed_is_not_another_batch(pair):
+    service, ask = pair
+    first = ask("x", Authorization="Bearer 1", Cookie="a=1")
+    count = len(service.seen)
+    again = ask("x", Authorization="Bearer 2", Cookie="a=2")
+    assert (again[0], again[2], len(service.seen)) == (200, first[2], count)
+
+
+def test_another_client_has_the_id_for_itself(pair):
+    service, ask = pair
+    assert ask("x")[0] == 200
+    count = len(service.seen)
+    assert ask("x", X_Client="bob", batch=BATCH + " ")[0] == 200
+    assert len(service.seen) == 2 * count
 
 
 def test_a_second_client_at_once(upstream, front, tmp_path):
@@ -326,10 +401,10 @@ def test_a_second_client_at_once(upstream, front, tmp_path):
 
     event = threading.Event()
     service = upstream(waiting(event))
-    words = ["--upstream", service.url, "--journal", str(tmp_path)]
+    words = ["--upstream", service.url, "--journal", str(tmp_path), "--one-client"]
     fronts = [front(*words), front(*words)]
     batch = json.dumps({"requests": [{"id": "a", "method": "post", "url": "slow"}]})
-    headers = {**CONTINUE, "Repeatability-Request-ID": "x"}
+    headers = {**CONTINUE, **repeatable("x")}
     with ThreadPoolExecutor(4) as clients:
         asked = [clients.submit(fronts[k % 2].ask, "POST", "/odata/$batch", batch, headers) for k in range(4)]
         until(lambda: sum(it.done() for it in asked) == 3)
@@ -342,18 +417,9 @@ def test_a_second_client_at_once(upstream, front, tmp_path):
     ('{"requests": 7}', CONTINUE, 400), ("{}", {**CONTINUE, "Content-Type": "text/plain"}, 415), (BATCH, JSON, 501),
 ])  # fmt: skip
 def test_what_is_refused_leaves_no_file(upstream, front, tmp_path, batch, headers, status):
-    it = front("--upstream", upstream().url, "--journal", str(tmp_path))
-    assert it.ask("POST", "/odata/$batch", batch, {**headers, "Repeatability-Request-ID": "x"})[0] == status
+    it = front("--upstream", upstream().url, "--journal", str(tmp_path), "--one-client")
+    assert it.ask("POST", "/odata/$batch", batch, {**headers, **repeatable("x")})[0] == status
     assert os.listdir(tmp_path) == []
-
-
-def test_an_id_without_a_journal_promises_nothing(upstream, front):
-    service = upstream()
-    it = front("--upstream", service.url)
-    batch = json.dumps({"requests": [{"id": "a", "method": "get", "url": "x"}]})
-    status, headers, _ = it.ask("POST", "/odata/$batch", batch, {**CONTINUE, "Repeatability-Request-ID": "x"})
-    assert status == 200 and "repeatability-result" not in headers
-    assert "repeatability-request-id" not in service.seen[0].headers
 
 
 def test_a_start_is_synced_before_it_is_sent(pair, monkeypatch):

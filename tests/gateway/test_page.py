@@ -75,7 +75,7 @@ def printed(block, ports):
 
 def page_as_printed():
     with tempfile.TemporaryDirectory() as folder:
-        options = iter([(), ("--journal", folder)])
+        options = iter([(), ("--journal", folder, "--one-client")])
 
         def block(found):
             with started(*next(options)) as ports:
@@ -149,7 +149,7 @@ def test_the_codes_of_the_page_are_those_of_the_gateway():
         for name in files:
             if name.endswith(".py") and "conformance" not in folder:
                 with open(os.path.join(folder, name), encoding="utf-8") as file:
-                    made.update(re.findall(r'Refusal\(\d{3}, "(\w+)"', file.read()))
+                    made.update(re.findall(r'(?:Refusal|rejected)\(\d{3}, "(\w+)"', file.read()))
     assert names - {"F41"} <= made
 
 

@@ -16,7 +16,7 @@ from http.client import HTTPException
 import pytest
 
 from support.commands import with_package
-from support.servers import CONTINUE, JSON, SECONDS, Asked, until
+from support.servers import CONTINUE, FIRST_SENT, JSON, SECONDS, Asked, repeatable, until
 
 
 def refused(words, before="pass"):
@@ -36,14 +36,14 @@ def test_where_it_cannot_start(running):
     port = running("--upstream", "http://127.0.0.1:1/").port
     status, message = refused(["--listen", f"127.0.0.1:{port}"])
     assert status == 3 and re.fullmatch("error: .*address already in use\n", message)
-    assert refused(["--journal", "/no"]) == (3, "error: /no: No such file or directory\n")
+    assert refused(["--journal", "/no", "--one-client"]) == (3, "error: /no: No such file or directory\n")
 
 
 def test_help_names_each_option_once():
     words = [sys.executable, "-m", "odb_batch", "gateway", "--help"]
     text = subprocess.run(words, env=with_package(), stdout=subprocess.PIPE, text=True, timeout=SECONDS).stdout
     options = re.findall(r"(?m)^  (--\w[\w-]*)", text)
-    assert len(options) == len(set(options)) == 18
+    assert len(options) == len(set(options)) == 20
 
 
 def test_sigterm(upstream, running):
@@ -70,10 +70,12 @@ def test_sigterm(upstream, running):
 
 def test_a_batch_that_is_read_at_sigterm_may_be_sent_again(upstream, running, tmp_path):
     service = upstream()
-    it = running("--upstream", service.url, "--log", "none", "--journal", str(tmp_path), "--metrics", "/metrics")
+    words = ["--journal", str(tmp_path), "--one-client", "--metrics", "/metrics", "--log", "none"]
+    it = running("--upstream", service.url, *words)
     head = f"POST /odata/$batch HTTP/1.1\r\nHost: a\r\nContent-Type: {JSON['Content-Type']}\r\n"
     with socket.create_connection(("127.0.0.1", it.port), SECONDS) as client:
-        client.sendall(f"{head}Repeatability-Request-ID: x\r\nContent-Length: 50\r\n\r\n".encode())
+        head += f"Repeatability-Request-ID: x\r\nRepeatability-First-Sent: {FIRST_SENT}\r\n"
+        client.sendall(f"{head}Content-Length: 50\r\n\r\n".encode())
         until(lambda: b"batches_running 1" in it.ask("GET", "/metrics")[2])
         it.process.send_signal(signal.SIGTERM)
         until(lambda: it.ask("GET", "/health/ready")[0] == 503)
@@ -195,11 +197,12 @@ class Counting:
 def test_sigkill_at_twenty_moments(upstream, running, tmp_path):
     """No POST is performed twice, and what was answered stays so. At least one moment is within a group."""
     service = Counting()
-    words = ["--upstream", upstream(service).url, "--groups", "forward", "--journal", str(tmp_path), "--log", "none"]
+    words = ["--groups", "forward", "--journal", str(tmp_path), "--one-client", "--log", "none"]
+    words += ["--upstream", upstream(service).url]
     it, answered, lost = running(*words), {}, Counter()
 
     def ask(key):
-        headers = {**CONTINUE, "Repeatability-Request-ID": key}
+        headers = {**CONTINUE, **repeatable(key)}
         try:
             return key, it.ask("POST", "/odata/$batch", json.dumps({"requests": requests_of(key)}), headers)
         except (OSError, HTTPException):

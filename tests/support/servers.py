@@ -2,6 +2,7 @@
 HTTP.
 """
 
+import email.utils
 import http.client
 import importlib.util
 import json
@@ -20,6 +21,13 @@ from .commands import with_package
 SECONDS = 120  # until something that is waited for has come, also beside much other work
 JSON = {"Content-Type": "application/json"}
 CONTINUE = {**JSON, "Prefer": "continue-on-error"}
+# When the batches of these tests were sent for the first time.
+FIRST_SENT = email.utils.formatdate(usegmt=True)
+
+
+def repeatable(id, sent=FIRST_SENT):
+    """The headers of a batch that may be sent again."""
+    return {"Repeatability-Request-ID": id, "Repeatability-First-Sent": sent}
 
 
 def folder_for_databases():

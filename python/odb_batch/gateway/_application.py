@@ -12,17 +12,20 @@ from .._endpoint import Outer, folder_of, forwarded_hosts, message_of, performed
 from .._faults import Fault
 from .._messages import Answer, Refusal
 from ._credentials import Credentials, Incoming
-from ._journal import FileJournal, Journals, digest, identity
+from ._journal import FileJournal, Journals
+from ._lines import digest, identity
 from ._metrics import CONTENT_TYPE, Metrics, log_line
 from ._options import Options
 from ._performance import Performance
+from ._repeatability import Repeatability
 from ._routes import Routes
 from ._upstreams import Upstreams
 
 # For how many seconds the body of a batch is waited for.
 _READ_SECONDS = 30.0
-# How often old journals are looked for, in seconds.
+# How often old journals are looked for, in seconds; those that are kept for days less often.
 _PRUNE_SECONDS = 60.0
+_PRUNED_WHILE_KEPT = 24
 
 
 class Gateway:
@@ -42,7 +45,8 @@ class Gateway:
         )
         self._routes, self._upstreams = Routes(options.routes), Upstreams(options, self._metrics)
         self._credentials = Credentials(options.routes, options.credentials, options.sent)
-        self._incoming = Incoming(options.credentials)
+        self._incoming = Incoming((*options.credentials, *filter(None, [options.client_header]), *dict(options.sent)))
+        self._repeatability = Repeatability(options)
         self._journals = Journals(options.journal, options.keep) if options.journal else None
 
     @property
@@ -90,16 +94,17 @@ class Gateway:
         yield
         if pruning is not None:
             pruning.cancel()
+        if self._journals is not None:
+            self._journals.close()
         await self._upstreams.close()
 
     async def _prune(self) -> None:
-        loop = asyncio.get_running_loop()
         while self._journals is not None:
             try:
-                await loop.run_in_executor(None, self._journals.prune)
+                await self._journals.prune_soon()
             except OSError as error:
                 LOG.error("old journals cannot be removed: %s", error)
-            await asyncio.sleep(min(_PRUNE_SECONDS, self._options.keep))
+            await asyncio.sleep(min(max(_PRUNE_SECONDS, self._options.keep / _PRUNED_WHILE_KEPT), self._options.keep))
 
     # Probes and metrics
 
@@ -121,8 +126,9 @@ class Gateway:
             return _response(Refusal(404, "NotFound", "Only $batch is answered here").answer)
         began, code, performance = time.perf_counter(), "", None
         try:
-            performance = self._performance(request)
-            answer = await self._performed(request, performance)
+            headers = self._headers(request)
+            performance = self._performance(request, headers)
+            answer = await self._performed(request, headers, performance)
         except (Fault, Refusal) as error:
             answer = refused(error)
         except Exception as error:
@@ -146,9 +152,8 @@ class Gateway:
         more = {"status": answer.status, "code": code, **counts, "bytes": size, "ms": f"{1000 * seconds:.1f}"}
         log_line({**words, **more})
 
-    def _performance(self, request: web.Request) -> Performance:
+    def _performance(self, request: web.Request, headers: Dict[str, str]) -> Performance:
         """How the batch of a request is performed; raises Refusal if it is not one."""
-        headers = self._headers(request)
         if headers.get("content-encoding", "identity").lower() != "identity":
             raise Refusal(415, "BadCoding", "A batch is sent without Content-Encoding", accept_encoding="identity")
         scheme = headers.get("x-forwarded-proto", "").partition(",")[0].strip().lower()
@@ -174,21 +179,22 @@ class Gateway:
             raise Refusal(400, "BadHeader", "The URL or a header has bytes that are not UTF-8") from None
         return headers
 
-    async def _performed(self, request: web.Request, performance: Performance) -> Answer:
+    async def _performed(self, request: web.Request, headers: Dict[str, str], performance: Performance) -> Answer:
         """Performs a batch; raises what it is refused by."""
         self._require_running()
         if self._metrics.batches_running >= self._options.batches:
             raise Refusal(503, "Busy", "There are as many batches as may be at once", retry_after="1")
+        repeatable = self._repeatability.of(headers)
         self._metrics.batches_running += 1
         try:
             batch = await self._read(request)
             self._require_running()
-            headers = self._headers(request)
-            id = headers.get("repeatability-request-id", "").encode()
-            if self._journals is None or not id:
+            if self._journals is None or repeatable is None:
                 return performed(await performance.response(batch, None), performance.mode)
-            first = identity(batch=digest(batch), mode=performance.mode, sender=self._sender(request, headers))
-            return await self._repeatable(self._journals, id, first, batch, performance)
+            same = (request.path, str(self._options.forwards), headers.get("prefer", ""))
+            parts = {"sender": digest(*map(str.encode, same)), "sent": repeatable.first_sent}
+            first = identity(batch=digest(batch), mode=performance.mode, **parts)
+            return await self._repeatable(self._journals, repeatable.key, first, batch, performance)
         finally:
             self._metrics.batches_running -= 1
 
@@ -196,24 +202,19 @@ class Gateway:
         if self._upstreams.is_stopping:
             raise Refusal(503, "Stopping", "The gateway stops", retry_after="1")
 
-    def _sender(self, request: web.Request, headers: Dict[str, str]) -> str:
-        """What has to be the same beside the batch if it is sent again; else a client could read answers of another."""
-        same = (headers.get(name, "") for name in ("prefer", *self._options.credentials))
-        return digest(*map(str.encode, (request.path, str(self._options.forwards), *same)))
-
     async def _repeatable(
-        self, journals: Journals, id: bytes, first: bytes, batch: bytes, performance: Performance
+        self, journals: Journals, key: bytes, first: bytes, batch: bytes, performance: Performance
     ) -> Answer:
         """Performs a batch that may be sent again, or goes on with it."""
         journal: Optional[FileJournal] = None
         try:
-            journal = FileJournal(*await asyncio.get_running_loop().run_in_executor(None, journals.open, id, first))
+            journal = await journals.journal(key, first)
             answer = performed(await performance.response(batch, journal), performance.mode)
             return answer._replace(headers={**answer.headers, "repeatability-result": "accepted"})
         except Fault:
             raise
         except (OSError, ValueError) as error:
-            LOG.error("the journal %s: %s", digest(id), error)
+            LOG.error("the journal %s: %s", digest(key), error)
             raise Refusal(500, "BadJournal", "The journal of the batch cannot be read or written") from None
         finally:
             if journal is not None:

@@ -33,15 +33,17 @@ class Incoming:
 
     def headers(self, given: Iterable[Tuple[str, str]]) -> Dict[str, str]:
         """Returns headers by their names in lower case, but for those of the connection (RFC 9110, section 7.6.1), and
-        for what proxies say in another way than by X-Forwarded-For, -Host and -Proto."""
+        for what proxies say in another way than by X-Forwarded-For, -Host and -Proto, unless that is known."""
         found = header_dict(given)
         dropped = {name.strip().lower() for name in found.get("connection", "").split(",")}
         return {name: value for name, value in found.items() if not self._is_dropped(name, dropped)}
 
     def _is_dropped(self, name: str, dropped: "set[str]") -> bool:
+        if name in self._lasting:
+            return False
         if name in _OWN or (name.startswith("x-forwarded-") and name not in _WRITTEN):
             return True
-        return name in dropped and name not in self._lasting and not name.startswith(_LASTING_PREFIXES)
+        return name in dropped and not name.startswith(_LASTING_PREFIXES)
 
 
 class Credentials:
@@ -59,8 +61,8 @@ class Credentials:
         self.are_held_back = not sent and len({urlsplit(route.upstream)[:2] for route in routes}) > 1
         self._withheld: Dict[str, FrozenSet[str]] = {}
         for route in routes:
-            own = names if not (sent or self.are_held_back) else {name for name, prefix in sent if prefix == route.prefix}
-            self._withheld[route.prefix] = names.difference(own)
+            own = {name for name, prefix in sent if prefix == route.prefix}
+            self._withheld[route.prefix] = names - own if sent or self.are_held_back else frozenset()
 
     def headers_for(self, routes: Iterable[Route], headers: Mapping[str, str]) -> Dict[str, str]:
         """Returns headers without those that the service of some routes does not get."""

@@ -13,8 +13,8 @@ _RAW = -15
 
 
 def _text(value: str) -> str:
-    """Returns the value of a header. aiohttp reads it as UTF-8, and writes surrogates for other bytes: then each byte is
-    a character of Latin-1 (RFC 9110, section 5.5)."""
+    """Returns the value of a header. aiohttp reads it as UTF-8, and writes surrogates for other bytes: then each byte
+    is a character of Latin-1 (RFC 9110, section 5.5)."""
     try:
         value.encode()
         return value

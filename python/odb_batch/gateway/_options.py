@@ -12,6 +12,14 @@ from ._routes import Route, normalized
 PROGRAM = "python3 -m odb_batch gateway"
 _DESCRIPTION = "Answers $batch for services that have none. It needs aiohttp. See docs/gateway.md."
 _MOST = 1_000_000_000
+AUTHORIZATION = "authorization"
+# What cannot say who a client is: it changes, or is about one batch or one connection.
+_SAYS_NOT_WHO = frozenset(
+    {
+        "connection", "content-length", "content-type", "cookie", "date", "host", "prefer", "proxy-authorization",
+        "repeatability-first-sent", "repeatability-request-id", "user-agent",
+    }
+)  # fmt: skip
 
 
 class Address(NamedTuple):
@@ -34,6 +42,7 @@ class Options(NamedTuple):
     limit: int = 1_000
     max_size: int = 16_777_216
     journal: str = ""
+    client_header: str = ""
     keep: float = 86_400.0
     grace: float = 25.0
     credentials: Tuple[str, ...] = USUAL
@@ -102,6 +111,13 @@ def _header(text: str) -> str:
     return text.lower()
 
 
+def _client(text: str) -> str:
+    name = _header(text)
+    if name in _SAYS_NOT_WHO:
+        raise argparse.ArgumentTypeError(f"{text!r} does not say who a client is")
+    return name
+
+
 def _sent(text: str) -> Tuple[str, str]:
     name, _, prefix = text.partition("=")
     if not re.fullmatch(r"/[!-~]*", prefix):
@@ -152,6 +168,9 @@ def parser() -> argparse.ArgumentParser:
     add("--max-size", metavar="BYTES", type=_number, default=usual.max_size,
         help="of a batch, else 413, and of its answers together; 16777216")  # fmt: skip
     add("--journal", metavar="FOLDER", default="", help="keeps batches with a Repeatability-Request-ID there")
+    add("--client-header", metavar="NAME", type=_client,
+        help="the header that says who a client is; --journal needs it, or --one-client")  # fmt: skip
+    add("--one-client", action="store_true", help="all batches are those of one client")
     add("--keep", metavar="S", type=_seconds, default=usual.keep, help="seconds for which a batch is kept; 86400")
     add("--credential", metavar="NAME", type=_header, action="append", default=[],
         help="a header by which services know a client, beside Authorization, Cookie and X-Api-Key")  # fmt: skip
@@ -174,6 +193,10 @@ def options_of(words: Sequence[str]) -> Options:
         arguments.error("needed is --upstream or --route")
     if len({it.prefix for it in routes}) < len(routes):
         arguments.error("two routes have the same prefix")
+    if given.client_header and given.one_client:
+        arguments.error("--client-header and --one-client cannot be combined")
+    if given.journal and not (given.client_header or given.one_client):
+        arguments.error("--journal needs --client-header NAME, which says who a client is, or --one-client")
     for name, prefix in given.sent:
         if prefix not in {route.prefix for route in routes}:
             arguments.error(f"--send {name}={prefix}: no route has this prefix")
@@ -184,6 +207,7 @@ def options_of(words: Sequence[str]) -> Options:
         "routes": tuple(routes),
         "credentials": (*USUAL, *given.credential),
         "sent": tuple(given.sent),
+        "client_header": given.client_header or "",
         "forwards": given.groups == "forward",
         "metrics_path": given.metrics if has_path else "",
         "metrics_at": None if has_path else given.metrics,

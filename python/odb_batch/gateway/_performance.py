@@ -155,7 +155,7 @@ class Performance:
         return _SentGroup(services.pop(), group._replace(requests=tuple(kept)), urls, tuple(routes))
 
     def _member(self, request: Request) -> Tuple[Request, Optional[Route], str]:
-        """A request of a group as its service takes it; its route and its URL there, if it refers to none of the group."""
+        """A request of a group as its service takes it, and, if it refers to none of the group, its route and its URL."""
         headers = self._outer.own_headers(request.headers)
         if request.reference is not None:
             return request._replace(headers=headers), None, ""
@@ -168,8 +168,8 @@ class Performance:
 
 
 class _SentGroup(NamedTuple):
-    """A group that is sent as one: the URL of the service's $batch, the group as it takes it, the URLs of its requests by
-    their ids, and the routes that they take."""
+    """A group that is sent as one: the URL of the service's $batch, the group as the service takes it, the URLs of its
+    requests by their ids, and the routes that they take."""
 
     url: str
     group: PreparedGroup

@@ -2,14 +2,19 @@
 
 import asyncio
 import logging
+import os
 import signal
 import sys
+import threading
+import time
 from typing import Sequence, Tuple
 
 from ._options import PROGRAM, Address, Options, options_of
 
 # The exit status where the gateway cannot run; wrong arguments end with 2.
 UNUSABLE = 3
+# For how many seconds threads are waited for at the end.
+_THREAD_SECONDS = 2.0
 
 
 def main(words: Sequence[str]) -> int:
@@ -26,7 +31,21 @@ def main(words: Sequence[str]) -> int:
         place = f"{error.filename}: " if error.filename else ""
         print(f"error: {place}{error.strerror or error}", file=sys.stderr)
         return UNUSABLE
+    _leave_threads(0)
     return 0
+
+
+def _leave_threads(status: int) -> None:
+    """Ends the process if a thread does not end, as one that waits for a device that hangs."""
+    from ._journal import THREADS
+
+    end = time.monotonic() + _THREAD_SECONDS
+    threads = [thread for thread in threading.enumerate() if thread.name.startswith(THREADS)]
+    for thread in threads:
+        thread.join(max(0.0, end - time.monotonic()))
+    if any(thread.is_alive() for thread in threads):
+        print("a journal is still written: the device may hang", file=sys.stderr, flush=True)
+        os._exit(status)
 
 
 async def _serve(options: Options) -> None:

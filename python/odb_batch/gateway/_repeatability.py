@@ -1,0 +1,102 @@
+"""Batches that may be sent again: the headers of OASIS Repeatable Requests Version 1.0."""
+
+import re
+import time
+from datetime import datetime, timezone
+from typing import Callable, Mapping, NamedTuple, Optional
+
+from .._messages import Refusal
+from ._options import AUTHORIZATION, Options
+
+ID, FIRST_SENT = "repeatability-request-id", "repeatability-first-sent"
+#: By how many seconds the clock of a client may be ahead. Journals are kept so much longer.
+AHEAD = 300.0
+_DAYS = ("Mon", "Tue", "Wed", "Thu", "Fri", "Sat", "Sun")
+_MONTHS = ("Jan", "Feb", "Mar", "Apr", "May", "Jun", "Jul", "Aug", "Sep", "Oct", "Nov", "Dec")
+_DATE = re.compile(
+    rf"({'|'.join(_DAYS)}), ([0-9]{{2}}) ({'|'.join(_MONTHS)}) ([0-9]{{4}}) ([0-9]{{2}}):([0-9]{{2}}):([0-9]{{2}}) GMT"
+)
+
+
+def rejected(status: int, code: str, message: str) -> Refusal:
+    """Returns the refusal of a batch because of the headers by which it may be sent again."""
+    return Refusal(status, code, message, repeatability_result="rejected")
+
+
+def seconds_of(date: str) -> Optional[float]:
+    """Returns the seconds since 1970 of an IMF-fixdate (RFC 9110, section 5.6.7); None if it is not one."""
+    found = _DATE.fullmatch(date)
+    if found is None:
+        return None
+    day, month, year, hour, minute, second = found[2], found[3], *found.group(4, 5, 6, 7)
+    try:
+        numbers = (int(year), _MONTHS.index(month) + 1, int(day), int(hour), int(minute), int(second))
+        moment = datetime(*numbers, tzinfo=timezone.utc)
+    except ValueError:
+        return None
+    return moment.timestamp() if _DAYS[moment.weekday()] == found[1] else None
+
+
+class Repeatable(NamedTuple):
+    """What a client says of a batch that may be sent again.
+
+    Attributes:
+        key: Who it is, and the id: the name of the batch.
+        first_sent: When it has sent the batch for the first time, as it has written that.
+    """
+
+    key: bytes
+    first_sent: str
+
+
+class Repeatability:
+    """Reads the headers by which a batch may be sent again.
+
+    Args:
+        options: Whether there is a journal, how long batches are kept, and what says who a client is.
+        now: The seconds since 1970.
+    """
+
+    def __init__(self, options: Options, now: Callable[[], float] = time.time) -> None:
+        self._options, self._now = options, now
+
+    def of(self, headers: Mapping[str, str]) -> Optional[Repeatable]:
+        """Returns what the headers of a batch say; None if they do not ask for it.
+
+        Raises:
+            Refusal: There is no journal (501). The id, the date or the client is missing or none (400). The batch would
+                not be kept any more, so it may have been performed (412).
+        """
+        id, date = headers.get(ID), headers.get(FIRST_SENT)
+        if id is None and date is None:
+            return None
+        if not id:
+            raise rejected(400, "BadRepeatability", "Repeatability-First-Sent needs a Repeatability-Request-ID")
+        if not self._options.journal:
+            raise rejected(501, "NotRepeatable", "There is no journal here, so a batch cannot be repeated")
+        self._require_kept(date or "")
+        client = self._client(headers).encode()
+        return Repeatable(b"%d:%s%s" % (len(client), client, id.encode()), date or "")
+
+    def _require_kept(self, date: str) -> None:
+        moment = seconds_of(date)
+        if moment is None:
+            message = "Repeatability-First-Sent must be a date of HTTP, as Sun, 06 Nov 1994 08:49:37 GMT"
+            raise rejected(400, "BadFirstSent", message)
+        age = self._now() - moment
+        if age < -AHEAD:
+            raise rejected(400, "BadFirstSent", "Repeatability-First-Sent is in the future")
+        if age > self._options.keep:
+            raise rejected(412, "TooLate", "The batch was first sent so long ago that it may have been forgotten")
+
+    def _client(self, headers: Mapping[str, str]) -> str:
+        """Who sends a batch; the same for all if there is one client."""
+        name = self._options.client_header
+        if not name:
+            return ""
+        value = headers.get(name, "")
+        if not value:
+            raise rejected(400, "NoClient", f"The header {name}, which says who the client is, is missing")
+        if name == AUTHORIZATION and value.partition(" ")[0].lower() != "basic":
+            raise rejected(400, "NoClient", "Authorization says who the client is only by Basic: a token is renewed")
+        return value
