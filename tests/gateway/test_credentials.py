@@ -118,7 +118,7 @@ def test_a_batch_that_is_compressed_is_refused(upstream, running, coding):
     it = running("--upstream", service.url)
     batch = gzip.compress(json.dumps({"requests": [{"id": "a", "method": "get", "url": "x"}]}).encode())
     status, headers, text = it.ask("POST", "/odata/$batch", batch, {**CONTINUE, "Content-Encoding": coding})
-    assert (status, json.loads(text)["error"]["code"], service.seen) == (415, "BadCoding", [])
+    assert (status, json.loads(text)["error"]["code"], service.seen) == (415, "BadEncoding", [])
     assert headers["accept-encoding"] == "identity"
 
 

@@ -154,8 +154,6 @@ class Gateway:
 
     def _performance(self, request: web.Request, headers: Dict[str, str]) -> Performance:
         """How the batch of a request is performed; raises Refusal if it is not one."""
-        if headers.get("content-encoding", "identity").lower() != "identity":
-            raise Refusal(415, "BadCoding", "A batch is sent without Content-Encoding", accept_encoding="identity")
         scheme = headers.get("x-forwarded-proto", "").partition(",")[0].strip().lower()
         scheme = scheme if scheme in ("http", "https") else request.scheme
         host = headers.get("host") or "localhost"  # for a request without one aiohttp would ask the DNS
