@@ -218,15 +218,27 @@ def test_a_service_that_hangs_up(client):
     assert len(results.rest()) == 2
 
 
-def cut_short(environ, start_response):
-    """Answers with less than it announces."""
-    start_response("200 OK", [("Content-Type", "application/json"), ("Content-Length", "100")])
-    return [b'{"responses"']
+@contextlib.contextmanager
+def breaking_off():
+    """A server that reads a batch, and breaks off in the body of its answer."""
+    with socket.create_server(("127.0.0.1", 0)) as server:
+
+        def serve():
+            connection, _ = server.accept()
+            read = b""
+            while not read.endswith(b"]}"):
+                read += connection.recv(1000)
+            connection.sendall(b"HTTP/1.1 200 OK\r\nTransfer-Encoding: chunked\r\n\r\n64\r\n{")
+            connection.close()
+
+        threading.Thread(target=serve, daemon=True).start()
+        yield f"http://127.0.0.1:{server.getsockname()[1]}/"
 
 
-def test_a_body_that_is_read_late_and_cut_short():
+def test_a_body_that_is_read_late_and_breaks_off():
+    requests = pytest.importorskip("requests", reason="requests is not installed")
     batch = Batch()
     batch.get("A")
-    with serving(cut_short) as url:
+    with breaking_off() as url:
         results = posts_of_requests(url, stream=True)(batch)
-    assert results["1"].status == 502 and results.error is not None
+    assert results["1"].status == 502 and isinstance(results.error, requests.exceptions.ChunkedEncodingError)
