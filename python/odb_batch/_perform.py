@@ -1,5 +1,6 @@
 """Performs batches by a function that sends one request, in threads."""
 
+import time
 from concurrent.futures import Executor, Future, ThreadPoolExecutor, wait
 from contextvars import copy_context
 from queue import SimpleQueue
@@ -30,6 +31,7 @@ def perform(
     roots: Optional[Sequence[str]] = None,
     limit: int = 10_000,
     stop: Optional[Callable[[], bool]] = None,
+    deadline: Optional[float] = None,
     pool: Optional[Executor] = None,
 ) -> bytes:
     """Performs a batch, and returns the response document, as JSON without a newline.
@@ -71,7 +73,9 @@ def perform(
             are none, they may lead anywhere, so whoever sends a batch reaches whatever this process reaches.
         limit: How many requests the batch may have.
         stop: Is called before a unit begins, as ``event.is_set``. Once it returns true, nothing more starts, and what
-            has not started is answered 424: for deadlines, and for a process that ends.
+            has not started is answered 424: for a client that has gone, and for a process that ends.
+        deadline: For how many seconds the batch may take, or None. Then nothing more starts, as after a stop; what runs
+            is waited for.
         pool: Where units are performed, if the width is above 1; else threads are made for this batch.
 
     Raises:
@@ -87,7 +91,7 @@ def perform(
         limit=limit,
         has_transactions=transaction is not None,
         service=Service(base, roots),
-        stop=stop,
+        stop=stop if deadline is None else _by_deadline(deadline, stop),
     ) as work:
         if width == 1:
             while (unit := work.begin()) is not None:
@@ -98,6 +102,12 @@ def perform(
             with ThreadPoolExecutor(width, "batch") as own:
                 _perform_in(own, work, width, send, transaction)
         return work.response()
+
+
+def _by_deadline(seconds: float, stop: Optional[Callable[[], bool]]) -> Callable[[], bool]:
+    """Returns a function that says whether a deadline has passed, or a batch is to be stopped."""
+    at = time.monotonic() + seconds
+    return lambda: time.monotonic() >= at or (stop is not None and stop())
 
 
 def _perform_in(pool: Executor, work: Work, width: int, send: Send, transaction: Optional[Transaction]) -> None:
@@ -126,6 +136,8 @@ def _perform_in(pool: Executor, work: Work, width: int, send: Send, transaction:
 
 def _perform_unit(work: Work, unit: Unit, send: Send, transaction: Optional[Transaction]) -> None:
     """Performs a unit. The last request of a group is reported after its commit, so what needs the group starts then."""
+    if not work.confirm(unit):
+        return  # it has waited for a thread, and meanwhile nothing more starts
     answer: Optional[Answer] = None
     try:
         if unit.group is None or transaction is None:

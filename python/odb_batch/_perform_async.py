@@ -15,6 +15,7 @@ from typing import (
     Optional,
     Sequence,
     Set,
+    TypeVar,
     Union,
 )
 
@@ -23,7 +24,7 @@ from ._commands import Mode
 from ._documents import Document, bytes_of
 from ._events import Journal
 from ._groups import SKIPPED, MemberRefused, PreparedGroup
-from ._messages import Answer, Answered, PreparedRequest
+from ._messages import Answer, Answered, PreparedRequest, Refusal
 from ._urls import Service
 from ._work import Unit, Work
 
@@ -31,8 +32,13 @@ from ._work import Unit, Work
 SendAsync = Callable[[PreparedRequest], Awaitable[Answered]]
 #: Sends a group as one, and returns what each of its requests is answered, in order.
 SendGroup = Callable[[PreparedGroup], Awaitable[Sequence[Answered]]]
+#: Returns the place that a request or a group, which is sent as one, has to have while it is on its way.
+Gate = Callable[[Union[PreparedRequest, PreparedGroup]], AsyncContextManager[Any]]
 #: Opens the transaction of a group, by its name; see :data:`odb_batch._perform.Transaction`.
 TransactionAsync = Callable[[str], Union[AsyncContextManager[Any], ContextManager[Any]]]
+
+_Sent = TypeVar("_Sent")
+_Result = TypeVar("_Result")
 
 # A document with more bytes is read in a thread, so that the loop goes on meanwhile.
 _LONG = 65_536
@@ -50,7 +56,8 @@ async def perform_async(
     limit: int = 10_000,
     stop: Optional[Callable[[], bool]] = None,
     timeout: Optional[float] = None,
-    gate: Optional[asyncio.Semaphore] = None,
+    deadline: Optional[float] = None,
+    gate: Union[None, AsyncContextManager[Any], Gate] = None,
     groups: Optional[SendGroup] = None,
     journal: Optional[Journal] = None,
 ) -> bytes:
@@ -88,9 +95,14 @@ async def perform_async(
             groups is refused.
         timeout: For how many seconds a request may take, or None. Then it is cancelled, and once that is done, answered
             504.
-        gate: Bounds how many units of all batches are performed at once. Where requests are answered by a pool of
-            threads, it has fewer places than the pool: then a group that holds a lock gets a thread for its next
-            request, however many others wait for that lock.
+        deadline: For how many seconds the batch may take, or None. Then nothing more starts, what has not started is
+            answered 424, and what runs is cancelled and answered 504. The end of a transaction is waited for.
+        gate: Bounds how many units of all batches are performed at once: a semaphore, or a function that returns an
+            asynchronous context manager by the first request of a unit, or by a :class:`PreparedGroup`, and is not
+            asked if that cannot be sent. A unit has its place before its start is noted, and ``stop`` is asked again
+            once it has. An exception on entry is its answer. Where requests are answered by a pool of threads, there
+            are fewer places than threads: then a group that holds a lock gets a thread for its next request, however
+            many others wait for that lock.
         groups: Sends a group as one, and returns what each of its requests is answered, in order. A
             :class:`PreparedGroup` has the batch to send, and reads its response.
         journal: Where the events of the batch are kept. It is synced before each request that is sent. An exception of it
@@ -106,7 +118,7 @@ async def perform_async(
     """
     if transaction is not None and (groups is not None or journal is not None):
         raise ValueError("a transaction cannot be combined with groups that are sent as one, or with a journal")
-    document = bytes_of(batch)
+    document, ends = bytes_of(batch), _Deadline(deadline)
     open_work = functools.partial(
         Work,
         document,
@@ -115,16 +127,34 @@ async def perform_async(
         limit=limit,
         has_transactions=transaction is not None,
         service=Service(base, roots),
-        stop=stop,
+        stop=stop if deadline is None else lambda: ends.is_over or (stop is not None and stop()),
         sends_groups=groups is not None,
         journal=journal,
     )
     is_long = len(document) > _LONG
     with await asyncio.get_running_loop().run_in_executor(None, open_work) if is_long else open_work() as work:
-        await _Tasks(work, width, _How(send, transaction, timeout, gate, groups, journal)).end()
+        await _Tasks(work, width, _How(send, transaction, timeout, ends, gate, groups, journal)).end()
         if journal is not None:
             await journal.sync()
         return work.response()
+
+
+class _Deadline:
+    """When a batch has to be over, by the clock of the running loop."""
+
+    def __init__(self, seconds: Optional[float]) -> None:
+        self._clock = asyncio.get_running_loop().time
+        self.at = None if seconds is None else self._clock() + seconds
+        self.is_over = False
+
+    def seconds(self, timeout: Optional[float]) -> Optional[float]:
+        """Returns for how many seconds a request may take that starts now; raises TimeoutError if there are none."""
+        if self.at is None:
+            return timeout
+        rest = self.at - self._clock()
+        if rest <= 0:
+            raise asyncio.TimeoutError("the deadline of the batch has passed")
+        return rest if timeout is None else min(rest, timeout)
 
 
 class _How(NamedTuple):
@@ -133,7 +163,8 @@ class _How(NamedTuple):
     send: SendAsync
     transaction: Optional[TransactionAsync]
     timeout: Optional[float]
-    gate: Optional[asyncio.Semaphore]
+    ends: _Deadline
+    gate: Union[None, AsyncContextManager[Any], Gate]
     groups: Optional[SendGroup]
     journal: Optional[Journal]
 
@@ -148,17 +179,23 @@ class _Tasks:
     def __init__(self, work: Work, width: int, how: _How) -> None:
         self._work, self._width, self._how = work, width, how
         self._out: "Set[asyncio.Task[None]]" = set()
+        # Those that wait for a place.
+        self._waiting: "Set[asyncio.Task[Any]]" = set()
         self._over: "asyncio.Future[None]" = asyncio.get_running_loop().create_future()
         self.is_cancelled = False
 
     async def end(self) -> None:
         """Performs all units; raises what a unit ends by, if that is not reported."""
+        at = self._how.ends.at
+        timer = None if at is None else asyncio.get_running_loop().call_at(at, self._expire)
         try:
             for unit in self._work.resumed:
                 self._begin_one(unit)
             self._begin()
             await self._over
         finally:
+            if timer is not None:
+                timer.cancel()
             self.is_cancelled = True
             for task in self._out:
                 task.cancel()
@@ -175,6 +212,12 @@ class _Tasks:
                 cancelled = error
         if cancelled is not None:
             raise cancelled
+
+    def _expire(self) -> None:
+        """Has what waits for a place wait no longer: the deadline has passed."""
+        self._how.ends.is_over = True
+        for task in self._waiting:
+            task.cancel()
 
     def _begin(self) -> None:
         """Begins what may begin now."""
@@ -205,9 +248,50 @@ class _Tasks:
 
     async def _perform(self, unit: Unit) -> None:
         if self._how.gate is None:
-            return await self._perform_unit(unit)
-        async with self._how.gate:
+            if self._work.confirm(unit):
+                await self._perform_unit(unit)
+            return
+        async with contextlib.AsyncExitStack() as stack:
+            refused = await self._take_place(stack, unit, self._how.gate)
+            if not self._work.confirm(unit):
+                return
+            if refused is not None:
+                return self._work.refuse(unit, refused)
             await self._perform_unit(unit)
+
+    async def _take_place(
+        self, stack: contextlib.AsyncExitStack, unit: Unit, gate: Union[AsyncContextManager[Any], Gate]
+    ) -> Optional[Answer]:
+        """Waits for the place of a unit, unless it cannot be sent; returns what it is answered if it has none."""
+        task = asyncio.current_task()
+        assert task is not None
+        try:
+            if callable(gate):
+                outgoing = self._outgoing(unit)
+                if outgoing is None:
+                    return None
+                gate = gate(outgoing)
+            self._waiting.add(task)
+            await stack.enter_async_context(gate)
+        except asyncio.CancelledError as error:
+            if self._how.ends.is_over and not self.is_cancelled:
+                getattr(task, "uncancel", int)()
+            if self._is_to_end():
+                raise
+            return answer_to(error, str(unit))
+        except Exception as error:
+            return answer_to(error, str(unit))
+        finally:
+            self._waiting.discard(task)
+        return None
+
+    def _outgoing(self, unit: Unit) -> Union[PreparedRequest, PreparedGroup, None]:
+        """Returns what of a unit is sent first, or None if that cannot be sent."""
+        try:
+            is_one = unit.group is not None and self._how.groups is not None
+            return self._work.prepared_group(unit) if is_one else self._work.prepared(unit)
+        except (MemberRefused, Refusal):
+            return None
 
     async def _perform_unit(self, unit: Unit) -> None:
         """Performs a unit, as that of threads does."""
@@ -244,7 +328,7 @@ class _Tasks:
 
     async def _sent(self, unit: Unit) -> Answer:
         try:
-            return checked(await asyncio.wait_for(self._how.send(self._work.prepared(unit)), self._how.timeout))
+            return checked(await self._within(self._how.send, self._work.prepared(unit)))
         except asyncio.CancelledError as error:
             if self._is_to_end():
                 raise
@@ -253,10 +337,15 @@ class _Tasks:
         except Exception as error:
             return answer_to(error, f"the request {unit.open}")
 
+    async def _within(self, send: Callable[[_Sent], Awaitable[_Result]], sent: _Sent) -> _Result:
+        """Sends something, and returns what it is answered; raises TimeoutError if that takes too long."""
+        seconds = self._how.ends.seconds(self._how.timeout)
+        return await (send(sent) if seconds is None else asyncio.wait_for(send(sent), seconds))
+
     async def _group_answers(self, unit: Unit, send: SendGroup) -> List[Answer]:
         """Sends a group as one; returns what each of its requests is answered."""
         try:
-            answered = await asyncio.wait_for(send(self._work.prepared_group(unit)), self._how.timeout)
+            answered = await self._within(send, self._work.prepared_group(unit))
             if len(answered) != len(unit.ids):
                 raise TypeError(f"{unit} has {len(unit.ids)} requests, and {len(answered)} answers")
             return list(map(checked, answered))

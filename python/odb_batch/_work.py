@@ -9,7 +9,7 @@ from ._commands import MAX_WIDTH, Mode, plan
 from ._documents import Document, Report, Start, bytes_of
 from ._events import Journal, JournalEvent, ReportUnit, StartUnit, Stop
 from ._faults import Fault, Refused
-from ._groups import MemberRefused, PreparedGroup
+from ._groups import SKIPPED, MemberRefused, PreparedGroup
 from ._messages import Answer, GroupFailed, PreparedRequest, Refusal
 from ._preparation import Preparation
 from ._requests import requests
@@ -24,12 +24,13 @@ class Unit:
         ids: Its requests in order: each comes after those of the group that it needs.
         group: The name of the group, or None.
         open: The request that has started and is not reported yet, or None.
+        is_noted: Whether the journal has its start.
     """
 
-    __slots__ = ("ids", "group", "open")
+    __slots__ = ("ids", "group", "open", "is_noted")
 
-    def __init__(self, ids: Tuple[str, ...], group: Optional[str]) -> None:
-        self.ids, self.group = ids, group
+    def __init__(self, ids: Tuple[str, ...], group: Optional[str], is_noted: bool = False) -> None:
+        self.ids, self.group, self.is_noted = ids, group, is_noted
         self.open: Optional[str] = ids[0]
 
     def __str__(self) -> str:
@@ -47,7 +48,7 @@ class Work:
     """A batch on its way from its document to its response.
 
     A unit that :meth:`begin` returns needs nothing more from outside of it. So a transaction that begins now does not
-    wait for what waits for it.
+    wait for what waits for it. It may have to wait for a place, so :meth:`confirm` asks again whether it is sent.
 
     One thread calls ``begin`` and ``response``. The other methods may be called by any, for different units.
 
@@ -57,7 +58,7 @@ class Work:
         limit: How many requests it may have.
         has_transactions: Whether groups can be kept.
         service: Where its requests may lead.
-        stop: Is called before a unit begins. Once it returns true, nothing more starts.
+        stop: Is called before a unit begins, and before it is sent. Once it returns true, nothing more starts.
         sends_groups: Whether a group is sent as one.
         journal: Where its events are kept, and what has happened before.
 
@@ -92,7 +93,9 @@ class Work:
             raise Refusal(501, "NoGroups", "Atomicity groups are not supported here")
         self._requests = {request.id: request for request in given}
         self._preparation, self._stop, self._journal = Preparation(given, service), stop, journal
-        self._plan, self._is_stopped = plan(document) if has_groups and sends_groups else None, False
+        self._plan = plan(document) if has_groups and sends_groups else None
+        # Whether nothing more starts: since that was asked for, and in mode stop after an error.
+        self._is_stopped, self._has_failed, self._mode = False, False, mode
         happened = journal.events if journal is not None else ()
         # What was out before may be more than the width is now.
         self._run = Run(document, mode=mode, width=MAX_WIDTH if happened else width)
@@ -131,7 +134,7 @@ class Work:
         for id in [id for id in out if id not in again]:
             LOG.error("%s was out when a process ended, and is lost", id)
             self._report(id, LOST)
-        return [Unit((id,), None) for id in out if id in again]
+        return [Unit((id,), None, is_noted=True) for id in out if id in again]
 
     def _take_report(self, event: Report) -> None:
         headers = dict(event.headers or {})
@@ -145,26 +148,50 @@ class Work:
     def begin(self) -> Optional[Unit]:
         """Starts the first request of the first unit that may begin, or all of them if it is a group that is sent as
         one; None if no unit may begin now."""
-        if self._stop is not None and not self._is_stopped and self._stop():
-            self._is_stopped = True
-            self.stop()
-            self._note(Stop())
+        self._ask_to_stop()
         while (ids := self._run.next_unit()) is not None:
             unit = Unit(ids, self._requests[ids[0]].group)
-            is_one = unit.group is not None and self._plan is not None
             try:
-                if is_one:
+                if self._is_one(unit):
                     self._run.start_unit(ids[0])
                 else:
                     self._run.start(ids[0])
             except Refused:
                 continue  # meanwhile another thread has reported an error that stops the run
-            self._note(StartUnit(ids) if is_one else Start(ids[0]))
             return unit
         return None
 
+    def confirm(self, unit: Unit) -> bool:
+        """Notes the start of a unit that is sent now, and returns true. If nothing more may start meanwhile, it is
+        answered 424 instead. The journal then has nothing of it, and who goes on from there answers the same."""
+        self._ask_to_stop()
+        # One that was on its way when a process ended has started before what failed since.
+        is_over = self._is_stopped or (self._has_failed and not unit.is_noted)
+        if is_over:
+            self._drop(unit)
+        elif not unit.is_noted:
+            self._note(StartUnit(unit.ids) if self._is_one(unit) else Start(unit.ids[0]))
+        return not is_over
+
+    def _is_one(self, unit: Unit) -> bool:
+        """Whether a unit is a group that is sent as one."""
+        return unit.group is not None and self._plan is not None
+
+    def _drop(self, unit: Unit) -> None:
+        unit.open = None
+        for id in unit.ids if self._is_one(unit) else unit.ids[:1]:
+            event = self._reported(id, SKIPPED)
+            if unit.is_noted:
+                self._note(event)
+
+    def _ask_to_stop(self) -> None:
+        if self._stop is not None and not self._is_stopped and self._stop():
+            self.stop()
+            self._note(Stop())
+
     def stop(self) -> None:
         """Lets nothing more start."""
+        self._is_stopped = True
         self._run.stop()
 
     def prepared(self, unit: Unit) -> PreparedRequest:
@@ -212,6 +239,13 @@ class Work:
 
     # The end of a unit
 
+    def refuse(self, unit: Unit, answer: Answer) -> None:
+        """Answers a unit that is not sent, since it has no place."""
+        if self._is_one(unit):
+            self.finish_group(unit, [answer] * len(unit.ids))
+        else:
+            self.finish(unit, answer)
+
     def failure(self, unit: Unit, error: BaseException) -> Optional[Answer]:
         """Returns what the open request of a unit is answered, since its transaction has ended by an exception; None if
         none is open: the group has failed before."""
@@ -249,6 +283,8 @@ class Work:
         """Reports the answer to a request; returns the event."""
         answer, text = self._written(id, answer)
         self._preparation.keep(id, answer)
+        # Before the report, after which another thread may begin what it allows.
+        self._has_failed = self._has_failed or (self._mode == "stop" and answer.status >= 400)
         headers = shown(answer)
         try:
             self._run.report(id, answer.status, headers or None, text)

@@ -8,6 +8,7 @@ from hypothesis import given
 from hypothesis import strategies as st
 
 from odb_batch import Answer, Report, ReportUnit, Start, StartUnit, Stop, match, perform_async, replay
+from support.performing import Memory
 from support.profiles import share
 from support.replays import MODES, placed, responses_of
 from support.strategies import recorded_batches
@@ -22,20 +23,6 @@ BATCH = {
     ]
 }
 STARTS = [Start("a"), Start("b"), StartUnit(("c", "d")), Start("e")]
-
-
-class Memory:
-    """A journal in memory, which notes how many of its events are synced."""
-
-    def __init__(self, events=()):
-        self.events, self.written, self.synced = tuple(events), list(events), len(events)
-
-    def write(self, event):
-        self.written.append(event)
-
-    async def sync(self):
-        await asyncio.sleep(0)
-        self.synced = len(self.written)
 
 
 class Service:

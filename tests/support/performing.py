@@ -69,3 +69,17 @@ class Ledger:
             raise
         finally:
             self.writer.release()
+
+
+class Memory:
+    """A journal in memory, which notes how many of its events are synced."""
+
+    def __init__(self, events=()):
+        self.events, self.written, self.synced = tuple(events), list(events), len(events)
+
+    def write(self, event):
+        self.written.append(event)
+
+    async def sync(self):
+        await asyncio.sleep(0)
+        self.synced = len(self.written)
