@@ -51,7 +51,7 @@ def test_without_a_journal_nothing_is_promised(ask):
 @pytest.mark.parametrize("sent", [
     None, "", "1998", "Sunday, 06-Nov-94 08:49:37 GMT", "Sun Nov  6 08:49:37 1994", "Mon, 06 Nov 1994 08:49:37 GMT",
     "Sun, 06 Nov 1994 08:49:37 +0000", "Sun, 31 Feb 2021 08:49:37 GMT", "Sun, 6 Nov 1994 08:49:37 GMT",
-    f"x {FIRST_SENT}",
+    "x Sun, 06 Nov 1994 08:49:37 GMT",
 ])  # fmt: skip
 def test_the_date_is_asked_for(ask, sent):
     headers = {"Repeatability-Request-ID": "x", **({} if sent is None else {"Repeatability-First-Sent": sent})}

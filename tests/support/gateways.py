@@ -222,8 +222,9 @@ class Running(Asked):
 
     def __init__(self, *words):
         command = [sys.executable, "-m", "odb_batch", "gateway", "--listen", "127.0.0.1:0", *words]
-        self.process = subprocess.Popen(command, env=with_package(), stderr=subprocess.PIPE, text=True)
-        line = self.process.stderr.readline()
+        # Without a buffer, in which lines would be that come with the first one.
+        self.process = subprocess.Popen(command, env=with_package(), stderr=subprocess.PIPE, bufsize=0)
+        line = self.process.stderr.readline().decode()
         assert line.startswith("listening on "), line
         self.port = int(line.rpartition(":")[2])
         self.url = f"http://127.0.0.1:{self.port}/odata/"
@@ -236,4 +237,4 @@ class Running(Asked):
             _, text = self.process.communicate(timeout=SECONDS)
         finally:
             self.process.kill()
-        return self.process.returncode, text
+        return self.process.returncode, text.decode()
