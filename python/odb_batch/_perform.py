@@ -1,9 +1,9 @@
 """Performs batches by a function that sends one request, in threads."""
 
-import time
 from concurrent.futures import Executor, Future, ThreadPoolExecutor, wait
 from contextvars import copy_context
 from queue import SimpleQueue
+from time import monotonic
 from typing import Any, Callable, ContextManager, Optional, Sequence, Set
 
 from ._answers import answer_to, checked
@@ -106,8 +106,8 @@ def perform(
 
 def _by_deadline(seconds: float, stop: Optional[Callable[[], bool]]) -> Callable[[], bool]:
     """Returns a function that says whether a deadline has passed, or a batch is to be stopped."""
-    at = time.monotonic() + seconds
-    return lambda: time.monotonic() >= at or (stop is not None and stop())
+    at = monotonic() + seconds
+    return lambda: monotonic() >= at or (stop is not None and stop())
 
 
 def _perform_in(pool: Executor, work: Work, width: int, send: Send, transaction: Optional[Transaction]) -> None:

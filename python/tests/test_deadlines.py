@@ -2,21 +2,37 @@
 
 import asyncio
 import threading
-import time
+from concurrent.futures import ThreadPoolExecutor
 
 import pytest
 
-from odb_batch import Stop, perform, perform_async
+from odb_batch import Stop, _perform, perform, perform_async
 from odb_batch._places import Places
 from support.performing import Ledger, Memory, gets, shown
 
 
-async def hang(request):
-    await asyncio.Event().wait()
+class Clock:
+    """The clock of the running loop, which an hour later shows what is due then."""
+
+    def __init__(self):
+        loop, self.is_later = asyncio.get_running_loop(), False
+        clock = loop.time
+        loop.time = lambda: clock() + 3600 * self.is_later
 
 
-def over(batch, send=hang, **options):
-    return shown(asyncio.run(perform_async(batch, send, **{"deadline": 0.05, "base": "http://host/", **options})))
+def over(batch, **options):
+    """Performs a batch whose requests have no answer, and whose deadline passes once the first is sent."""
+
+    async def main():
+        clock = Clock()
+
+        async def hang(request):
+            clock.is_later = True
+            await asyncio.Event().wait()
+
+        return await perform_async(batch, hang, **{"deadline": 600, "base": "http://host/", **options})
+
+    return shown(asyncio.run(main()))
 
 
 class TestTasks:
@@ -25,9 +41,13 @@ class TestTasks:
 
     def test_what_waits_for_a_place_waits_no_longer(self):
         async def main():
-            taken = Places(1)
+            clock, taken = Clock(), Places(1)
             async with taken:  # it is never free
-                return await perform_async(gets("a", "b"), hang, gate=taken, deadline=0.05)
+                done = asyncio.ensure_future(perform_async(gets("a", "b"), None, gate=taken, deadline=600))
+                while not taken.waiting:
+                    await asyncio.sleep(0)
+                clock.is_later = True
+                return await done
 
         assert shown(asyncio.run(main())) == {"a": 424, "b": 424}
 
@@ -35,7 +55,7 @@ class TestTasks:
         async def main():
             taken = Places(1)
             async with taken:
-                task = asyncio.ensure_future(perform_async(gets("a"), hang, gate=taken, deadline=60))
+                task = asyncio.ensure_future(perform_async(gets("a"), None, gate=taken, deadline=600))
                 while not taken.waiting:
                     await asyncio.sleep(0)
                 task.cancel()
@@ -51,36 +71,41 @@ class TestTasks:
         assert (found, ledger.rolled_back, ledger.committed) == ({"a": 504, "b": 424}, ["g"], [])
 
     def test_a_timeout_holds_beside_it(self):
-        assert over(gets("a", "b"), width=1, timeout=0.01, deadline=60) == {"a": 504, "b": 504}
+        async def hang(request):
+            await asyncio.Event().wait()
+
+        found = asyncio.run(perform_async(gets("a", "b"), hang, width=1, timeout=0.01, deadline=600))
+        assert shown(found) == {"a": 504, "b": 504}
 
     def test_in_time_it_changes_nothing(self):
         async def send(request):
             return (200,)
 
-        assert over(gets("a", "b"), send, deadline=60) == {"a": 200, "b": 200}
+        assert shown(asyncio.run(perform_async(gets("a", "b"), send, deadline=600))) == {"a": 200, "b": 200}
 
     def test_a_journal_has_the_stop(self):
         journal = Memory()
         first = over(gets("a", "b"), width=1, journal=journal)
         assert Stop() in journal.written and first == {"a": 504, "b": 424}
-        assert over(gets("a", "b"), None, journal=Memory(journal.written), deadline=60) == first
+        assert over(gets("a", "b"), journal=Memory(journal.written)) == first
 
 
 class TestThreads:
     @pytest.mark.parametrize("width", [1, 2])
-    def test_nothing_more_starts(self, width):
+    def test_nothing_more_starts(self, width, monkeypatch):
         """A thread cannot be ended, so what runs is waited for."""
-        sent, ends = [], time.monotonic() + 0.05
+        sent, now = [], [0.0]
+        monkeypatch.setattr(_perform, "monotonic", lambda: now[0])
 
         def send(request):
             sent.append(request.id)
-            while time.monotonic() <= ends:
-                time.sleep(0.001)
+            now[0] = 60.0
             return (200,)
 
         ids = [f"r{k}" for k in range(5)]
-        found = shown(perform(gets(*ids), send, width=width, deadline=0.01))
-        assert found == {id: 200 if id in sent else 424 for id in ids} and 0 < len(sent) <= width
+        with ThreadPoolExecutor(1) as pool:
+            found = shown(perform(gets(*ids), send, width=width, pool=pool, deadline=60))
+        assert (found, sent) == ({**dict.fromkeys(ids, 424), "r0": 200}, ["r0"])
 
     def test_a_stop_is_asked_beside_it(self):
         assert shown(perform(gets("a"), None, deadline=60, stop=threading.Event().is_set)) == {"a": 500}
