@@ -11,6 +11,7 @@ from ._answers import LOG
 from ._commands import Mode
 from ._faults import Fault
 from ._messages import Answer, PreparedRequest, Refusal, media_type
+from ._room import Room as Room
 
 # What a batch has for itself: its requests do not inherit it.
 _NOT_INHERITED = frozenset(
@@ -195,34 +196,6 @@ def _is_authority(host: str) -> bool:
 def _is_field_value(value: str) -> bool:
     """Whether a header may have a value: Latin-1 without control characters but a tab (RFC 9110, section 5.5)."""
     return all(character == "\t" or " " <= character <= "~" or "\xa0" <= character <= "\xff" for character in value)
-
-
-class Room:
-    """How many bytes the bodies of the answers to a batch may still have together. Threads may share it."""
-
-    def __init__(self, size: int) -> None:
-        self._left, self._lock = size, threading.Lock()
-
-    @property
-    def left(self) -> int:
-        return self._left
-
-    def fit(self, method: str, answer: Answer) -> Answer:
-        """Returns an answer, whose body is bytes, with as much of that as there is room for: all or nothing.
-
-        A request that is not a GET is performed by now, so it keeps its status, and loses its body.
-
-        Raises:
-            Refusal: The body of the answer to a GET is too long: 507 ``TooLong``.
-        """
-        with self._lock:
-            is_fitting = len(answer.body) <= self._left
-            self._left -= len(answer.body) if is_fitting else 0
-        if is_fitting:
-            return answer
-        if method == "GET":
-            raise Refusal(507, "TooLong", "The answers to the batch are too long together")
-        return answer._replace(body=b"")
 
 
 def too_long(size: int) -> Refusal:
