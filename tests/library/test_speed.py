@@ -1,7 +1,5 @@
-"""What calls in process take, and that they answer right; `pytest -rP` shows the figures.
-
-Times are shown and not judged: a check in C, in Python and by a process, and a live run beside a replay by the program.
-Instructions are judged, which callgrind counts:
+"""What calls in process take, and that they answer right: a check in C, in Python and by a process, and a live run beside a
+replay by the program. bench/calls.py measures their times. Instructions are judged, which callgrind counts:
 
 - of a check of 1 KB beside those of `Value::from_slice`, `Batch::read` and the drop of the value in it. The check of the names and
   all that the call adds is the rest.
@@ -10,22 +8,17 @@ Instructions are judged, which callgrind counts:
   of the time of a replay and a quarter of that of a run: so twice the instructions are some 1.5 times the time.
 """
 
-import json
 import os
 import re
-import resource
-import subprocess
-import time
 
 import pytest
 
 from support import rules
 from support.commands import run
+from support.in_process import MOST_REQUESTS, SIZES, compile_c, document_of, live_documents
 from support.program import ROOT
 
-SECONDS = 0.1
-SIZES = (300, 1_000, 100_000, 10_000_000)
-MOST_REQUESTS, FEW_REQUESTS = 10_000, 1_000
+FEW_REQUESTS = 1_000
 MOST_OF_CHECK, MOST_OF_RUN = 1.3, 2
 DROP = r"odb_(?:command|engine)::serde_json\S*Value\+Destruct::drop"
 # What the library is made of, with the names of its functions.
@@ -36,73 +29,25 @@ READING = ("serde_json::value::Value::from_slice", "odb_doc::batch::Batch::read"
 PLAIN = {"GLIBC_TUNABLES": ":".join(f"glibc.cpu.x86_rep_{it}_threshold={2**40}" for it in ("stosb", "movsb"))}
 
 
-def document_of(size):
-    """A batch of about this many bytes: requests with small bodies, and with larger ones where they are too many."""
-    one = {"method": "post", "url": "Orders", "headers": {"Content-Type": "application/json"}}
-    row = lambda i, filling: {"id": f"r{i}", **one, "body": {"Count": i, "Text": "x" * filling}}
-    count = min(max(size // 120, 1), MOST_REQUESTS)
-    filling = max(size // count - len(json.dumps(row(count, 0))), 0)
-    return json.dumps({"requests": [row(i, filling) for i in range(count)]}).encode()
-
-
-def live_documents(folder, count):
-    """Writes a batch of which each second request needs the one before, and its outcomes; returns the paths."""
-    need = lambda i: {"dependsOn": [f"r{i - 1}"]} if i % 2 else {}
-    requests = [{"id": f"r{i}", "method": "get", "url": "Orders", **need(i)} for i in range(count)]
-    outcomes = [{"id": f"r{i}", "status": 200, "body": {"Count": 1}} for i in range(count)]
-    paths = folder / f"batch{count}", folder / f"outcomes{count}"
-    for path, document in zip(paths, ({"requests": requests}, {"outcomes": outcomes})):
-        path.write_text(json.dumps(document), encoding="utf-8")
-    return paths
-
-
 @pytest.fixture
 def compiled(library, tmp_path):
     """Compiles a program of this folder with the static library, or another object, and returns its path."""
-
-    def compile_c(name, over=f"{library}/libodb_batch.a"):
-        source = os.path.join(ROOT, "tests", "library", f"{name}.c")
-        run("cc", "-O2", f"-I{ROOT}/include", "-o", tmp_path / name, source, over)
-        return tmp_path / name
-
-    return compile_c
-
-
-def repeated(work):
-    """What a call returns, and its processor time, that of child processes included, in microseconds."""
-    spent = lambda: sum(sum(resource.getrusage(it)[:2]) for it in (resource.RUSAGE_SELF, resource.RUSAGE_CHILDREN))
-    begun, before, count = time.monotonic(), spent(), 0
-    while count == 0 or time.monotonic() - begun < SECONDS:
-        found = work()
-        count += 1
-    return found, (spent() - before) / count * 1e6
-
-
-def measured(*words):
-    """What a program of this folder prints, and its time, which it writes to standard error."""
-    done = subprocess.run(words, capture_output=True, check=True)
-    return done.stdout.decode(), float(done.stderr)
+    return lambda name, over=f"{library}/libodb_batch.a": compile_c(tmp_path, name, over)
 
 
 @pytest.mark.parametrize("size", SIZES)
 def test_checks_give_one_answer(size, compiled, package, program, tmp_path):
     document, path = document_of(size), tmp_path / "document"
     path.write_bytes(document)
-    in_c, of_c = measured(compiled("speed"), path, str(SECONDS))
-    counts, of_python = repeated(lambda: package.check(document))
-    by_process, of_process = repeated(lambda: run(program, "check", path))
+    in_c, by_process = run(compiled("speed"), path, "0"), run(program, "check", path)
+    counts = package.check(document)
     in_python = f"ok {counts.requests} requests {counts.groups} groups\n"
     assert [in_c, in_python, by_process] == [rules.checked_line(rules.check(document))] * 3
-    print(f"{len(document):,} bytes: C {of_c}, Python {of_python:.1f}, a process {of_process:.0f} microseconds")
 
 
 def test_a_live_run_gives_the_response_of_its_replay(compiled, program, tmp_path):
-    binary, paths = compiled("live_speed"), live_documents(tmp_path, MOST_REQUESTS)
-    tries = [measured(binary, paths[0]) for _ in range(5)]
-    replayed, of_replay = repeated(lambda: run(program, "replay", *paths))
-    assert [text for text, _ in tries] == [replayed] * 5
-    of_run, of_replay = min(taken for _, taken in tries), of_replay / 1e3
-    print(f"a live run takes {of_run:.1f} ms, and a replay {of_replay:.1f}: {of_run / of_replay:.2f} times as much")
+    paths = live_documents(tmp_path, MOST_REQUESTS)
+    assert run(compiled("live_speed"), paths[0]) == run(program, "replay", *paths)
 
 
 def counts_of(folder, *words):

@@ -1,52 +1,53 @@
-"""A batch of ten megabytes, opened and pasted: the page works on without a long pause, and shows a part of it."""
+"""A batch of ten megabytes, opened and pasted: the page answers while it is checked, and shows a part of it. How long the page
+does nothing else is measured by bench/browsers.py.
+"""
 
 import json
 
 import pytest
 
-from support.page import play
+from support.page import great_batch, has_verdict, paste, play
 
-MOST_MILLISECONDS = 200  # without the page answering, on a machine that takes LOOP_MILLISECONDS for LOOP
-LOOP_MILLISECONDS = 40
-LOOP = """const begun = performance.now()
-let sum = 0
-for (let at = 0; at < 2e7; at += 1) sum += at % 7
-return performance.now() - begun + 0 * sum"""
+# Turns of the page while its worker does a job, and nodes that are added to the page.
+LEAST_TURNS, MOST_NODES = 10, 3000
 
-# Measures the longest time in which the page did nothing else.
-WATCH = """window.longest = 0
-window.tick = performance.now()
-window.watch = setInterval(() => {
-  const now = performance.now()
-  window.longest = Math.max(window.longest, now - window.tick)
-  window.tick = now
-}, 1)"""
-LONGEST = "clearInterval(window.watch); return window.longest"
-TRIES = 3  # of which the best counts, since other work may take the processor away
+# Counts the turns that the page takes while its worker is at each job, and the nodes that are added to the page.
+WATCH = """window.turns = 0
+window.jobs = []
+window.added = 0
+const { port1, port2 } = new MessageChannel()
+port1.onmessage = () => {
+  window.turns += 1
+  if (window.jobs !== undefined) port2.postMessage(0)
+}
+port2.postMessage(0)
+window.post ??= Worker.prototype.postMessage
+Worker.prototype.postMessage = function (message) {
+  const job = { name: message.job, begun: window.turns }
+  window.jobs?.push(job)
+  this.addEventListener('message', ({ data }) => {
+    if (data.number === message.number) job.turns = window.turns - job.begun
+  })
+  return window.post.call(this, message)
+}
+window.watch = new MutationObserver((records) => {
+  const nodes = records.flatMap(({ addedNodes }) => Array.from(addedNodes))
+  for (const it of nodes) window.added += 1 + (it.querySelectorAll?.('*').length ?? 0)
+})
+window.watch.observe(document, { childList: true, subtree: true })"""
+WATCHED = """const { jobs } = window
+window.jobs = undefined
+window.watch.disconnect()
+return [jobs.filter(({ name }) => name === 'check').map(({ turns }) => turns), window.added]"""
 
 
-def longest_pause(page, act):
-    """The longest time in which the page did nothing but one thing, in milliseconds of a machine that is quick enough."""
-    found = []
-    while not found or (min(found) >= MOST_MILLISECONDS and len(found) < TRIES):
-        before = page.value(LOOP)
-        page.value(WATCH)
-        act()
-        longest = page.value(LONGEST)
-        found.append(longest / max(1, before / LOOP_MILLISECONDS, page.value(LOOP) / LOOP_MILLISECONDS))
-    print("longest pause:", ", ".join(f"{it:.0f} ms" for it in found))
-    return min(found)
-
-
-def great_batch(number=9000, fault=None):
-    """A batch of ten megabytes; with a fault in one of its requests."""
-    body = {"Title": "ä" * 200, "Text": "x" * 620, "Price": 9}
-    requests = [{"id": f"r{at}", "method": "post", "url": f"Books({at})", "body": body} for at in range(number)]
-    for at in range(1, number, 3):
-        requests[at]["dependsOn"] = [f"r{at - 1}"]
-    if fault is not None:
-        requests[fault]["dependsOn"] = ["none"]
-    return "{\"requests\": [\n" + ",\n".join(json.dumps(it, ensure_ascii=False) for it in requests) + "\n]}\n"
+def watched(page, act):
+    """The turns that the page took while each batch was checked, and how many nodes were added to it."""
+    page.value(WATCH)
+    act()
+    turns, nodes = page.value(WATCHED)
+    print(f"turns of the page: {turns}, nodes: {nodes}")
+    return turns, nodes
 
 
 @pytest.mark.slow
@@ -57,29 +58,34 @@ def test_ten_megabytes_are_opened_and_run(page, tmp_path):
 
     def opened_and_run():
         page.open_file("file", path)
-        page.until("return document.getElementById('verdict').textContent.includes('ok 9000 requests')")
+        has_verdict(page, "ok 9000 requests")
         assert play(page).endswith("9,000 requests succeeded.")
         assert "too long to be edited here" in page.text("batch-editor")
 
-    assert longest_pause(page, opened_and_run) < MOST_MILLISECONDS
+    (turns,), nodes = watched(page, opened_and_run)
+    assert turns > LEAST_TURNS and nodes < MOST_NODES
 
 
 @pytest.mark.slow
 def test_ten_megabytes_are_pasted(page):
-    text = great_batch(fault=7000)
-    page.value(f"window.pasted = {json.dumps(text)}")
+    page.value(f"window.pasted = {json.dumps(great_batch(fault=7000))}")
 
     def pasted():
-        page.value("""const data = new DataTransfer()
-            data.setData('text/plain', window.pasted)
-            const field = document.getElementById('text')
-            field.select()
-            field.dispatchEvent(new ClipboardEvent('paste', { clipboardData: data, bubbles: true, cancelable: true }))""")
-        page.until("return document.getElementById('verdict').textContent.includes('fault F40 UnknownName /requests/7000')")
+        paste(page)
+        has_verdict(page, "fault F40 UnknownName /requests/7000")
 
-    assert longest_pause(page, pasted) < MOST_MILLISECONDS
+    (turns,), nodes = watched(page, pasted)
+    assert turns > LEAST_TURNS and nodes < MOST_NODES
     assert page.value("return document.querySelector('#batch-editor mark.part').textContent") == '"dependsOn": ["none"]'
     assert page.value("return document.querySelector('#batch-editor .has-fault').textContent") == "7002"
+
+
+SAID = """window.said = []
+const verdict = document.getElementById('verdict')
+new MutationObserver(() => window.said.push(verdict.textContent)).observe(verdict, { childList: true, subtree: true })
+const field = document.getElementById('text')
+field.focus()
+field.setSelectionRange(1, 1)"""
 
 
 def test_a_long_text_is_edited(page, tmp_path):
@@ -87,12 +93,14 @@ def test_a_long_text_is_edited(page, tmp_path):
     path = tmp_path / "long.json"
     path.write_text(great_batch(300), encoding="utf-8")
     page.open_file("file", path)
-    page.until("return document.getElementById('verdict').textContent.includes('ok 300 requests')")
+    has_verdict(page, "ok 300 requests")
 
     def typed():
-        page.value("const field = document.getElementById('text'); field.focus(); field.setSelectionRange(1, 1)")
+        page.value(SAID)
         page.type("xy")
-        assert "Checking" in page.text("verdict")
-        page.until("return document.getElementById('verdict').textContent.includes('F02')")
+        assert page.value("return document.getElementById('text').value.slice(0, 3)") == "{xy"
+        has_verdict(page, "F02")
+        assert "Checking" in page.value("return window.said[0]")
 
-    assert longest_pause(page, typed) < MOST_MILLISECONDS
+    _, nodes = watched(page, typed)
+    assert nodes < MOST_NODES

@@ -5,7 +5,7 @@ import struct
 
 import pytest
 
-from support.page import answer, choose, play
+from support.page import SETTLED, answer, choose, play
 from support.program import ROOT
 
 SIZE = (1000, 720)
@@ -13,7 +13,7 @@ MOST_BYTES = 200_000
 
 
 def show(page, selector):
-    page.value(f"document.querySelector({selector!r}).scrollIntoView(); await new Promise((it) => setTimeout(it, 300))")
+    page.value(f"document.querySelector({selector!r}).scrollIntoView(); {SETTLED}")
 
 
 def fault(page):
@@ -52,7 +52,7 @@ STATES = {"page-fault": fault, "page-running": running, "page-finished": finishe
 def test_a_picture(page, name, tmp_path):
     page.size(*SIZE)
     STATES[name](page)
-    page.value("await new Promise((it) => setTimeout(it, 300))")
+    page.value(SETTLED)
     data = page.picture()
     page.scheme("light")
     folder = os.environ.get("PAGE_PICTURES")

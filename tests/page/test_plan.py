@@ -2,19 +2,21 @@
 
 import json
 
-from support.page import write
+from support.page import show_thousand, write
 
-MOST_MILLISECONDS = 500  # from a key to the picture of 1,000 requests, also beside other work
-TRIES = 3  # of which the best counts
+MOST_CHANGES = 100  # of the page by a key
 
-TIMED_KEYS = """const window = document.querySelector('#picture .scroll')
+# How many changes of the page come of each key, with the nodes that it adds.
+CHANGES = """const nodes = (it) => 1 + (it.querySelectorAll?.('*').length ?? 0)
+    const size = ({ addedNodes }) => Array.from(addedNodes, nodes).reduce((sum, it) => sum + it, 1)
+    const window = document.querySelector('#picture .scroll')
     window.focus()
-    const begun = performance.now()
-    for (const key of ['ArrowRight', 'ArrowDown', 'ArrowRight', 'ArrowRight', '+', '-', '0']) {
+    const watch = new MutationObserver(() => {})
+    watch.observe(document, { attributes: true, characterData: true, childList: true, subtree: true })
+    return ['ArrowRight', 'ArrowDown', 'ArrowRight', 'ArrowRight', '+', '-', '0'].map((key) => {
       window.dispatchEvent(new KeyboardEvent('keydown', { key, bubbles: true }))
-      await new Promise((it) => requestAnimationFrame(() => setTimeout(it)))
-    }
-    return (performance.now() - begun) / 7"""
+      return watch.takeRecords().map(size).reduce((sum, it) => sum + it, 0)
+    })"""
 
 BOXES = """return Array.from(document.querySelectorAll('#picture .box'), (it) => {
     const { x, y, width, height } = it.querySelector('rect').getBBox()
@@ -103,14 +105,12 @@ def test_the_plan_by_keys(page):
 
 
 def test_a_thousand_requests_stay_usable(page):
-    page.value("const list = document.getElementById('examples'); list.value = '5'; list.dispatchEvent(new Event('change'))")
-    page.until("return document.getElementById('verdict').textContent.includes('ok 997 requests')")
+    """A key changes some boxes, and does not draw all anew. bench/browsers.py measures how long that takes."""
+    show_thousand(page)
     assert len(page.value(BOXES)) == 997
-    took = []
-    while not took or (min(took) >= MOST_MILLISECONDS and len(took) < TRIES):
-        took.append(page.value(TIMED_KEYS))
-    print("a key in the plan of 997 requests:", ", ".join(f"{it:.0f} ms" for it in took))
-    assert min(took) < MOST_MILLISECONDS
+    changes = page.value(CHANGES)
+    print("changes of the page by each key:", changes)
+    assert 0 < max(changes) < MOST_CHANGES
 
 
 def test_ten_thousand_requests_are_shown_by_levels(page, tmp_path):

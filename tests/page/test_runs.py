@@ -6,7 +6,7 @@ import pytest
 
 from support.commands import run
 from support.keys import CONTROL
-from support.page import answer, choose, play, read, write
+from support.page import answer, choose, play, read, step, write
 
 SAID = "return document.getElementById('said').textContent"
 
@@ -126,7 +126,7 @@ def test_it_plays_by_itself(page, program, example, tmp_path, order, words):
 
 def test_steps_are_undone(page):
     for _ in range(3):
-        page.value("document.getElementById('step').click(); await new Promise((it) => setTimeout(it, 50))")
+        step(page)
     page.until("return document.getElementById('said').textContent.includes('Started mark')")
     page.value("document.getElementById('undo').click()")
     page.until("return document.getElementById('said').textContent.includes('Took back the start of mark. May start: mark and loan.')")
@@ -145,7 +145,7 @@ def status_of(page, id, name):
 def test_a_finished_run_is_played_again(page):
     buttons = "return ['play', 'step'].map((it) => document.getElementById(it)).map((it) => [it.textContent, it.ariaDisabled])"
     assert page.value(buttons) == [["Play", "false"], ["Step", "false"]]
-    page.value("document.getElementById('step').click(); await new Promise((it) => setTimeout(it, 50))")
+    step(page)
     assert not status_of(page, "book", "readOnly")
     play(page)
     assert page.value(buttons) == [["Play again", "false"], ["Step", "true"]]
@@ -234,7 +234,7 @@ def test_headers_that_are_none_are_refused(page):
         field.value = '[1]'
         field.dispatchEvent(new Event('input'))""")
     for _ in range(2):
-        page.value("document.getElementById('step').click(); await new Promise((it) => setTimeout(it, 50))")
+        step(page)
     assert "Headers must be a JSON object of strings." in page.value(SAID)
 
 

@@ -74,3 +74,10 @@ def documents_of(content):
         "responses": content.response.rstrip(),
         "events": compact("events", events_of(content)),
     }
+
+
+def batch_of_a_megabyte():
+    """The bytes of a batch of 4200 requests with bodies."""
+    body = {"Title": "x" * 150, "Price": 9.99}
+    requests = [{"id": f"r{i}", "method": "post", "url": f"Books({i})", "body": body} for i in range(4200)]
+    return json.dumps({"requests": requests}).encode()

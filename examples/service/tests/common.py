@@ -25,15 +25,16 @@ class Process(Server):
         width: How many requests of a batch it performs at once.
         patience: For how many seconds it waits for a client.
         workers: How many processes answer.
+        more: Further options of gunicorn.
     """
 
     # Where the module of the application is.
     folder = SERVICE
 
-    def __init__(self, database, width=1, patience=20, workers=2):
+    def __init__(self, database, width=1, patience=20, workers=2, more=()):
         skip_without("gunicorn")
         words = ["gunicorn", "--config", os.path.join(SERVICE, "gunicorn.conf.py"), "--bind", "fd://{fd}"]
-        words += ["--workers", str(workers), "--pythonpath", self.folder, self.app(database, width)]
+        words += [*more, "--workers", str(workers), "--pythonpath", self.folder, self.app(database, width)]
         log = database + ".log"
         self.begin = os.path.getsize(log) if os.path.exists(log) else 0
         super().__init__(words, SERVICE, log, PATIENCE=str(patience))
@@ -135,6 +136,14 @@ def rows(database, table="Books"):
         return connection.execute(f"SELECT * FROM {table} ORDER BY 1").fetchall()
     finally:
         connection.close()
+
+
+def states_of(port):
+    """The states of the connections to a port of the loopback, by the ports of their clients, as Linux numbers them."""
+    with open("/proc/net/tcp", encoding="ascii") as file:
+        lines = [line.split()[1:4] for line in file.readlines()[1:]]
+    number = lambda address: int(address.rpartition(":")[2], 16)
+    return {number(remote): int(state, 16) for local, remote, state in lines if number(local) == port and number(remote)}
 
 
 def until(look, is_good):

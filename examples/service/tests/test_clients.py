@@ -4,15 +4,16 @@ import json
 import os
 import re
 import socket
-import time
 
 import pytest
 
-from common import BATCH_URL, JSON, SECONDS, new_book, request, rows, until
+from common import BATCH_URL, JSON, SECONDS, new_book, request, rows, states_of, until
 from exchanges import ClientTest, everything, head, post
 
 MAX_BODY = 16_777_216
 BATCH = json.dumps({"requests": [request("a", "get", "Books")]}).encode()
+# The states of a connection that the service has not closed: the client has not closed it, or it has.
+OPEN, HALF_CLOSED = 1, 8
 # A group that fails, in a document of some length.
 GROUP = [new_book("a", "m", "g"), new_book("b", "dune", "g")]
 UNDONE = json.dumps({"requests": GROUP, "note@here": "n" * 9999}).encode()
@@ -89,12 +90,10 @@ class TestConnections(ClientTest):
     @pytest.mark.parametrize("data", [b"", head()[:20], post(BATCH)[:-10]], ids=["nothing", "head", "body"])
     def test_cuts_off_a_client_that_stops_sending(self, data):
         with self.connect() as connection:
-            begun = time.monotonic()
             connection.sendall(data)
-            found = everything(connection)
-            assert time.monotonic() - begun < 8
-            assert found.split(b" ")[1:2] in ([], [b"408"])
+            assert everything(connection).split(b" ")[1:2] in ([], [b"408"])
 
+    @pytest.mark.skipif(not os.path.exists("/proc/net/tcp"), reason="there is no /proc")
     def test_cuts_off_a_client_that_takes_no_answer(self):
         book = {"Id": "long", "Title": "t" * 100_000}
         assert self.client.ask("POST", "/library/Books", book)[0] == 201
@@ -102,25 +101,12 @@ class TestConnections(ClientTest):
         with self.connect() as connection:
             connection.sendall(post(document.encode()))
             assert connection.recv(1) == b"H"
-            time.sleep(3)
+            port = connection.getsockname()[1]
+            assert until(lambda: states_of(self.service.port).get(port), lambda state: state != OPEN) != OPEN
             try:
                 assert len(everything(connection)) < 100_000 * 150
             except ConnectionResetError:
                 pass
-
-    @pytest.mark.parametrize("data", [b"", head()[:20], post(BATCH)[:-1]], ids=["nothing", "head", "body"])
-    def test_slow_clients_hold_nobody_up(self, data):
-        # A busy machine may be slow once.
-        assert any(self.seconds_beside(data, f"quick{len(data)}-{turn}") < 1 for turn in range(3))
-
-    def seconds_beside(self, data, name):
-        """How long a batch takes while twenty clients have sent a part of a request."""
-        slow = [self.connect() for _ in range(20)]
-        for connection in slow:
-            connection.sendall(data)
-        begun = time.monotonic()
-        assert self.client.statuses(new_book("a", name)) == {"a": 201}
-        return time.monotonic() - begun
 
     def test_more_idle_clients_than_threads_hold_others_up_for_a_while(self):
         idle = [self.connect() for _ in range(100)]
@@ -134,6 +120,41 @@ class TestConnections(ClientTest):
         wanted = {f"h{k}" for k in range(20)}
         found = until(lambda: {id for id, *_ in rows(self.database)}, wanted.issubset)
         assert wanted <= found
+
+
+def is_open(connection):
+    """Whether the service has neither answered on a connection nor closed it."""
+    connection.setblocking(False)
+    try:
+        connection.recv(1)
+    except BlockingIOError:
+        return True
+    except OSError:
+        pass
+    return False
+
+
+@pytest.mark.slow
+class TestSlowClients(ClientTest):
+    """Clients for which the service has much patience."""
+
+    options = {"patience": SECONDS}
+
+    @pytest.mark.parametrize("data", [b"", head()[:20], post(BATCH)[:-1]], ids=["nothing", "head", "body"])
+    def test_hold_nobody_up(self, data):
+        """A client without a request is cut off after five seconds, so a busy machine may try again."""
+        assert any(self.is_answered_beside(data, f"quick{len(data)}-{turn}") for turn in range(10))
+
+    def is_answered_beside(self, data, name):
+        """Whether a batch is answered while twenty clients have sent a part of a request, and none is cut off."""
+        slow = [self.connect() for _ in range(20)]
+        for connection in slow:
+            connection.sendall(data)
+        assert self.client.statuses(new_book("a", name)) == {"a": 201}
+        found = all(map(is_open, slow))
+        for connection in slow:
+            connection.close()
+        return found
 
 
 def held_by(process):
@@ -178,7 +199,9 @@ class TestMemory(ClientTest):
 
     def held_at_rest(self):
         """What is held once the last connections are closed."""
-        time.sleep(2)
+        opened = lambda: [state for state in states_of(self.service.port).values() if state in (OPEN, HALF_CLOSED)]
+        self.client.connection.close()
+        assert until(opened, lambda found: not found) == []
         return self.held()
 
     def test_holds_no_more_after_2000_requests(self):

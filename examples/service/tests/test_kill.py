@@ -2,15 +2,15 @@
 
 import http.client
 import threading
-import time
 from collections import Counter
 from random import Random
 
 import pytest
 
-from common import Process, new_book, request, rows
+from common import Process, new_book, request, rows, until
 
 KILLS, CLIENTS, MEMBERS = 20, 4, 5
+MOST_ANSWERS = 60  # of the clients together before a kill
 
 
 class Load:
@@ -53,7 +53,8 @@ def test_no_group_is_half_in_the_database(tmp_path):
                 assert service.stop() == 0
                 break
             load = Load(service, f"k{k}")
-            time.sleep(random.uniform(0.02, 0.3))
+            wanted = random.randint(1, MOST_ANSWERS)
+            assert until(lambda: len(load.answered), lambda count: count >= wanted) >= wanted
             service.kill()
             load.join()
             answered += load.answered
