@@ -5,7 +5,7 @@ import subprocess
 
 from .program import ROOT
 
-SECONDS = 300
+SECONDS = 900
 
 
 def with_package():

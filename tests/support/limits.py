@@ -4,7 +4,7 @@ import signal
 
 import pytest
 
-SECONDS = 300
+SECONDS = 900
 
 
 @pytest.fixture(autouse=True)

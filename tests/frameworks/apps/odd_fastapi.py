@@ -77,4 +77,4 @@ async def passes(request, call_next):
 
 
 app.add_middleware(BaseHTTPMiddleware, dispatch=passes)
-app.add_middleware(BatchMiddleware, path="/odata/$batch", timeout=1)
+app.add_middleware(BatchMiddleware, path="/odata/$batch", timeout=3)
