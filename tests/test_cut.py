@@ -1,4 +1,4 @@
-"""Documents of examples/ that are cut after each of their bytes.
+"""Documents of examples/ that are cut after each of their bytes: after a few here, and after all the others in the slow tests.
 
 No part of a JSON object is JSON, so each has to be refused by F02 at the place of its document. A batch is given to
 each command in turn, and a second document to the command that reads it.
@@ -22,6 +22,15 @@ SECONDS = {
 }
 LIMIT = 60
 
+# One cut of so many is tried at once, and the others are slow.
+SOME = 16
+each_share = pytest.mark.parametrize("are_some", [True, pytest.param(False, marks=pytest.mark.slow)], ids=["some", "others"])
+
+
+def share_of(parts, are_some):
+    """Some of the parts, or all the others."""
+    return [part for at, part in enumerate(parts) if (at % SOME == 0) == are_some]
+
 
 def parts_of(name):
     """Each proper part of an example, the empty one too; the newline at its end belongs to none."""
@@ -40,17 +49,20 @@ def wrong_parts(program, path, parts, place, words):
             yield len(part), done.stdout, done.stderr, done.returncode
 
 
+@each_share
 @pytest.mark.parametrize("command", OF_BATCHES)
 @pytest.mark.parametrize("name", BATCHES)
-def test_batch(program, tmp_path, name, command):
+def test_batch(program, tmp_path, name, command, are_some):
     """A command has one part of seven; `check` reads standard input."""
     path, parts = tmp_path / "batch", parts_of(name)[OF_BATCHES.index(command) :: len(OF_BATCHES)]
     words = [command, path, *SECONDS.get(command, ())[1:]] if command != "check" else []
-    assert list(wrong_parts(program, path, parts, "batch", words)) == []
+    assert list(wrong_parts(program, path, share_of(parts, are_some), "batch", words)) == []
 
 
+@each_share
 @pytest.mark.parametrize("command", SECONDS)
-def test_second_document(program, tmp_path, command):
+def test_second_document(program, tmp_path, command, are_some):
     place, name = SECONDS[command]
     path = tmp_path / "second"
-    assert list(wrong_parts(program, path, parts_of(name), place, [command, BATCH, path])) == []
+    parts = share_of(parts_of(name), are_some)
+    assert list(wrong_parts(program, path, parts, place, [command, BATCH, path])) == []

@@ -18,7 +18,8 @@ WAYS = {
     "valgrind": ([], ["valgrind", "-q", "--error-exitcode=9", "--leak-check=full"]),
 }
 
-UNDER_VALGRIND = [pytest.mark.slow, pytest.mark.needs("valgrind")]
+UNDER_SANITIZERS, UNDER_VALGRIND = pytest.mark.slow, [pytest.mark.slow, pytest.mark.needs("valgrind")]
+SLOW_WAYS = [pytest.param("sanitizers", marks=UNDER_SANITIZERS), pytest.param("valgrind", marks=UNDER_VALGRIND)]
 
 
 def compile_c(program, standard, sources, library, *flags):
@@ -29,7 +30,7 @@ def compile_c(program, standard, sources, library, *flags):
 
 
 @pytest.mark.parametrize("tests", ["calls", "live", "places", "positions", "requests", "units"])
-@pytest.mark.parametrize("way", ["plain", "sanitizers", pytest.param("valgrind", marks=UNDER_VALGRIND)])
+@pytest.mark.parametrize("way", ["plain", *SLOW_WAYS])
 def test_calls(tests, way, library, tmp_path):
     flags, words = WAYS[way]
     compile_c(tmp_path / "calls", "c99", [f"{tests}.c", "allocations.c"], library, *flags, WRAPPED)

@@ -67,13 +67,17 @@ CASES = {
 }  # fmt: skip
 
 CALLS = """
-const [bytes, calls] = JSON.parse(require('fs').readFileSync(0))
-const module = new WebAssembly.Module(Uint8Array.from(bytes))
-const called = (values) => {
+const called = (module, values) => {
   try { return String(new WebAssembly.Instance(module).exports.f(...values.map(BigInt))) }
   catch (error) { if (error instanceof WebAssembly.RuntimeError) return 'trap'; throw error }
 }
-console.log(JSON.stringify(calls.map(called)))
+const returned = ([bytes, calls]) => {
+  try {
+    const module = new WebAssembly.Module(Uint8Array.from(bytes))
+    return calls.map((values) => called(module, values))
+  } catch (error) { return String(error) }
+}
+console.log(JSON.stringify(JSON.parse(require('fs').readFileSync(0)).map(returned)))
 """
 
 
@@ -95,15 +99,21 @@ def module_of(text):
     return b"\0asm\1\0\0\0" + b"".join(bytes([kind]) + sized(b"\1" + it) for kind, it in sections.items())
 
 
-@pytest.mark.needs("node")
-@pytest.mark.parametrize("text", CASES)
-def test_functions(text, tmp_path):
-    lowered = lower.Module(module_of(text)).lowered()
-    given = tmp_path / "given"
-    given.write_text(json.dumps([list(lowered), [list(map(str, values)) for *values, _ in CASES[text]]]))
+@pytest.fixture(scope="module")
+def returned(need, tmp_path_factory):
+    """What the calls of each function return after it, in one process."""
+    need("node")
+    given = tmp_path_factory.mktemp("lowered") / "given"
+    lowered = (list(lower.Module(module_of(text)).lowered()) for text in CASES)
+    calls = ([list(map(str, values)) for *values, _ in found] for found in CASES.values())
+    given.write_text(json.dumps(list(zip(lowered, calls))))
     with open(given, encoding="utf-8") as file:
-        found = json.loads(run("node", "-e", CALLS, stdin=file))
-    assert found == [str(it) for *_, it in CASES[text]]
+        return dict(zip(CASES, json.loads(run("node", "-e", CALLS, stdin=file))))
+
+
+@pytest.mark.parametrize("text", CASES)
+def test_functions(text, returned):
+    assert returned[text] == [str(it) for *_, it in CASES[text]]
 
 
 @pytest.mark.parametrize("number", [0, 1, 63, 64, 127, 128, 8191, 8192, 2**31, 2**32, 2**63 - 1])

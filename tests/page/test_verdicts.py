@@ -11,6 +11,7 @@ from support.program import ROOT
 from support.worked import CALLS
 
 MOST_SHORT = 100_000  # bytes of documents that are not slow
+SOME = 16  # one of so many short documents is not slow, either
 
 OPEN = """const page = await window.page
 while (page.count <= BEFORE) await new Promise((it) => setTimeout(it, 1))
@@ -57,22 +58,32 @@ def short(data):
     return len(data) <= MOST_SHORT
 
 
-@pytest.mark.parametrize("are_short", [True, pytest.param(False, marks=pytest.mark.slow)])
-def test_every_batch(page, program, tmp_path, are_short):
-    batches = list({it.documents[0]: None for it in CALLS if short(it.documents[0]) == are_short})
+def share_of(listed, are_some):
+    """Some of a list, or all the others."""
+    return [it for at, it in enumerate(listed) if (at % SOME == 0) == are_some]
+
+
+each_share = pytest.mark.parametrize("are_some", [True, pytest.param(False, marks=pytest.mark.slow)], ids=["some", "others"])
+
+
+@each_share
+def test_every_batch(page, program, tmp_path, are_some):
+    documents = list({it.documents[0]: None for it in CALLS})
+    some = share_of([it for it in documents if short(it)], True)
+    batches = some if are_some else [it for it in documents if it not in some]
     reader = Reader(page, tmp_path)
     for data in batches:
         assert reader.check(data) == output(program, tmp_path, "check", [data]), data[:200]
     print(f"{len(batches)} batches")
 
 
-def test_every_second_document(page, program, tmp_path):
+@each_share
+def test_every_second_document(page, program, tmp_path, are_some):
     reader, count = Reader(page, tmp_path), 0
-    for call in CALLS:
-        width = call.options.get("width", 10_000)
-        if call.command not in ("match", "run", "replay") or not isinstance(width, int):
-            continue
-        batch, second = call.documents
+    width_of = lambda call: call.options.get("width", 10_000)
+    calls = [it for it in CALLS if it.command in ("match", "run", "replay") and isinstance(width_of(it), int)]
+    for call in share_of(calls, are_some):
+        width, (batch, second) = width_of(call), call.documents
         if not (short(batch) and short(second)) or not reader.check(batch).startswith("ok "):
             continue
         choose(page, "stop", call.options.get("mode") == "stop")
@@ -91,6 +102,7 @@ def test_every_second_document(page, program, tmp_path):
             assert response == wanted, about
         count += 1
     print(f"{count} second documents")
+    assert count > 0
 
 
 def is_of(command, data):

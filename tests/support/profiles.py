@@ -1,4 +1,4 @@
-"""How many random examples a test has: `pytest --hypothesis-profile NAME`, of `default`, `gate` and `long`."""
+"""How many random examples a test has: `pytest --hypothesis-profile NAME`, of `default`, which is quick, `gate` and `long`."""
 
 import functools
 
@@ -9,7 +9,7 @@ from hypothesis import HealthCheck, settings
 def register():
     """Registers the profiles; must run before pytest chooses one, and takes effect once."""
     common = settings(deadline=None, suppress_health_check=[HealthCheck.too_slow, HealthCheck.data_too_large])
-    settings.register_profile("default", common, max_examples=120)
+    settings.register_profile("default", common, max_examples=40)
     settings.register_profile("gate", common, max_examples=2_000, derandomize=True, database=None)
     settings.register_profile("long", common, max_examples=30_000)
     settings.load_profile("default")

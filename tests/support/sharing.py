@@ -4,8 +4,17 @@ import re
 
 from xdist.scheduler import LoadScopeScheduling
 
-# The folders in which a class has a service of its own.
+# What is made once for a run: by its name the tests that use it, by what their ids begin with.
+SHARED = {
+    "the page in Chromium": r"tests/page/test_(?!firefox|listing)",
+    "the addon for Node": r"tests/library/(test_worked\.py::test_node|test_node\.py::test_(its_own_tests$|the_addon)|test_express\.py|"
+    r"test_pages\.py::test_node)",
+    "the functions in Node": r"tests/library/test_lower\.py::test_functions",
+    "the module for browsers": r"tests/library/(test_wasm\.py|test_node\.py::test_its_(names|own_tests_over))",
+}
+# The folders in which a class, or an application, has a service of its own.
 OVER_SERVICES = ("examples/service/", "tests/frameworks/")
+APPLICATION = re.compile(r"tests/frameworks/.*\[(\w+)")
 
 
 class BySharing(LoadScopeScheduling):
@@ -16,11 +25,13 @@ class BySharing(LoadScopeScheduling):
 
 
 def shared_by(nodeid):
-    """The name of what a test shares with others: a page of cases, the service of a class, an application, the addon for
-    Node; or its own.
+    """The name of what a test shares with others: a page of cases, the service of a class, an application, what is made once
+    for a run; or its own.
     """
     above, _, _ = nodeid.rpartition("::")
     if above.endswith(".txt") or (nodeid.startswith(OVER_SERVICES) and "::" in above):
         return above
-    shared = re.match(r"tests/frameworks/.*\[(\w+)|tests/library/test_worked.py::(test_node)", nodeid)
-    return shared[shared.lastindex] if shared else nodeid
+    application = APPLICATION.match(nodeid)
+    if application:
+        return application[1]
+    return next((name for name, pattern in SHARED.items() if re.match(pattern, nodeid)), nodeid)
