@@ -8,13 +8,12 @@ import pytest
 
 from support.page import great_batch, has_verdict, paste, play
 
-# Turns of the page while its worker does a job, and nodes that are added to the page.
-LEAST_TURNS, MOST_NODES = 10, 3000
+# Turns of the page while its worker does a job, and what the page has then: a batch of ten megabytes has 9,000 requests.
+LEAST_TURNS, MOST_ELEMENTS = 10, 9000
 
-# Counts the turns that the page takes while its worker is at each job, and the nodes that are added to the page.
+# Counts the turns that the page takes while its worker is at each job.
 WATCH = """window.turns = 0
 window.jobs = []
-window.added = 0
 const { port1, port2 } = new MessageChannel()
 port1.onmessage = () => {
   window.turns += 1
@@ -29,25 +28,20 @@ Worker.prototype.postMessage = function (message) {
     if (data.number === message.number) job.turns = window.turns - job.begun
   })
   return window.post.call(this, message)
-}
-window.watch = new MutationObserver((records) => {
-  const nodes = records.flatMap(({ addedNodes }) => Array.from(addedNodes))
-  for (const it of nodes) window.added += 1 + (it.querySelectorAll?.('*').length ?? 0)
-})
-window.watch.observe(document, { childList: true, subtree: true })"""
+}"""
 WATCHED = """const { jobs } = window
 window.jobs = undefined
-window.watch.disconnect()
-return [jobs.filter(({ name }) => name === 'check').map(({ turns }) => turns), window.added]"""
+const turns = jobs.filter(({ name }) => name === 'check').map(({ turns }) => turns)
+return [turns, document.querySelectorAll('*').length]"""
 
 
 def watched(page, act):
-    """The turns that the page took while each batch was checked, and how many nodes were added to it."""
+    """The turns that the page took while each batch was checked, and how many elements it has then."""
     page.value(WATCH)
     act()
-    turns, nodes = page.value(WATCHED)
-    print(f"turns of the page: {turns}, nodes: {nodes}")
-    return turns, nodes
+    turns, elements = page.value(WATCHED)
+    print(f"turns of the page: {turns}, elements: {elements}")
+    return turns, elements
 
 
 @pytest.mark.slow
@@ -62,8 +56,8 @@ def test_ten_megabytes_are_opened_and_run(page, tmp_path):
         assert play(page).endswith("9,000 requests succeeded.")
         assert "too long to be edited here" in page.text("batch-editor")
 
-    (turns,), nodes = watched(page, opened_and_run)
-    assert turns > LEAST_TURNS and nodes < MOST_NODES
+    (turns,), elements = watched(page, opened_and_run)
+    assert turns > LEAST_TURNS and elements < MOST_ELEMENTS
 
 
 @pytest.mark.slow
@@ -74,8 +68,8 @@ def test_ten_megabytes_are_pasted(page):
         paste(page)
         has_verdict(page, "fault F40 UnknownName /requests/7000")
 
-    (turns,), nodes = watched(page, pasted)
-    assert turns > LEAST_TURNS and nodes < MOST_NODES
+    (turns,), elements = watched(page, pasted)
+    assert turns > LEAST_TURNS and elements < MOST_ELEMENTS
     assert page.value("return document.querySelector('#batch-editor mark.part').textContent") == '"dependsOn": ["none"]'
     assert page.value("return document.querySelector('#batch-editor .has-fault').textContent") == "7002"
 
@@ -102,5 +96,5 @@ def test_a_long_text_is_edited(page, tmp_path):
         has_verdict(page, "F02")
         assert "Checking" in page.value("return window.said[0]")
 
-    _, nodes = watched(page, typed)
-    assert nodes < MOST_NODES
+    _, elements = watched(page, typed)
+    assert elements < MOST_ELEMENTS
