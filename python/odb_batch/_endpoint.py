@@ -233,6 +233,13 @@ def names_of(allowed: Iterable[str]) -> "frozenset[str]":
     return frozenset(name.lower() for name in allowed)
 
 
+def seconds_of(name: str, seconds: Optional[float]) -> Optional[float]:
+    """Returns the value of an option that is a number of seconds, or None; raises ValueError if it is not above 0."""
+    if seconds is not None and not seconds > 0:
+        raise ValueError(f"{name} must be above 0, or None, not {seconds!r}")
+    return seconds
+
+
 def root_of(root: Optional[str], path: str) -> str:
     """Returns the path that each URL has to begin with; raises ValueError if it or the path of batches is not one."""
     if not path.startswith("/"):

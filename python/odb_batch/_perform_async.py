@@ -20,6 +20,7 @@ from typing import (
 )
 
 from ._answers import answer_to, checked
+from ._clocks import Deadline, Timer, uncancel
 from ._commands import Mode
 from ._documents import Document, bytes_of
 from ._events import Journal
@@ -118,7 +119,7 @@ async def perform_async(
     """
     if transaction is not None and (groups is not None or journal is not None):
         raise ValueError("a transaction cannot be combined with groups that are sent as one, or with a journal")
-    document, ends = bytes_of(batch), _Deadline(deadline)
+    document, ends = bytes_of(batch), Deadline(deadline)
     open_work = functools.partial(
         Work,
         document,
@@ -139,31 +140,13 @@ async def perform_async(
         return work.response()
 
 
-class _Deadline:
-    """When a batch has to be over, by the clock of the running loop."""
-
-    def __init__(self, seconds: Optional[float]) -> None:
-        self._clock = asyncio.get_running_loop().time
-        self.at = None if seconds is None else self._clock() + seconds
-        self.is_over = False
-
-    def seconds(self, timeout: Optional[float]) -> Optional[float]:
-        """Returns for how many seconds a request may take that starts now; raises TimeoutError if there are none."""
-        if self.at is None:
-            return timeout
-        rest = self.at - self._clock()
-        if rest <= 0:
-            raise asyncio.TimeoutError("the deadline of the batch has passed")
-        return rest if timeout is None else min(rest, timeout)
-
-
 class _How(NamedTuple):
     """How units are performed."""
 
     send: SendAsync
     transaction: Optional[TransactionAsync]
     timeout: Optional[float]
-    ends: _Deadline
+    ends: Deadline
     gate: Union[None, AsyncContextManager[Any], Gate]
     groups: Optional[SendGroup]
     journal: Optional[Journal]
@@ -275,7 +258,7 @@ class _Tasks:
             await stack.enter_async_context(gate)
         except asyncio.CancelledError as error:
             if self._how.ends.is_over and not self.is_cancelled:
-                getattr(task, "uncancel", int)()
+                uncancel(task)
             if self._is_to_end():
                 raise
             return answer_to(error, str(unit))
@@ -340,7 +323,17 @@ class _Tasks:
     async def _within(self, send: Callable[[_Sent], Awaitable[_Result]], sent: _Sent) -> _Result:
         """Sends something, and returns what it is answered; raises TimeoutError if that takes too long."""
         seconds = self._how.ends.seconds(self._how.timeout)
-        return await (send(sent) if seconds is None else asyncio.wait_for(send(sent), seconds))
+        if seconds is None:
+            return await send(sent)
+        timer = Timer(seconds)
+        try:
+            return await send(sent)
+        except asyncio.CancelledError:
+            if timer.end() and not self._is_to_end():
+                raise asyncio.TimeoutError from None
+            raise
+        finally:
+            timer.end()
 
     async def _group_answers(self, unit: Unit, send: SendGroup) -> List[Answer]:
         """Sends a group as one; returns what each of its requests is answered."""

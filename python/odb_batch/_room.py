@@ -165,7 +165,7 @@ class Reading:
         refusal = self._room.take(len(part))
         if refusal is None:
             self._size += len(part)
-            self._parts.append(part)
+            self._parts.append(bytes(part))  # an application may use its buffer again
             return True
         self._drop()
         if self._method == "GET":

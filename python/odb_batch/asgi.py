@@ -6,15 +6,21 @@ Each request of a batch is dispatched to the application in this process, never 
 """
 
 import asyncio
+import functools
+import inspect as inspection
 import weakref
 from typing import Any, Awaitable, Callable, Dict, Iterable, List, MutableMapping, Optional
 from urllib.parse import quote, unquote, urlsplit
 
+from ._answers import LOG
+from ._clocks import uncancel
 from ._commands import policy
-from ._endpoint import Outer, Room, folder_of, message_of, names_of, performed, refused, root_of, too_long
+from ._endpoint import Outer, folder_of, message_of, names_of, performed, refused, root_of, seconds_of, too_long
 from ._faults import Fault
 from ._messages import Answer, PreparedRequest, Refusal, header_dict
 from ._perform_async import TransactionAsync, perform_async
+from ._places import Places
+from ._room import Reading, Room, memory_of
 
 __all__ = ["BatchMiddleware"]
 
@@ -31,26 +37,35 @@ class BatchMiddleware:
     A request of a batch is over when the application returns, not when it has answered: what it does after that, as the
     part of a dependency of FastAPI after its ``yield``, may be its commit. So background tasks hold up the batch.
 
+    Once the client of a batch has gone, nothing more of it starts; what runs comes to its end.
+
     Args:
         app: The application.
         path: The path of batches. The URLs of their requests are relative to its folder.
         transaction: Opens the transaction of a group, by its name: a context manager, which commits at the end of its
-            block, and rolls back on any exception. It must not block the loop, in which the requests of the group are
-            dispatched, so it is best an asynchronous one. Without it a batch with groups is answered 501.
+            block, and rolls back on any exception. It is an asynchronous one, since one that waits for a lock would
+            stop the loop, and with it the server. Without it a batch with groups is answered 501.
         width: How many units of a batch are performed at once.
-        at_once: How many units of all batches are performed at once in a loop. Have it below the number of threads in
-            which the application answers (40 in Starlette), so that a group that holds a lock never waits for one of
-            them.
+        at_once: How many units of all batches are performed at once in a loop; who waits longer than ``timeout`` is
+            answered 503. Have it below the number of threads in which the application answers (40 in Starlette), so
+            that a group that holds a lock never waits for one of them.
         timeout: For how many seconds a request may take, or None; then it is cancelled and answered 504. One that is
             answered in a thread cannot be cancelled: the answer comes when it ends.
+        deadline: For how many seconds a batch may take, or None. Then nothing more starts, what has not started is
+            answered 424, and what runs is cancelled and answered 504.
         limit: How many requests a batch may have.
-        max_size: How many bytes a batch may have, and the bodies of its answers together.
-        allowed: Names of headers that requests may have, beside those of OData.
+        max_size: How many bytes a batch may have, and the bodies of its answers together. A GET whose answer has more
+            is ended and answered 507.
+        memory: How many bytes all batches may have at once, with the bodies of their answers; further ones are answered
+            503. 268,435,456, or twice ``max_size`` if that is more.
+        allowed: Names of headers that requests may have, beside those of OData and of usual clients.
         root: The path that the URL of each request has to begin with; else the folder of ``path``.
+        inspect: Is called with each request before it is dispatched, with its whole URL and all its headers. A
+            ``Refusal`` that it raises is the answer.
         stop: Is called before a unit begins, as ``event.is_set``. Once it returns true, nothing more starts.
 
     Raises:
-        ValueError: An option has a value that it may not have.
+        ValueError: An option has a value that it may not have, or the transaction is not asynchronous.
     """
 
     def __init__(
@@ -61,105 +76,174 @@ class BatchMiddleware:
         transaction: Optional[TransactionAsync] = None,
         width: int = 8,
         at_once: int = 32,
-        timeout: Optional[float] = None,
+        timeout: Optional[float] = 30.0,
+        deadline: Optional[float] = None,
         limit: int = 1_000,
         max_size: int = 16_777_216,
+        memory: Optional[int] = None,
         allowed: Iterable[str] = (),
         root: Optional[str] = None,
+        inspect: Optional[Callable[[PreparedRequest], None]] = None,
         stop: Optional[Callable[[], bool]] = None,
     ) -> None:
         if at_once < 1:
             raise ValueError(f"at_once must be at least 1, not {at_once!r}")
         policy("stop", width)  # refuses a width that no run may have
-        self.app, self.path, self.transaction, self.width, self.stop = app, path, transaction, width, stop
-        self.at_once, self.timeout, self.limit, self.max_size = at_once, timeout, limit, max_size
+        self.app, self.path, self.width, self.stop, self.inspect = app, path, width, stop, inspect
+        self.transaction = None if transaction is None else _asynchronous(transaction)
+        self.timeout, self.deadline = seconds_of("timeout", timeout), seconds_of("deadline", deadline)
+        self.at_once, self.limit, self.max_size, self.budget = at_once, limit, max_size, memory_of(memory, max_size)
         self.allowed, self.root = names_of(allowed), root_of(root, path)
-        # A semaphore belongs to one loop, and tests may run the application in several.
-        self._gates: "weakref.WeakKeyDictionary[asyncio.AbstractEventLoop, asyncio.Semaphore]"
-        self._gates = weakref.WeakKeyDictionary()
+        # Places belong to one loop, and tests may run the application in several.
+        self._places: "weakref.WeakKeyDictionary[asyncio.AbstractEventLoop, Places]" = weakref.WeakKeyDictionary()
 
     async def __call__(self, scope: _Scope, receive: _Receive, send: _Send) -> None:
         if scope["type"] != "http" or scope["path"] not in (self.path, scope.get("root_path", "") + self.path):
             return await self.app(scope, receive, send)
-        try:
-            answer = await self._answer(scope, receive)
-        except (Fault, Refusal) as error:
-            answer = refused(error)
-        headers, body = message_of(answer)
-        pairs = [(name.encode(), value.encode("latin-1")) for name, value in headers.items()]
-        await send({"type": "http.response.start", "status": answer.status, "headers": pairs})
-        await send({"type": "http.response.body", "body": body})
+        # It is held until the server has taken the answer.
+        with Room(self.max_size, self.budget) as room:
+            try:
+                answer = await self._answer(scope, receive, room)
+            except (Fault, Refusal) as error:
+                answer = refused(error)
+            headers, body = message_of(answer)
+            pairs = [(name.encode(), value.encode("latin-1")) for name, value in headers.items()]
+            await send({"type": "http.response.start", "status": answer.status, "headers": pairs})
+            await send({"type": "http.response.body", "body": body})
 
-    async def _answer(self, scope: _Scope, receive: _Receive) -> Answer:
+    async def _answer(self, scope: _Scope, receive: _Receive, room: Room) -> Answer:
         """Performs the batch of a request; raises Fault or Refusal if it is refused as a whole."""
         headers = header_dict((name.decode("latin-1"), value.decode("latin-1")) for name, value in scope["headers"])
         prefix = scope.get("root_path", "")
         folder, root = prefix + folder_of(self.path), prefix + self.root
         scheme, host = scope.get("scheme", "http"), headers.get("host", "")
         outer = Outer(scope["method"], scheme, host, folder, root, headers, self.allowed)
-        batch = await self._read(receive)
-        response = await perform_async(
-            batch,
-            _Inner(self, scope, outer).dispatch,
-            mode=outer.mode,
-            width=self.width,
-            transaction=self.transaction,
-            base=outer.base,
-            roots=outer.roots,
-            limit=self.limit,
-            stop=self.stop,
-            timeout=self.timeout,
-            gate=self._gate(),
-        )
+        batch = await self._read(receive, room)
+        with _Client(receive) as client:
+            response = await perform_async(
+                batch,
+                _Inner(self, scope, outer, room).dispatch,
+                mode=outer.mode,
+                width=self.width,
+                transaction=self.transaction,
+                base=outer.base,
+                roots=outer.roots,
+                limit=self.limit,
+                stop=lambda: client.has_gone or (self.stop is not None and self.stop()),
+                timeout=self.timeout,
+                deadline=self.deadline,
+                gate=self._gate(),
+            )
         return performed(response, outer.mode)
 
-    def _gate(self) -> asyncio.Semaphore:
+    def _gate(self) -> Places:
         loop = asyncio.get_running_loop()
-        if loop not in self._gates:
-            self._gates[loop] = asyncio.Semaphore(self.at_once)
-        return self._gates[loop]
+        if loop not in self._places:
+            self._places[loop] = Places(self.at_once, self.timeout)
+        return self._places[loop]
 
-    async def _read(self, receive: _Receive) -> bytes:
+    async def _read(self, receive: _Receive, room: Room) -> bytes:
         """Reads the batch."""
         batch = bytearray()
         while True:
             message = await receive()
             if message["type"] == "http.disconnect":
                 raise Refusal(400, "CutBody", "The client has hung up")
-            batch += message.get("body", b"")
-            if len(batch) > self.max_size:
+            part = message.get("body", b"")
+            if len(batch) + len(part) > self.max_size:
                 raise too_long(self.max_size)
+            room.hold(len(part))
+            batch += part
             if not message.get("more_body", False):
                 return bytes(batch)
+
+
+_BLOCKS = (
+    "the transaction is not asynchronous: one that waits for a lock would stop the whole server. Write "
+    "@contextlib.asynccontextmanager above `async def group(name):`, and wait by await"
+)
+
+
+def _asynchronous(transaction: TransactionAsync) -> TransactionAsync:
+    """Returns a transaction that is surely asynchronous; raises ValueError if it is surely not."""
+    function: Any = transaction
+    while isinstance(function, functools.partial):
+        function = function.func
+    function = inspection.unwrap(function)
+    is_manager = inspection.isclass(function) and hasattr(function, "__enter__")
+    if inspection.isgeneratorfunction(function) or (is_manager and not hasattr(function, "__aenter__")):
+        raise ValueError(_BLOCKS)
+
+    def opened(group: str) -> Any:
+        manager = transaction(group)
+        if not hasattr(manager, "__aenter__"):
+            raise ValueError(_BLOCKS)
+        return manager
+
+    return opened
+
+
+class _Client:
+    """Notices that the client of a batch has gone, while the batch is performed.
+
+    Attributes:
+        has_gone: Whether it has.
+    """
+
+    def __init__(self, receive: _Receive) -> None:
+        self.has_gone = False
+        self._receive = receive
+
+    def __enter__(self) -> "_Client":
+        self._task = asyncio.ensure_future(self._wait())
+        return self
+
+    def __exit__(self, *_: Any) -> None:
+        self._task.cancel()
+
+    async def _wait(self) -> None:
+        try:
+            message = await self._receive()
+        except Exception as error:
+            LOG.warning("the server does not say whether the client of a batch has gone", exc_info=error)
+            return
+        if message["type"] == "http.disconnect":
+            self.has_gone = True
+            LOG.info("the client of a batch has gone, so nothing more of it starts")
 
 
 class _Inner:
     """Dispatches the requests of a batch to the application."""
 
-    def __init__(self, middleware: BatchMiddleware, scope: _Scope, outer: Outer) -> None:
-        self._middleware, self._outer, self._scope = middleware, outer, scope
-        self._room = Room(middleware.max_size)
+    def __init__(self, middleware: BatchMiddleware, scope: _Scope, outer: Outer, room: Room) -> None:
+        self._middleware, self._outer, self._scope, self._room = middleware, outer, scope, room
         prefix = scope.get("root_path", "")
         # In newer servers the path of a scope has its root_path in front; what is dispatched is as what came.
         self._cut = "" if scope["path"] == prefix + middleware.path else prefix
 
     async def dispatch(self, request: PreparedRequest) -> Answer:
         """Has the application answer a request."""
-        scope = self._scope_of(request)
+        headers = self._outer.headers_of(request)
+        scope = self._scope_of(request, headers)
         if scope["path"] == self._scope["path"]:
             raise Refusal(400, "NestedBatch", "A batch has no batches")
-        exchange = _Exchange(request.body, self._room)
-        try:
-            await self._middleware.app(scope, exchange.receive, exchange.send)
-        except Exception:
-            # Starlette answers 500, and raises the exception again for the log of the server. After a success it is
-            # that of a commit.
-            if not exchange.is_complete or exchange.answer().is_success:
-                raise
-        return self._room.fit(request.method, exchange.answer())
+        if self._middleware.inspect is not None:
+            self._middleware.inspect(request._replace(headers=dict(headers)))
+        with self._room.read(request.method) as reading:
+            exchange = _Exchange(request.body, reading)
+            try:
+                await self._middleware.app(scope, exchange.receive, exchange.send)
+            except asyncio.CancelledError:
+                if not exchange.is_cut():
+                    raise
+            except Exception:
+                # Starlette answers 500, and raises the exception again for the log of the server. After a success it is
+                # that of a commit.
+                if reading.refusal is None and (not exchange.is_complete or exchange.answer().is_success):
+                    raise
+            return exchange.answer()
 
-    def _scope_of(self, request: PreparedRequest) -> _Scope:
-        headers = self._outer.headers_of(request)
+    def _scope_of(self, request: PreparedRequest, headers: Dict[str, str]) -> _Scope:
         if request.body:
             headers["content-length"] = str(len(request.body))
         url = urlsplit(request.url)
@@ -181,6 +265,10 @@ class _Inner:
         return scope
 
 
+class _TooLong(OSError):
+    """Raised where an application sends more of an answer than there is room for, as if its client had gone."""
+
+
 class _Exchange:
     """A request and its answer, as ASGI passes them.
 
@@ -188,12 +276,12 @@ class _Exchange:
         is_complete: Whether the answer has come to its end.
     """
 
-    def __init__(self, body: bytes, room: Room) -> None:
+    def __init__(self, body: bytes, reading: Reading) -> None:
         self._incoming: List[_Message] = [{"type": "http.request", "body": body, "more_body": False}]
         self._begun: Dict[str, Any] = {}
-        self._body = bytearray()
-        self._room = room
+        self._reading = reading
         self._completed = asyncio.Event()
+        self._task, self._is_cancelled = asyncio.current_task(), False
 
     @property
     def is_complete(self) -> bool:
@@ -210,15 +298,38 @@ class _Exchange:
         if message["type"] == "http.response.start":
             self._begun.update(message)
         elif message["type"] == "http.response.body":
-            # What is too long is not kept.
-            if len(self._body) <= self._room.left:
-                self._body += message.get("body", b"")
-            if not message.get("more_body", False):
+            has_more = message.get("more_body", False)
+            await self._keep(message.get("body", b""), has_more)
+            if not has_more:
                 self._completed.set()
 
+    async def _keep(self, part: bytes, has_more: bool) -> None:
+        """Keeps a part of the body. If a GET has no room for it, and there is more to come, the application is ended: by
+        an exception, and if it goes on, by a cancel."""
+        was_cut = self._reading.refusal is not None
+        try:
+            if (not self._reading.add(part) or not part) and has_more:
+                await asyncio.sleep(0)  # so that a timeout can end what sends for ever
+        except Refusal as refusal:
+            if was_cut and self._task is not None:
+                if not self._is_cancelled:
+                    self._is_cancelled = True
+                    self._task.cancel()
+                await asyncio.sleep(0)
+            if has_more:
+                raise _TooLong(str(refusal)) from None
+
+    def is_cut(self) -> bool:
+        """Whether the application was cancelled since its answer is too long, and by nobody else."""
+        if not self._is_cancelled or self._task is None:
+            return False
+        return not uncancel(self._task)
+
     def answer(self) -> Answer:
-        """Returns the answer; raises RuntimeError if the application has not completed it."""
+        """Returns the answer; raises Refusal if it is too long, and RuntimeError if the application has not completed
+        it."""
+        body = self._reading.body()
         if not self._begun or not self.is_complete:
             raise RuntimeError("the application has not completed its answer")
         headers = ((name.decode("latin-1"), value.decode("latin-1")) for name, value in self._begun.get("headers", ()))
-        return Answer(self._begun["status"], header_dict(headers), bytes(self._body))
+        return Answer(self._begun["status"], header_dict(headers), body)

@@ -9,19 +9,24 @@ wait for requests to itself would never answer.
 import io
 from concurrent.futures import ThreadPoolExecutor
 from http import HTTPStatus
-from typing import Any, Callable, Dict, Iterable, List, Optional, Tuple
+from time import monotonic
+from typing import Any, Callable, Dict, Iterable, Iterator, Optional, Tuple
 from urllib.parse import unquote_to_bytes, urlsplit
 
 from ._commands import policy
-from ._endpoint import Outer, Room, folder_of, message_of, names_of, performed, refused, root_of, too_long
+from ._endpoint import Outer, folder_of, message_of, names_of, performed, refused, root_of, seconds_of, too_long
 from ._faults import Fault
 from ._messages import Answer, PreparedRequest, Refusal, header_dict
 from ._perform import Transaction, perform
+from ._room import Reading, Room, memory_of
 
 __all__ = ["BatchMiddleware"]
 
 _Environ = Dict[str, Any]
 _App = Callable[..., Iterable[bytes]]
+_Headers = Iterable[Tuple[str, str]]
+# In which parts a batch is read.
+_PART = 65_536
 
 # What a server says of the outer request by names of its own, which an application could read in place of the rest.
 _OF_OUTER = frozenset(
@@ -62,10 +67,19 @@ class BatchMiddleware:
             batch with groups is answered 501.
         width: How many units of all batches are performed at once, by threads of this object. With 1 each batch is
             performed in the thread of its own request.
+        timeout: For how many seconds the parts of an answer may come, or None; then it is ended and answered 504. What
+            the application does before a part cannot be ended.
+        deadline: For how many seconds a batch may take, or None. Then nothing more starts, and what has not started is
+            answered 424. What runs is waited for.
         limit: How many requests a batch may have.
-        max_size: How many bytes a batch may have, and the bodies of its answers together.
-        allowed: Names of headers that requests may have, beside those of OData.
+        max_size: How many bytes a batch may have, and the bodies of its answers together. A GET whose answer has more
+            is ended and answered 507.
+        memory: How many bytes all batches may have at once, with the bodies of their answers; further ones are answered
+            503. 268,435,456, or twice ``max_size`` if that is more.
+        allowed: Names of headers that requests may have, beside those of OData and of usual clients.
         root: The path that the URL of each request has to begin with; else the folder of ``path``.
+        inspect: Is called with each request before it is dispatched, with its whole URL and all its headers. A
+            ``Refusal`` that it raises is the answer.
         stop: Is called before a unit begins, as ``event.is_set``. Once it returns true, nothing more starts.
 
     Raises:
@@ -79,35 +93,44 @@ class BatchMiddleware:
         *,
         transaction: Optional[Transaction] = None,
         width: int = 1,
+        timeout: Optional[float] = 30.0,
+        deadline: Optional[float] = None,
         limit: int = 1_000,
         max_size: int = 16_777_216,
+        memory: Optional[int] = None,
         allowed: Iterable[str] = (),
         root: Optional[str] = None,
+        inspect: Optional[Callable[[PreparedRequest], None]] = None,
         stop: Optional[Callable[[], bool]] = None,
     ) -> None:
         policy("stop", width)  # refuses a width that no run may have
         self.app, self.path, self.transaction, self.width, self.stop = app, path, transaction, width, stop
-        self.limit, self.max_size = limit, max_size
+        self.timeout, self.deadline = seconds_of("timeout", timeout), seconds_of("deadline", deadline)
+        self.limit, self.max_size, self.budget, self.inspect = limit, max_size, memory_of(memory, max_size), inspect
         self.allowed, self.root = names_of(allowed), root_of(root, path)
         self.pool = ThreadPoolExecutor(width, "batch") if width != 1 else None
 
     def __call__(self, environ: _Environ, start_response: Callable[..., Any]) -> Iterable[bytes]:
         if environ.get("PATH_INFO") != self.path:
             return self.app(environ, start_response)
+        room = Room(self.max_size, self.budget)
         try:
-            answer = self._answer(environ)
+            answer = self._answer(environ, room)
         except (Fault, Refusal) as error:
             answer = refused(error)
+        except BaseException:
+            room.close()
+            raise
         headers, body = message_of(answer)
         status = f"{answer.status} {HTTPStatus(answer.status).phrase}"
         start_response(status, [(name.title(), value) for name, value in headers.items()])
-        return [body]
+        return _Body(body, room)
 
-    def _answer(self, environ: _Environ) -> Answer:
+    def _answer(self, environ: _Environ, room: Room) -> Answer:
         """Performs the batch of a request; raises Fault or Refusal if it is refused as a whole."""
         outer = self._outer(environ)
-        batch = self._read(environ)
-        inner = _Inner(self, environ, outer)
+        batch = self._read(environ, room)
+        inner = _Inner(self, environ, outer, room)
         response = perform(
             batch,
             inner.dispatch,
@@ -118,6 +141,7 @@ class BatchMiddleware:
             roots=outer.roots,
             limit=self.limit,
             stop=self.stop,
+            deadline=self.deadline,
             pool=self.pool,
         )
         return performed(response, outer.mode)
@@ -132,7 +156,7 @@ class BatchMiddleware:
         scheme, host = environ.get("wsgi.url_scheme", "http"), headers.get("host") or _server_of(environ)
         return Outer(environ["REQUEST_METHOD"], scheme, host, folder, root, headers, self.allowed)
 
-    def _read(self, environ: _Environ) -> bytes:
+    def _read(self, environ: _Environ, room: Room) -> bytes:
         """Reads the batch."""
         text = environ.get("CONTENT_LENGTH") or ""
         if len(text) > 20:  # of thousands of digits int() makes no number
@@ -142,21 +166,39 @@ class BatchMiddleware:
             raise Refusal(411, "LengthRequired", "A batch has to have a Content-Length")
         if length is not None and length > self.max_size:
             raise too_long(self.max_size)
-        batch: bytes = environ["wsgi.input"].read(self.max_size + 1 if length is None else length)
+        batch, most = bytearray(), self.max_size + 1 if length is None else length
+        while len(batch) < most and (part := environ["wsgi.input"].read(min(_PART, most - len(batch)))):
+            room.hold(len(part))
+            batch += part
         if len(batch) > self.max_size:
             raise too_long(self.max_size)
         if length is not None and len(batch) < length:
             raise Refusal(400, "CutBody", f"The batch has {len(batch)} bytes of {length}")
-        return batch
+        return bytes(batch)
+
+
+class _Body:
+    """The body of the answer to a batch, which holds its memory until the server has sent it."""
+
+    def __init__(self, body: bytes, room: Room) -> None:
+        self._body, self._room = body, room
+
+    def __iter__(self) -> Iterator[bytes]:
+        yield self._body
+
+    def close(self) -> None:
+        self._room.close()
+
+    def __del__(self) -> None:
+        self._room.close()  # a server that is broken off may not close it
 
 
 class _Inner:
     """Dispatches the requests of a batch to the application."""
 
-    def __init__(self, middleware: BatchMiddleware, environ: _Environ, outer: Outer) -> None:
-        self._middleware, self._outer = middleware, outer
+    def __init__(self, middleware: BatchMiddleware, environ: _Environ, outer: Outer, room: Room) -> None:
+        self._middleware, self._outer, self._room = middleware, outer, room
         self._prefix = _decoded(environ.get("SCRIPT_NAME", ""))
-        self._room = Room(middleware.max_size)
         self._environ = {
             name: it for name, it in environ.items() if name not in _OF_OUTER and not name.startswith("HTTP_")
         }
@@ -165,38 +207,24 @@ class _Inner:
 
     def dispatch(self, request: PreparedRequest) -> Answer:
         """Has the application answer a request."""
-        environ = self._environ_of(request)
+        headers = self._outer.headers_of(request)
+        environ = self._environ_of(request, headers)
         if environ["PATH_INFO"] == self._middleware.path:
             raise Refusal(400, "NestedBatch", "A batch has no batches")
-        begun: List[Tuple[str, Iterable[Tuple[str, str]]]] = []
-        body = bytearray()
+        if self._middleware.inspect is not None:
+            self._middleware.inspect(request._replace(headers=dict(headers)))
+        with self._room.read(request.method) as reading:
+            reply = _Reply(reading, self._middleware.timeout)
+            parts = self._middleware.app(environ, reply.start)
+            try:
+                for part in parts:
+                    reply.take(part)
+            finally:
+                if hasattr(parts, "close"):
+                    parts.close()
+            return reply.answer()
 
-        def start_response(
-            status: str, headers: Iterable[Tuple[str, str]], exc_info: Any = None
-        ) -> Callable[[bytes], None]:
-            if exc_info and body:
-                raise exc_info[1].with_traceback(exc_info[2])  # as a server that has sent the headers
-            begun[:] = [(status, headers)]
-            return body.extend
-
-        parts = self._middleware.app(environ, start_response)
-        try:
-            for part in parts:
-                # What is too long is not kept. Only a GET need not come to its end.
-                if len(body) <= self._room.left:
-                    body += part
-                if request.method == "GET" and len(body) > self._room.left:
-                    break
-        finally:
-            if hasattr(parts, "close"):
-                parts.close()
-        if not begun:
-            raise RuntimeError("the application has answered nothing")
-        status, headers = begun[0]
-        return self._room.fit(request.method, Answer(int(status[:3]), header_dict(headers), bytes(body)))
-
-    def _environ_of(self, request: PreparedRequest) -> _Environ:
-        headers = self._outer.headers_of(request)
+    def _environ_of(self, request: PreparedRequest, headers: Dict[str, str]) -> _Environ:
         url = urlsplit(request.url)
         target = url.path + (f"?{url.query}" if url.query else "")
         return {
@@ -211,6 +239,36 @@ class _Inner:
             "CONTENT_LENGTH": str(len(request.body)),
             "wsgi.input": io.BytesIO(request.body),
         }
+
+
+class _Reply:
+    """The answer of an application to one request, as WSGI passes it."""
+
+    def __init__(self, reading: Reading, timeout: Optional[float]) -> None:
+        self._reading, self._count = reading, 0
+        self._begun: Tuple[str, _Headers] = ("", ())
+        self._ends = None if timeout is None else monotonic() + timeout
+
+    def start(self, status: str, headers: _Headers, exc_info: Any = None) -> Callable[[bytes], None]:
+        """Begins the answer, as ``start_response``; returns what takes a part of its body."""
+        if exc_info and self._reading.has_begun:
+            raise exc_info[1].with_traceback(exc_info[2])  # as a server that has sent the headers
+        self._begun = status, headers
+        return self.take
+
+    def take(self, part: bytes) -> None:
+        """Takes a part of the body. Only one that follows another can be too late: a first one may be the whole."""
+        if self._ends is not None and self._count and monotonic() > self._ends:
+            raise TimeoutError("the answer has not come to its end in time")
+        self._count += 1
+        self._reading.add(part)
+
+    def answer(self) -> Answer:
+        """Returns the answer; raises RuntimeError if there is none, and Refusal if it is too long."""
+        status, headers = self._begun
+        if not status:
+            raise RuntimeError("the application has answered nothing")
+        return Answer(int(status[:3]), header_dict(headers), self._reading.body())
 
 
 def _decoded(path: str) -> str:

@@ -6,11 +6,12 @@ import base64
 import contextlib
 import json
 import threading
+from urllib.parse import unquote, urlsplit
 
 import pytest
 
-from odb_batch import _endpoint, asgi, wsgi
-from support.applications import CONTINUE, JSON, OverWsgi, batch
+from odb_batch import Refusal, _endpoint, asgi, wsgi
+from support.applications import CONTINUE, JSON, OverAsgi, OverWsgi, batch
 
 
 class TestBatches:
@@ -263,6 +264,39 @@ class TestBodies:
             batch(service, {"url": "exit"})
 
 
+class TestInspections:
+    def test_see_each_request_as_it_is_dispatched_and_may_refuse_it(self, over):
+        seen = []
+
+        def inspect(request):
+            seen.append((request.method, request.url, request.headers["authorization"], request.body))
+            if unquote(urlsplit(request.url).path).startswith("/odata/admin/"):
+                raise Refusal(403, "Denied", "not in a batch")
+
+        service = over("/odata/$batch", inspect=inspect, width=1)
+        found = batch(
+            service,
+            {"url": "a", "method": "post", "body": {"n": 1}},
+            {"url": "%61dmin/users"},
+            headers={**CONTINUE, "Authorization": "Bearer 1"},
+        )
+        assert [it["status"] for it in found.values()] == [200, 403] and len(service.seen) == 1
+        assert seen == [
+            ("POST", "http://host/odata/a", "Bearer 1", b'{"n": 1}'),
+            ("GET", "http://host/odata/%61dmin/users", "Bearer 1", b""),
+        ]
+
+
+class TestOptions:
+    @pytest.mark.parametrize("options, line", [
+        ({"timeout": 0}, "timeout must be above 0, or None, not 0"), ({"deadline": -1}, "deadline must be above 0, or None, not -1"),
+        ({"memory": 5}, "memory must be at least max_size, 16777216, not 5"),
+    ])  # fmt: skip
+    def test_that_are_wrong(self, over, options, line):
+        with pytest.raises(ValueError, match=line):
+            over("/odata/$batch", **options)
+
+
 class TestCompressedBatches:
     @pytest.mark.parametrize("coding, status", [
         ("gzip", 415), ("identity, br", 415), ("Deflate", 415), ("identity", 200), ("", 200),
@@ -285,7 +319,13 @@ class TestGroups:
             yield
             steps.append("commit")
 
-        service = over("/odata/$batch", transaction=transaction)
+        @contextlib.asynccontextmanager
+        async def asynchronous(name):
+            with transaction(name):
+                yield
+
+        # Under ASGI a transaction that may block the loop is refused.
+        service = over("/odata/$batch", transaction=asynchronous if issubclass(over, OverAsgi) else transaction)
         group = {"method": "post", "url": "a", "atomicityGroup": "g"}
         assert {it["status"] for it in batch(service, group, group).values()} == {200}
         assert {it["status"] for it in batch(service, group, {**group, "url": "missing"}).values()} == {424, 404}

@@ -1,13 +1,14 @@
 """What WSGI and ASGI ask of a middleware in front of an application."""
 
 import asyncio
+import io
 import json
 import sys
 from urllib.parse import unquote
 
 import pytest
 
-from odb_batch import asgi
+from odb_batch import _perform, asgi, wsgi
 from support.applications import JSON, OverAsgi, OverNewAsgi, OverWideWsgi, OverWsgi, batch
 
 
@@ -85,6 +86,93 @@ class TestWsgi:
         service = OverWsgi("/odata/$batch")
         service.middleware.app = app
         assert batch(service, {"url": "a"})["r0"]["status"] == 500
+
+    @pytest.mark.parametrize("method", ["get", "post"])
+    @pytest.mark.parametrize("part", [b"x", b""])
+    def test_an_answer_that_does_not_end_is_ended_by_the_timeout(self, method, part, monkeypatch):
+        closed, now = [], [0.0]
+        monkeypatch.setattr(wsgi, "monotonic", lambda: now[0])
+
+        def app(environ, start_response):
+            start_response("200 OK", [("Content-Type", "text/plain")])
+            try:
+                while True:
+                    now[0] += 20
+                    yield part
+            finally:
+                closed.append(now[0])
+
+        service = OverWsgi("/odata/$batch")
+        service.middleware.app = app
+        found = batch(service, {"url": "a", "method": method})["r0"]
+        assert (found["status"], found["body"]["error"]["code"], closed) == (504, "Timeout", [40.0])
+
+    def test_an_answer_that_comes_late_as_a_whole_is_taken(self, monkeypatch):
+        now = [0.0]
+        monkeypatch.setattr(wsgi, "monotonic", lambda: now[0])
+
+        def app(environ, start_response):
+            now[0] += 60
+            start_response("200 OK", [("Content-Type", "text/plain")])
+            return [b"late"]
+
+        service = OverWsgi("/odata/$batch")
+        service.middleware.app = app
+        assert batch(service, {"url": "a"})["r0"]["body"] == "late"
+
+    @pytest.mark.parametrize("by_write", [True, False])
+    def test_a_get_that_does_not_end_is_answered_507(self, by_write):
+        ended = []
+
+        def app(environ, start_response):
+            write = start_response("200 OK", [("Content-Type", "text/plain")])
+            try:
+                while True:
+                    if by_write:
+                        write(b"x" * 100)
+                    yield b"" if by_write else b"x" * 100
+            finally:
+                ended.append(environ["PATH_INFO"])
+
+        service = OverWsgi("/odata/$batch", max_size=400)
+        service.middleware.app = app
+        assert batch(service, {"url": "a"})["r0"]["status"] == 507 and ended == ["/odata/a"]
+
+    def test_the_memory_of_a_batch_is_held_until_the_server_has_sent_its_answer(self):
+        service = OverWsgi("/odata/$batch")
+        budget, body = service.middleware.budget, b'{"requests":[{"id":"a","method":"get","url":"long"}]}'
+        environ = {
+            "REQUEST_METHOD": "POST", "PATH_INFO": "/odata/$batch", "CONTENT_TYPE": "application/json", "SCRIPT_NAME": "",
+            "CONTENT_LENGTH": str(len(body)), "wsgi.input": io.BytesIO(body), "HTTP_HOST": "host",
+        }  # fmt: skip
+        parts = service.middleware(environ, lambda *_: None)
+        assert b"".join(parts) and budget.used == len(body) + 300
+        parts.close()
+        assert budget.used == 0
+        service.middleware({**environ, "wsgi.input": io.BytesIO(body)}, lambda *_: None)  # and dropped at once
+        assert budget.used == 0
+
+    def test_a_batch_without_memory_is_answered_503(self):
+        service = OverWsgi("/odata/$batch", max_size=100, memory=100)
+        service.middleware.budget.take(90)
+        status, headers, text = service.ask("POST", "/odata/$batch", JSON, b'{"requests":[]}')
+        assert (status, json.loads(text)["error"]["code"], headers["retry-after"]) == (503, "Busy", "1")
+        assert service.middleware.budget.used == 90
+
+    def test_a_deadline(self, monkeypatch):
+        """What runs is waited for, and nothing more starts."""
+        now = [0.0]
+        monkeypatch.setattr(_perform, "monotonic", lambda: now[0])
+
+        def app(environ, start_response):
+            now[0] += 60
+            start_response("200 OK", [("Content-Type", "text/plain")])
+            return [b"late"]
+
+        service = OverWsgi("/odata/$batch", deadline=100)
+        service.middleware.app = app
+        found = batch(service, *[{"url": "a"}] * 4)
+        assert [it["status"] for it in found.values()] == [200, 200, 424, 424]
 
     def test_a_host_that_is_missing(self):
         service = OverWsgi("/odata/$batch")

@@ -101,6 +101,8 @@ class OverAsgi:
         sent = []
 
         async def receive():
+            if not incoming:  # the client stays
+                await asyncio.Event().wait()
             return incoming.pop(0)
 
         async def send(message):
