@@ -120,7 +120,7 @@ def test_urls_of_a_group_that_would_be_read_otherwise(upstream, front, path, ins
 
 @pytest.mark.parametrize("kind, statuses", [
     ("hang-up", [502, 502]), ("half", [502, 502]), ("hang", [504, 504]), ("html", [502, 502]), ("big", [502, 502]),
-    ("missing", [404, 404]), ("elsewhere", [302, 302]),
+    ("missing", [502, 502]), ("elsewhere", [302, 302]),
 ])  # fmt: skip
 def test_services_that_break_within_a_group(upstream, front, monkeypatch, kind, statuses):
     from support.gateways import ODD
@@ -133,6 +133,19 @@ def test_services_that_break_within_a_group(upstream, front, monkeypatch, kind, 
         424,
         200,
     ]
+
+
+@pytest.mark.parametrize("status", [404, 405])
+def test_a_service_without_batch(upstream, front, status):
+    from aiohttp import web
+
+    service = upstream(lambda seen: web.Response(status=status, text="<h1>no", content_type="text/html"))
+    it = front("--upstream", service.url + "/v2/", "--groups", "forward")
+    found = it.batch(*group({"url": "/v2/a"}, {"url": "/v2/b"})).values()
+    assert [response["status"] for response in found] == [502, 502]
+    for response in found:
+        error = response["body"]["error"]
+        assert (error["code"], error["message"]) == ("NoBatch", f"There is no $batch at {service.url}/v2/$batch")
 
 
 def test_an_error_of_others_while_a_group_is_out(upstream, front):

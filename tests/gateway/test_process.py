@@ -28,7 +28,7 @@ def refused(words, before="pass"):
 
 
 def test_without_aiohttp():
-    wanted = "error: python3 -m odb_batch gateway needs aiohttp: pip install 'odb-batch[gateway]'\n"
+    wanted = "error: python3 -m odb_batch gateway needs aiohttp: pip install aiohttp\n"
     assert refused([], "sys.modules['aiohttp'] = None") == (3, wanted)
 
 
@@ -43,7 +43,7 @@ def test_help_names_each_option_once():
     words = [sys.executable, "-m", "odb_batch", "gateway", "--help"]
     text = subprocess.run(words, env=with_package(), stdout=subprocess.PIPE, text=True, timeout=SECONDS).stdout
     options = re.findall(r"(?m)^  (--\w[\w-]*)", text)
-    assert len(options) == len(set(options)) == 20
+    assert len(options) == len(set(options)) == 23
 
 
 def test_sigterm(upstream, running):
@@ -97,7 +97,7 @@ def test_sigterm_breaks_off_what_takes_too_long(upstream, running, grace, signal
             it.process.send_signal(signal.SIGTERM)
         found = asked.result(SECONDS)
     codes = [(it["status"], it.get("body", {}).get("error", {}).get("code")) for it in found.values()]
-    assert codes == [(504, "Stopped"), (503, "Stopping"), (424, None)]
+    assert codes == [(504, "Stopped"), (424, None), (424, None)]
     assert (it.stop(0), service.paths) == ((0, ""), ["/odata/hang"])
 
 
@@ -110,11 +110,12 @@ def test_a_line_of_log_for_each_batch_and_each_request(upstream, running):
     lines = [re.sub(r"^[-\d]+T[:\d]+Z |(ms|from)=\S+|\b\d{5}\b", "", line).split() for line in text.splitlines()]
     url, batch = "url=http://127.0.0.1:", ["batch=/odata/$batch", "method=POST"]
     assert sorted(lines[:2]) == [
-        ["request=r0", "method=GET", f"{url}/odata/x", "status=200"],
-        ["request=r1", "method=POST", f"{url}/odata/missing", "status=404"],
+        ["request=r0", "number=1", "method=GET", f"{url}/odata/x", "status=200"],
+        ["request=r1", "number=1", "method=POST", f"{url}/odata/missing", "status=404"],
     ]  # fmt: skip
-    assert lines[2][:-1] == [*batch, "status=200", "sent=2", "failed=1"] and lines[2][-1].startswith("bytes=")
-    assert lines[3] == [*batch, "status=400", "code=F02", "sent=0", "failed=0"]
+    assert lines[2][:-1] == [*batch, "status=200", "number=1", "sent=2", "failed=1"] and lines[2][-1].startswith("bytes=")
+    assert lines[3] == [*batch, "status=400", "code=F02", "number=2", "sent=0", "failed=0"]
+    assert lines[4:] == [["gateway=stopping", *(idle := ["batches=0", "requests=0"])], ["gateway=stopped", *idle]]
 
 
 def test_a_path_is_one_word_of_the_log(upstream, running):
@@ -133,7 +134,7 @@ def test_what_is_not_http_is_not_in_the_log(upstream, running):
         client.sendall(b"POST /odata/$batch HTTP/1.1\r\nHost: a\r\nAuthorization: secret\1\r\n\r\n")
         assert client.makefile("rb").readline().split()[1] == b"400"
     _, text = it.stop(signal.SIGTERM)
-    assert len(text.splitlines()) == 1 and "secret" not in text
+    assert len(text.splitlines()) == 3 and text.count("gateway=sto") == 2 and "secret" not in text
 
 
 def test_metrics_at_a_port_of_their_own(upstream, running):

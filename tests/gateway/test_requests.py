@@ -248,6 +248,40 @@ def test_headers_that_a_proxy_would_set(upstream, front):
     assert (found["r0"]["status"], code_of(found["r0"]), service.seen) == (400, "HeaderNotAllowed", [])
 
 
+USUAL = {"traceparent": "00-a-b-01", "x-csrf-token": "t", "client-request-id": "1", "sap-language": "DE"}
+
+
+def test_headers_that_usual_clients_set(upstream, front):
+    service = upstream()
+    assert front("--upstream", service.url).statuses({"url": "Books", "headers": USUAL}) == [200]
+    assert {name: service.seen[0].headers.get(name) for name in USUAL} == USUAL
+
+
+def test_headers_that_an_option_allows(upstream, front, caplog):
+    service = upstream()
+    asked = [{"url": "Books", "headers": {"X-Own": "1"}}] * 2
+    assert front("--upstream", service.url, "--allow", "x-own", "--allow", "X-Other").statuses(*asked) == [200, 200]
+    assert [seen.headers["x-own"] for seen in service.seen] == ["1", "1"]
+    found = front("--upstream", service.url).batch(*asked)
+    assert {(response["status"], code_of(response)) for response in found.values()} == {(400, "HeaderNotAllowed")}
+
+
+def test_a_header_of_a_request_is_sent_in_utf_8(loop, front):
+    """So an ETag of a service that writes UTF-8 comes back to it as it was."""
+    from support.gateways import Raw
+
+    head = b"HTTP/1.1 201 x\r\nLocation: /odata/a\r\nConnection: close\r\nContent-Length: 0\r\n"
+    service = Raw(loop, head + 'ETag: "caf\xe9"\r\n\r\n'.encode())
+    it = front("--upstream", service.url, "--width", "1")
+    it.batch(
+        {"method": "post", "url": "a"},
+        {"method": "delete", "url": "b", "headers": {"If-Match": "$r0"}, "dependsOn": ["r0"]},
+        {"method": "delete", "url": "c", "headers": {"If-Match": '"caf\xe9"'}},
+    )
+    service.server.close()
+    assert ['If-Match: "caf\xe9"'.lower().encode() in head.lower() for head in service.seen] == [False, True, True]
+
+
 def test_a_hundred_batches_at_once(upstream, front):
     service = upstream()
     it = front("--upstream", service.url, "--connections", "10")

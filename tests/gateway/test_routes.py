@@ -82,6 +82,9 @@ def test_a_path_is_normalized_but_for_what_has_a_meaning():
         ["--listen", "1:99999"],
         ["--listen", "a..b:1"], ["--listen", "[::1:1"], ["--listen", "a b:1"], ["--listen", ":"], ["--listen", "a:"],
         ["--metrics", "/health"], ["--metrics", "/health/ready"], ["--upstream", "http://b/"], ["--metrics", "x"], ["--health", "health"], ["--groups", "some"], ["--log", "all"], ["--keep", "nan"], ["--credential", "a b"], ["--no"],
+        ["--max-size", "16777217"], ["--max-size", "0"], ["--deadline", "0"], ["--keep-alive", "0"], ["--keep-alive", "x"],
+        ["--allow", "a b"], ["--allow", "X-Forwarded-For"], ["--allow", "Host"], ["--allow", "Cookie"],
+        ["--allow", "X-Client", "--client-header", "X-Client"],
         ["--send", "Authorization"], ["--send", "a b=/"], ["--send", "Cookie=http://a/"], ["--send", "Cookie=/x/"],
     )),
 ], ids=" ".join)  # fmt: skip
@@ -98,6 +101,14 @@ def test_wrong_arguments(words, capsys):
 def test_addresses(text, address):
     found = options_of(["--upstream", "http://a/", "--listen", text, "--metrics", text])
     assert (found.listen, found.metrics_at) == (address, address)
+
+
+def test_a_batch_has_no_more_bytes_than_a_run_takes(capsys):
+    assert options_of(["--upstream", "http://a/", "--max-size", "16777216"]).max_size == 16_777_216
+    with pytest.raises(SystemExit):
+        options_of(["--upstream", "http://a/", "--max-size", "16777217"])
+    line = capsys.readouterr().err.splitlines()[-1]
+    assert line.endswith("error: argument --max-size: '16777217' is not a whole number from 1 to 16777216")
 
 
 def test_several_services_under_their_own_paths():

@@ -187,10 +187,15 @@ class Front(Asked):
 
         self.gateway = Gateway(options_of([*words, "--log", "none"]))
         self.port = loop.serve(self.gateway.application())
+        self.runner = loop.runners[-1]
         self.url = f"http://127.0.0.1:{self.port}/odata/"
 
     def metrics(self):
         return self.gateway._metrics.text()
+
+    def gone(self):
+        """Whether no client is there any more."""
+        return not self.runner.server.connections
 
 
 class Proxy(Asked):

@@ -2,6 +2,7 @@
 
 import asyncio
 import contextlib
+import itertools
 import time
 from typing import AsyncIterator, Dict, Optional
 
@@ -47,6 +48,8 @@ class Gateway:
         self._credentials = Credentials(options.routes, options.credentials, options.sent)
         self._incoming = Incoming((*options.credentials, *filter(None, [options.client_header]), *dict(options.sent)))
         self._repeatability = Repeatability(options)
+        self._numbers = itertools.count(1)
+        self._all_ended: Optional[asyncio.Event] = None
         self._journals = Journals(options.journal, options.keep) if options.journal else None
 
     @property
@@ -76,6 +79,7 @@ class Gateway:
         """Starts nothing more, and returns once all batches are answered. What runs is waited for until the option
         --grace, or until there is a hurry, and then broken off."""
         self._upstreams.is_stopping = True
+        self._log_event("stopping")
         ends = [asyncio.ensure_future(it) for it in (self._idle(), hurry.wait())]
         await asyncio.wait(ends, timeout=self._options.grace, return_when=asyncio.FIRST_COMPLETED)
         for end in ends:
@@ -83,10 +87,23 @@ class Gateway:
         await self._upstreams.give_up()
         with contextlib.suppress(asyncio.TimeoutError):
             await asyncio.wait_for(self._idle(), 5)
+        self._log_event("stopped")
+
+    def _log_event(self, name: str) -> None:
+        if self._options.log != "none":
+            running = {"batches": self._metrics.batches_running, "requests": self._metrics.requests_running}
+            log_line({"gateway": name, **running})
 
     async def _idle(self) -> None:
+        """Waits until no batch is on its way."""
         while self._metrics.batches_running:
-            await asyncio.sleep(0.01)
+            self._all_ended = asyncio.Event()
+            await self._all_ended.wait()
+
+    def _end_batch(self) -> None:
+        self._metrics.batches_running -= 1
+        if self._all_ended is not None and not self._metrics.batches_running:
+            self._all_ended.set()
 
     async def _opened(self, _: web.Application) -> AsyncIterator[None]:
         await self._upstreams.open()
@@ -146,18 +163,23 @@ class Gateway:
     def _log(
         self, request: web.Request, answer: Answer, code: str, seconds: float, performance: Optional[Performance]
     ) -> None:
-        counts = {"sent": performance.tally.sent, "failed": performance.tally.failed} if performance else {}
+        counts: Dict[str, object] = {}
+        if performance is not None:
+            tally = performance.tally
+            counts = {"number": tally.number, "sent": tally.sent, "failed": tally.failed}
+            counts["journal"] = "repeated" if tally.is_repeated else ""
         size = len(answer.body) if isinstance(answer.body, bytes) else ""
         words = {"batch": request.rel_url.raw_path, "from": request.remote or "", "method": request.method}
-        more = {"status": answer.status, "code": code, **counts, "bytes": size, "ms": f"{1000 * seconds:.1f}"}
-        log_line({**words, **more})
+        client = "gone" if _is_gone(request) else ""
+        more = {"bytes": size, "client": client, "ms": f"{1000 * seconds:.1f}"}
+        log_line({**words, "status": answer.status, "code": code, **counts, **more})
 
     def _performance(self, request: web.Request, headers: Dict[str, str]) -> Performance:
         """How the batch of a request is performed; raises Refusal if it is not one."""
         scheme = headers.get("x-forwarded-proto", "").partition(",")[0].strip().lower()
         scheme = scheme if scheme in ("http", "https") else request.scheme
         host = headers.get("host") or "localhost"  # for a request without one aiohttp would ask the DNS
-        outer = Outer(request.method, scheme, host, folder_of(request.path), "/", headers)
+        outer = Outer(request.method, scheme, host, folder_of(request.path), "/", headers, self._options.allowed)
         peers = filter(None, (headers.get("x-forwarded-for"), request.remote))
         forwarded = {
             "x-forwarded-for": ", ".join(peers),
@@ -166,7 +188,7 @@ class Gateway:
         }
         seen = f"{scheme}://{next(iter(forwarded_hosts(headers)), host)}/"
         services = (self._routes, self._credentials, self._upstreams, self._metrics)
-        return Performance(self._options, *services, outer, forwarded, seen)
+        return Performance(self._options, *services, outer, forwarded, seen, next(self._numbers))
 
     def _headers(self, request: web.Request) -> Dict[str, str]:
         """The headers of a request that hold for its batch."""
@@ -188,13 +210,14 @@ class Gateway:
             batch = await self._read(request)
             self._require_running()
             if self._journals is None or repeatable is None:
-                return performed(await performance.response(batch, None), performance.mode)
+                response = await performance.response(batch, None, lambda: _is_gone(request))
+                return performed(response, performance.mode)
             same = (request.path, str(self._options.forwards), headers.get("prefer", ""))
             parts = {"sender": digest(*map(str.encode, same)), "sent": repeatable.first_sent}
             first = identity(batch=digest(batch), mode=performance.mode, **parts)
             return await self._repeatable(self._journals, repeatable.key, first, batch, performance)
         finally:
-            self._metrics.batches_running -= 1
+            self._end_batch()
 
     def _require_running(self) -> None:
         if self._upstreams.is_stopping:
@@ -207,7 +230,8 @@ class Gateway:
         journal: Optional[FileJournal] = None
         try:
             journal = await journals.journal(key, first)
-            answer = performed(await performance.response(batch, journal), performance.mode)
+            performance.tally.is_repeated = bool(journal.events)
+            answer = performed(await performance.response(batch, journal, lambda: False), performance.mode)
             return answer._replace(headers={**answer.headers, "repeatability-result": "accepted"})
         except Fault:
             raise
@@ -227,6 +251,11 @@ class Gateway:
             raise Refusal(408, "CutBody", "The batch did not come in time") from None
         except Exception:
             raise Refusal(400, "CutBody", "The batch cannot be read to its end") from None
+
+
+def _is_gone(request: web.Request) -> bool:
+    """Whether the client of a request has gone."""
+    return request.transport is None or request.transport.is_closing()
 
 
 def _response(answer: Answer) -> web.Response:

@@ -1,7 +1,6 @@
 """Which service gets the headers by which it knows a client, and which headers are the gateway's own."""
 
 from typing import Dict, FrozenSet, Iterable, Mapping, Sequence, Tuple
-from urllib.parse import urlsplit
 
 from .._messages import header_dict
 from ._routes import Route
@@ -58,7 +57,7 @@ class Credentials:
 
     def __init__(self, routes: Sequence[Route], named: Iterable[str], sent: Sequence[Tuple[str, str]]) -> None:
         names = frozenset(named).union(name for name, _ in sent)
-        self.are_held_back = not sent and len({urlsplit(route.upstream)[:2] for route in routes}) > 1
+        self.are_held_back = not sent and len({route.origin for route in routes}) > 1
         self._withheld: Dict[str, FrozenSet[str]] = {}
         for route in routes:
             own = {name for name, prefix in sent if prefix == route.prefix}

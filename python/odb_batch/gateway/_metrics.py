@@ -8,6 +8,8 @@ from itertools import accumulate
 from typing import Dict, Iterable, Iterator, List, Mapping, Tuple
 from urllib.parse import quote
 
+from .._places import Places
+
 CONTENT_TYPE = "text/plain; version=0.0.4; charset=utf-8"
 # What a value of the log has as it is: printable ASCII but a space.
 _LOGGED = "".join(map(chr, range(0x21, 0x7F)))
@@ -47,6 +49,11 @@ class Metrics:
         self._requests: "Counter[_Labels]" = Counter()
         self._faults: "Counter[_Labels]" = Counter()
         self._batch_seconds, self._request_seconds = _Histogram(), _Histogram()
+        self._queues: Dict[str, Places] = {}
+
+    def watch_queue(self, service: str, places: Places) -> None:
+        """Shows from now on how many requests wait for a place at a service."""
+        self._queues[service] = places
 
     def batch(self, status: int, seconds: float) -> None:
         """Counts a batch that is answered."""
@@ -83,6 +90,9 @@ class Metrics:
             add(name(what), "histogram", help, histogram.samples(name(what)))
         for what, help, value in self._gauges():
             add(name(what), "gauge", help, [f"{name(what)} {value}"])
+        waiting: Dict[_Labels, int] = {(("service", key),): places.waiting for key, places in self._queues.items()}
+        what = name("requests_waiting")
+        add(what, "gauge", "Requests that wait for a connection, by service.", _counted(what, waiting))
         return "\n".join(lines) + "\n"
 
     def _gauges(self) -> Iterator[Tuple[str, str, int]]:

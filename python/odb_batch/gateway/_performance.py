@@ -1,8 +1,9 @@
 """One batch on its way through the gateway: its requests and its groups, as they are sent to services."""
 
+import contextlib
 import re
 import time
-from typing import Collection, Dict, List, NamedTuple, Optional, Tuple
+from typing import Any, AsyncContextManager, Callable, Collection, Dict, List, NamedTuple, Optional, Tuple, Union
 from urllib.parse import urlsplit
 
 from .._endpoint import Outer, Room, folder_of
@@ -23,11 +24,24 @@ _PLACES = ("location", "content-location", "odata-entityid")
 _IS_READ_OTHERWISE = re.compile(r"[$?/]|[A-Za-z][A-Za-z0-9+.-]*:|$").match
 
 
-class Tally:
-    """How many requests of a batch were sent, and how many of these have failed."""
+# What was not sent, by the code of its answer.
+_UNSENT = ("Stopping", "Unreachable")
 
-    def __init__(self) -> None:
+
+class Tally:
+    """What the log says of a batch.
+
+    Attributes:
+        number: The number of the batch in this process.
+        sent: How many requests and groups were sent.
+        failed: How many of those that were sent, or could not be sent, were not answered 2xx or 3xx.
+        is_repeated: Whether it goes on from a journal.
+    """
+
+    def __init__(self, number: int) -> None:
+        self.number = number
         self.sent = self.failed = 0
+        self.is_repeated = False
 
 
 class Performance:
@@ -53,16 +67,25 @@ class Performance:
         outer: Outer,
         forwarded: Dict[str, str],
         seen: str,
+        number: int,
     ) -> None:
         self._options, self._routes, self._credentials = options, routes, credentials
         self._upstreams, self._metrics = upstreams, metrics
         self._outer, self._forwarded, self._seen = outer, forwarded, seen
         self._room = Room(options.max_size)
+        # Found when a place was asked for.
+        self._targets: Dict[str, Optional[Tuple[Route, str]]] = {}
         self.mode = outer.mode
-        self.tally = Tally()
+        self.tally = Tally(number)
 
-    async def response(self, batch: bytes, journal: Optional[Journal]) -> bytes:
-        """Returns the response document; raises as `perform_async` does."""
+    async def response(self, batch: bytes, journal: Optional[Journal], is_gone: Callable[[], bool]) -> bytes:
+        """Returns the response document; raises as `perform_async` does.
+
+        Args:
+            batch: The batch.
+            journal: Its journal, if it may be sent again.
+            is_gone: Whether the client has gone. Then nothing more starts, unless the batch may be sent again.
+        """
         return await perform_async(
             batch,
             self._send,
@@ -71,15 +94,29 @@ class Performance:
             base=self._outer.base,
             roots=self._outer.roots,
             limit=self._options.limit,
-            stop=lambda: self._upstreams.is_stopping,
+            stop=lambda: self._upstreams.is_stopping or (journal is None and is_gone()),
+            deadline=self._options.deadline,
+            gate=self._place,
             groups=self._send_group if self._options.forwards else None,
             journal=journal,
         )
 
+    def _place(self, outgoing: Union[PreparedRequest, PreparedGroup]) -> AsyncContextManager[Any]:
+        """What bounds the requests to the service of a request or a group; nothing if no route takes that."""
+        try:
+            if isinstance(outgoing, PreparedGroup):
+                first = next(request for request in outgoing.requests if request.reference is None)
+                return self._upstreams.place(self._routes.target(first.url)[0])
+            target = self._targets[outgoing.id] = self._routes.target(outgoing.url)
+        except Refusal:
+            return contextlib.AsyncExitStack()
+        return self._upstreams.place(target[0])
+
     async def _send(self, request: PreparedRequest) -> Answer:
         """Sends a request to the service of its route."""
         try:
-            route, url = self._routes.target(request.url)
+            target = self._targets.pop(request.id, None)
+            route, url = self._routes.target(request.url) if target is None else target
             headers = self._headers_for([route], url, self._outer.headers_of(request))
             answer = await self._exchanged(request.id, Outgoing(request.method, url, headers, request.body))
         except Refusal as refusal:
@@ -103,21 +140,22 @@ class Performance:
 
     async def _exchanged(self, id: str, request: Outgoing) -> Answer:
         """Sends a request, and counts and logs it."""
-        began, status = time.perf_counter(), 0
-        self.tally.sent += 1
+        began, status, code = time.perf_counter(), 0, ""
         try:
             answer = await self._upstreams.send(request, self._room)
             status = answer.status
             return answer
         except Refusal as refusal:
-            status = refusal.answer.status
+            status, code = refusal.answer.status, refusal.answer.body["error"]["code"]
             raise
         finally:
+            self.tally.sent += code not in _UNSENT
             self.tally.failed += not 200 <= status < 400
             if self._options.log == "requests":
                 milliseconds = f"{1000 * (time.perf_counter() - began):.1f}"
+                words = {"request": id, "number": self.tally.number, "method": request.method}
                 url = request.url.partition("?")[0]
-                log_line({"request": id, "method": request.method, "url": url, "status": status, "ms": milliseconds})
+                log_line({**words, "url": url, "status": status, "code": code, "ms": milliseconds})
 
     # A group
 
@@ -127,6 +165,9 @@ class Performance:
             sent = self._of_one_service(group)
             headers = self._headers_for(sent.routes, sent.url, self._outer.headers_of_batch())
             answer = await self._exchanged(group.name, Outgoing("POST", sent.url, headers, sent.group.batch()))
+            if answer.status in (404, 405):
+                self._upstreams.say(sent.url, "NoBatch", "no-batch")
+                raise Refusal(502, "NoBatch", f"There is no $batch at {sent.url}")
         except Refusal as refusal:
             raise self._counted(refusal) from None
         except MemberRefused as refused:
@@ -155,7 +196,7 @@ class Performance:
         return _SentGroup(services.pop(), group._replace(requests=tuple(kept)), urls, tuple(routes))
 
     def _member(self, request: Request) -> Tuple[Request, Optional[Route], str]:
-        """A request of a group as its service takes it, and, if it refers to none of the group, its route and its URL."""
+        """A request of a group as its service takes it, and its route and its URL if it refers to none of the group."""
         headers = self._outer.own_headers(request.headers)
         if request.reference is not None:
             return request._replace(headers=headers), None, ""

@@ -6,7 +6,7 @@ from datetime import datetime, timezone
 from typing import Callable, Mapping, NamedTuple, Optional
 
 from .._messages import Refusal
-from ._options import AUTHORIZATION, Options
+from ._options import Options
 
 ID, FIRST_SENT = "repeatability-request-id", "repeatability-first-sent"
 #: By how many seconds the clock of a client may be ahead. Journals are kept so much longer.
@@ -97,6 +97,6 @@ class Repeatability:
         value = headers.get(name, "")
         if not value:
             raise rejected(400, "NoClient", f"The header {name}, which says who the client is, is missing")
-        if name == AUTHORIZATION and value.partition(" ")[0].lower() != "basic":
+        if name == "authorization" and value.partition(" ")[0].lower() != "basic":
             raise rejected(400, "NoClient", "Authorization says who the client is only by Basic: a token is renewed")
         return value

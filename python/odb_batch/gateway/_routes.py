@@ -38,6 +38,11 @@ class Route(NamedTuple):
         """The URL of the service's $batch: in the folder of the upstream URL."""
         return folder_of(self.upstream) + "$batch"
 
+    @property
+    def origin(self) -> str:
+        """The scheme and the host of the upstream URL: what names its service."""
+        return "/".join(self.upstream.split("/", 3)[:3])
+
 
 class Routes:
     """Routes, of which the longest prefix counts."""

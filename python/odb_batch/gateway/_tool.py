@@ -9,7 +9,8 @@ import threading
 import time
 from typing import Sequence, Tuple
 
-from ._options import PROGRAM, Address, Options, options_of
+from ._options import PROGRAM, Options, options_of
+from ._values import Address
 
 # The exit status where the gateway cannot run; wrong arguments end with 2.
 UNUSABLE = 3
@@ -23,7 +24,7 @@ def main(words: Sequence[str]) -> int:
     try:
         import aiohttp  # noqa: F401
     except ImportError:
-        print(f"error: {PROGRAM} needs aiohttp: pip install 'odb-batch[gateway]'", file=sys.stderr)
+        print(f"error: {PROGRAM} needs aiohttp: pip install aiohttp", file=sys.stderr)
         return UNUSABLE
     try:
         asyncio.run(_serve(options))

@@ -2,20 +2,20 @@
 
 import asyncio
 import time
-from typing import Any, Dict, NamedTuple
+from typing import Any, Callable, Dict, NamedTuple
 
 import aiohttp
 from yarl import URL
 
 from .._endpoint import Room
 from .._messages import Answer, Refusal
+from .._places import Places
 from ._decoding import Decoder, headers_of
 from ._metrics import Metrics
 from ._options import Options
 from ._reasons import Reasons, reason_of
+from ._routes import Route
 
-# Shorter than a server keeps a connection without requests, or one might be sent while it closes it.
-_KEEPALIVE = 1.0
 _PART = 65_536
 
 
@@ -35,6 +35,23 @@ class Outgoing(NamedTuple):
     body: bytes
 
 
+class _Place:
+    """A place, and a line of the log if none was free in time."""
+
+    def __init__(self, places: Places, say: Callable[[], None]) -> None:
+        self._places, self._say = places, say
+
+    async def __aenter__(self) -> None:
+        try:
+            await self._places.__aenter__()
+        except Refusal:
+            self._say()
+            raise
+
+    async def __aexit__(self, *ended: Any) -> None:
+        await self._places.__aexit__(*ended)
+
+
 class Upstreams:
     """The services behind a gateway.
 
@@ -45,12 +62,15 @@ class Upstreams:
     def __init__(self, options: Options, metrics: Metrics) -> None:
         self._options, self._metrics = options, metrics
         self._reasons = Reasons(options.log != "none")
+        self._places: Dict[str, Places] = {}
         self.is_stopping = self._is_given_up = False
 
     async def open(self) -> None:
         """Makes what belongs to the running loop."""
-        self._places = asyncio.Semaphore(self._options.connections)
-        self._connector = aiohttp.TCPConnector(limit=0, keepalive_timeout=_KEEPALIVE)
+        for service in dict.fromkeys(route.origin for route in self._options.routes):
+            self._places[service] = Places(self._options.connections, self._options.timeout)
+            self._metrics.watch_queue(service, self._places[service])
+        self._connector = aiohttp.TCPConnector(limit=0, keepalive_timeout=self._options.keep_alive)
         tracing = aiohttp.TraceConfig()
         tracing.on_request_headers_sent.append(_sent_once)
         # Tracing takes its time, so no other request is traced.
@@ -81,44 +101,56 @@ class Upstreams:
         self._is_given_up = True
         await self._connector.close()
 
+    def place(self, route: Route) -> _Place:
+        """Returns what bounds how many requests are on their way to the service of a route: each has a place before it
+        is sent, and is 503 ``Busy`` after the time-out of waiting."""
+        return _Place(self._places[route.origin], lambda: self._note_busy(route))
+
+    def _note_busy(self, route: Route) -> None:
+        self._metrics.fault("Busy")
+        self.say(route.upstream, "Busy", "connections")
+
+    def say(self, url: str, code: str, reason: str, detail: object = "") -> None:
+        """Says in the log why there is no answer from a URL."""
+        self._reasons.say(url, code, reason, detail)
+
     async def send(self, request: Outgoing, room: Room) -> Answer:
-        """Sends a request, and returns its answer with whole body.
+        """Sends a request, which has its place, and returns its answer with whole body.
 
         Raises:
             Refusal: It was not sent: 503 ``Stopping`` or ``Unreachable``. There is no answer: 504 ``Timeout`` or
                 ``Stopped``, or 502 ``BadGateway``. It cannot be shown: 502 ``Encoded``, or 507 ``TooLong`` for a GET.
         """
-        async with self._places:
-            if self.is_stopping:
-                raise Refusal(503, "Stopping", "The gateway stops, and has not sent the request", retry_after="1")
-            self._metrics.requests_running += 1
-            began, status = time.perf_counter(), 500
-            try:
-                answer = await self._answer(request, room)
-                status = answer.status
-                return answer
-            except Refusal as refusal:
-                status = refusal.answer.status
-                raise
-            finally:
-                self._metrics.requests_running -= 1
-                self._metrics.request(request.method, status, time.perf_counter() - began)
+        if self.is_stopping:
+            raise Refusal(503, "Stopping", "The gateway stops, and has not sent the request", retry_after="1")
+        self._metrics.requests_running += 1
+        began, status = time.perf_counter(), 500
+        try:
+            answer = await self._answer(request, room)
+            status = answer.status
+            return answer
+        except Refusal as refusal:
+            status = refusal.answer.status
+            raise
+        except asyncio.CancelledError:
+            status = 504  # the deadline of the batch
+            raise
+        finally:
+            self._metrics.requests_running -= 1
+            self._metrics.request(request.method, status, time.perf_counter() - began)
 
     async def _answer(self, request: Outgoing, room: Room) -> Answer:
         try:
             return room.fit(request.method, await self._exchanged(request, room))
         except Refusal as refusal:
             if refusal.answer.status == 502:
-                self._say(request, refusal, "answer", refusal)
+                self.say(request.url, _code(refusal), "answer", refusal)
             raise
         except (asyncio.TimeoutError, aiohttp.ClientError, OSError) as error:
             found = self._refusal(error)
-            if found.answer.body["error"]["code"] != "Stopped":
-                self._say(request, found, reason_of(error), f"{type(error).__name__}: {error}")
+            if not self._is_given_up:
+                self.say(request.url, _code(found), reason_of(error), f"{type(error).__name__}: {error}")
             raise found from None
-
-    def _say(self, request: Outgoing, refusal: Refusal, reason: str, detail: object) -> None:
-        self._reasons.say(request.url, refusal.answer.body["error"]["code"], reason, detail)
 
     def _refusal(self, error: BaseException) -> Refusal:
         """What stands for an answer that has not come."""
@@ -140,6 +172,10 @@ class Upstreams:
             if not 200 <= answer.status <= 599:
                 raise Refusal(502, "BadGateway", f"The service has answered with the status {answer.status}")
             return Answer(answer.status, headers_of(answer.headers.items()), await _body(answer, room))
+
+
+def _code(refusal: Refusal) -> str:
+    return str(refusal.answer.body["error"]["code"])
 
 
 async def _body(answer: aiohttp.ClientResponse, room: Room) -> bytes:
