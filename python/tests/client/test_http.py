@@ -23,7 +23,7 @@ def by_requests(url):
         with requests.Session() as session:
 
             def post(document):
-                return session.post(url, data=document, headers=headers(), timeout=5)
+                return session.post(url, data=document, headers=headers(), timeout=60)
 
             return batch.send(post, **options)
 
@@ -35,7 +35,7 @@ def by_httpx(url):
     httpx = pytest.importorskip("httpx", reason="httpx is not installed")
 
     async def send(batch, options):
-        async with httpx.AsyncClient(timeout=5) as client:
+        async with httpx.AsyncClient(timeout=60) as client:
 
             async def post(document):
                 answer = await client.post(url, content=document, headers=headers())
@@ -103,7 +103,7 @@ def test_the_lending_library(client, limit, tmp_path):
     assert str(RequestFailed(results[late])).startswith(f"{late.id} 412 ")
 
 
-def posts_of_requests(url, timeout=5, **options):
+def posts_of_requests(url, timeout=60, **options):
     """Sends a batch by a function that returns the response of requests."""
     requests = pytest.importorskip("requests", reason="requests is not installed")
 
@@ -118,7 +118,7 @@ def posts_of_requests(url, timeout=5, **options):
     return send
 
 
-def posts_of_httpx(url, timeout=5):
+def posts_of_httpx(url, timeout=60):
     """Sends a batch by a function that returns the response of httpx."""
     httpx = pytest.importorskip("httpx", reason="httpx is not installed")
 
@@ -129,7 +129,7 @@ def posts_of_httpx(url, timeout=5):
     return send
 
 
-def awaits_of_httpx(url, timeout=5):
+def awaits_of_httpx(url, timeout=60):
     """Sends a batch by a function that returns a promise of the response of httpx."""
     httpx = pytest.importorskip("httpx", reason="httpx is not installed")
 
