@@ -40,7 +40,8 @@ def answer_to(error: BaseException, what: str) -> Answer:
 
 
 def checked(answered: Any) -> Answer:
-    """Returns what was answered, with header names in lower case. A status below 200 or above 599 becomes 502.
+    """Returns what was answered, with header names in lower case and values in Unicode. A status below 200 or above 599
+    becomes 502.
 
     Raises:
         TypeError: It is not a status with headers, whose names and values are strings, and a body.
@@ -50,7 +51,32 @@ def checked(answered: Any) -> Answer:
         raise TypeError(f"a status is a whole number, not {status!r}")
     if not hasattr(headers, "items"):
         raise TypeError(f"headers are a mapping, not {headers!r}")
-    return Answer(int(status) if 200 <= status <= 599 else 502, header_dict(headers.items()), body)
+    return Answer(int(status) if 200 <= status <= 599 else 502, _legible(header_dict(headers.items())), body)
+
+
+def _legible(headers: Dict[str, str]) -> Dict[str, str]:
+    """Returns headers that a document can have. Bytes that a client has read by surrogateescape are Latin-1 (RFC 9110,
+    section 5.5); a header with any other half of a surrogate pair is left out."""
+    if all(name.isascii() and value.isascii() for name, value in headers.items()):
+        return headers
+    found = {}
+    for name, value in headers.items():
+        try:
+            if not _is_unicode(value):
+                value = value.encode("utf-8", "surrogateescape").decode("latin-1")
+            name.encode()
+            found[name] = value
+        except UnicodeEncodeError:
+            LOG.warning("the header %a of an answer is not Unicode, and is left out", name)
+    return found
+
+
+def _is_unicode(text: str) -> bool:
+    try:
+        text.encode()
+    except UnicodeEncodeError:
+        return False
+    return True
 
 
 def shown(answer: Answer) -> Dict[str, str]:

@@ -204,13 +204,12 @@ def too_long(size: int) -> Refusal:
 
 
 def refused(error: Exception) -> Answer:
-    """Returns the answer to a batch that is refused as a whole: that of a Refusal, or 400 with what a Fault says."""
+    """Returns the answer to a batch that is refused as a whole: that of a Refusal, or 400 with the message of a Fault."""
     if isinstance(error, Refusal):
         return error.answer
     if not isinstance(error, Fault):
         raise error
-    message = f"{error.name}: {' '.join(error.explanation.split())}"
-    return Refusal(400, error.code, message, error.place).answer
+    return Refusal(400, error.code, error.message, error.place).answer
 
 
 def performed(response: bytes, mode: Mode) -> Answer:

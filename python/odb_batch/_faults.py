@@ -5,6 +5,7 @@ from typing import NamedTuple, Optional
 
 from . import _library
 from ._explanations import EXPLANATIONS
+from ._findings import finding
 
 
 class _Position(NamedTuple):
@@ -61,6 +62,21 @@ class Fault(OdbError, ValueError):
     def __init__(self, code: str, name: str, place: str) -> None:
         super().__init__(code, name, place)
         self.place = place
+
+    @property
+    def message(self) -> str:
+        """What is wrong, for people: the id of the request and the name that is wrong, where there are any, then the
+        name of the fault and its explanation.
+
+        >>> from odb_batch import Fault, check
+        >>> try:
+        ...     check({"requests": [{"id": "a", "method": "get", "url": "A", "dependsOn": ["b"]}]})
+        ... except Fault as fault:
+        ...     print(fault.message[:54])
+        a: "b" in dependsOn is unknown. UnknownName: A name in
+        """
+        found = "" if self._document is None else finding(self.code, self._document, self.place)
+        return f"{found}{self.name}: {' '.join(self.explanation.split())}"
 
     @cached_property
     def _position(self) -> Optional[_Position]:

@@ -52,11 +52,14 @@ class Service:
             is the base, and no URLs if it may be anything.
 
     Raises:
+        TypeError: A URL is not a string.
         ValueError: A URL does not end with /.
     """
 
     def __init__(self, base: str, roots: Optional[Sequence[str]] = None) -> None:
         for url in (base, *(roots or ())):
+            if not isinstance(url, str):
+                raise TypeError(f"a base or a root must be a URL, not {url!r}")
             if url and (not url.endswith("/") or urlsplit(url).query or urlsplit(url).fragment):
                 raise ValueError(f"a base or a root must be a URL that ends with /, not {url!r}")
         self.base = base

@@ -17,6 +17,12 @@ from ._runs import Run
 from ._urls import Service
 
 
+def require_limit(limit: int) -> None:
+    """Raises ValueError if no batch may have as many requests."""
+    if isinstance(limit, bool) or not isinstance(limit, int) or limit < 1:
+        raise ValueError(f"limit must be a whole number above 0, not {limit!r}")
+
+
 class Unit:
     """An atomicity group, or a request without one, that has begun.
 
@@ -84,6 +90,7 @@ class Work:
         sends_groups: bool = False,
         journal: Optional[Journal] = None,
     ) -> None:
+        require_limit(limit)
         document = bytes_of(batch)
         given = requests(document)
         if len(given) > limit:
@@ -295,15 +302,25 @@ class Work:
     def _report_unread(
         self, id: str, answer: Answer, headers: Dict[str, str], text: bytes
     ) -> Tuple[Dict[str, str], bytes]:
-        """Reports an answer that the run cannot read: a body that is not JSON as a string, headers in ASCII alone.
-        Returns what it has reported."""
-        LOG.warning("the answer to %s has a body that is not JSON, or a header that is not Unicode", id)
+        """Reports an answer that the run cannot read: with its body as a string, or else without the headers that are
+        not in ASCII, or both. Returns what it has reported."""
         wire = bytes(answer.body) if isinstance(answer.body, (bytes, bytearray, memoryview)) else text
-        kept = {name: value for name, value in headers.items() if name.isascii() and value.isascii()}
         string = as_text(wire, {}) if wire else b""
         string = string if len(string) <= MOST_BYTES else b""
-        self._run.report(id, answer.status, kept or None, string)
-        return kept, string
+        plain = {name: value for name, value in headers.items() if name.isascii() and value.isascii()}
+        for heads, body in ((headers, string), (plain, text), (plain, string)):
+            try:
+                self._run.report(id, answer.status, heads or None, body)
+            except Fault:
+                if (heads, body) == (plain, string):
+                    raise
+                continue
+            if heads != headers:
+                LOG.warning("the answer to %s has a header that is not Unicode", id)
+            if body != text:
+                LOG.warning("the answer to %s has a body that is not JSON", id)
+            break
+        return heads, body
 
     def response(self) -> bytes:
         """Returns the response document of the finished run.

@@ -21,6 +21,7 @@ from ._messages import Answer, PreparedRequest, Refusal, header_dict
 from ._perform_async import TransactionAsync, perform_async
 from ._places import Places
 from ._room import Reading, Room, memory_of
+from ._work import require_limit
 
 __all__ = ["BatchMiddleware"]
 
@@ -88,6 +89,7 @@ class BatchMiddleware:
     ) -> None:
         if at_once < 1:
             raise ValueError(f"at_once must be at least 1, not {at_once!r}")
+        require_limit(limit)
         policy("stop", width)  # refuses a width that no run may have
         self.app, self.path, self.width, self.stop, self.inspect = app, path, width, stop, inspect
         self.transaction = None if transaction is None else _asynchronous(transaction)

@@ -19,6 +19,7 @@ from ._faults import Fault
 from ._messages import Answer, PreparedRequest, Refusal, header_dict
 from ._perform import Transaction, perform
 from ._room import Reading, Room, memory_of
+from ._work import require_limit
 
 __all__ = ["BatchMiddleware"]
 
@@ -103,6 +104,7 @@ class BatchMiddleware:
         inspect: Optional[Callable[[PreparedRequest], None]] = None,
         stop: Optional[Callable[[], bool]] = None,
     ) -> None:
+        require_limit(limit)
         policy("stop", width)  # refuses a width that no run may have
         self.app, self.path, self.transaction, self.width, self.stop = app, path, transaction, width, stop
         self.timeout, self.deadline = seconds_of("timeout", timeout), seconds_of("deadline", deadline)

@@ -116,9 +116,14 @@ class TestRefused:
             "POST", "/odata/$batch", JSON, b'{"requests":[{"id":"1","method":"post","url":"/odata/$batch"}]}'
         )
         error = json.loads(text)["error"]
-        assert (error["code"], error["target"]) == ("F22", "/requests/0") and error["message"].startswith(
-            "NestedBatch: "
-        )
+        assert (error["code"], error["target"]) == ("F22", "/requests/0")
+        assert error["message"].startswith("1: NestedBatch: ")
+
+    def test_says_which_name_is_wrong(self, service):
+        requests = [{"id": id, "method": "get", "url": url} for id, url in [("lines", "Lines"), ("order", "$lines/Order")]]
+        _, _, text = service.ask("POST", "/odata/$batch", JSON, json.dumps({"requests": requests}).encode())
+        message = json.loads(text)["error"]["message"]
+        assert message.startswith('order: "lines" is not listed in dependsOn. ReferenceNotListed: The URL refers')
 
     def test_too_many_requests(self, over):
         requests = [{"id": str(k), "method": "get", "url": "price"} for k in range(4)]
@@ -290,6 +295,7 @@ class TestInspections:
 class TestOptions:
     @pytest.mark.parametrize("options, line", [
         ({"timeout": 0}, "timeout must be above 0, or None, not 0"), ({"deadline": -1}, "deadline must be above 0, or None, not -1"),
+        ({"limit": 0}, "limit must be a whole number above 0, not 0"), ({"limit": True}, "limit must be a whole number above 0, not True"),
         ({"memory": 5}, "memory must be at least max_size, 16777216, not 5"),
     ])  # fmt: skip
     def test_that_are_wrong(self, over, options, line):

@@ -248,9 +248,15 @@ class TestFailures:
 
     @pytest.mark.parametrize("option", [
         {"width": 0}, {"width": 10_001}, {"mode": "half"}, {"base": "http://h/odata"}, {"base": "http://h/?x=/"}, {"roots": ["x"]},
+        {"limit": True}, {"limit": 1.5}, {"limit": 0}, {"limit": -1},
     ])  # fmt: skip
     def test_wrong_options(self, driver, option):
         with pytest.raises(ValueError):
+            driver(gets("a"), lambda it: pytest.fail("sent"), **option)
+
+    @pytest.mark.parametrize("option", [{"base": 5}, {"base": b"http://h/"}, {"roots": [5]}])
+    def test_options_that_are_no_urls(self, driver, option):
+        with pytest.raises(TypeError, match="a base or a root must be a URL, not"):
             driver(gets("a"), lambda it: pytest.fail("sent"), **option)
 
     def test_a_batch_that_is_refused(self, driver):

@@ -25,15 +25,15 @@ class TestExamples(ServiceTest):
             status, value = self.client.ask("POST", BATCH_URL, example(name), CONTINUE)
             assert (status, match(example(name), value)) == (200, wanted), name
 
-    @pytest.mark.parametrize("name, code, word, place", [
-        ("batch_too_early", "F41", "ForwardName", "/requests/0"),
-        ("batch_wrong_body", "F21", "BadBody", "/requests/1"),
+    @pytest.mark.parametrize("name, code, begins, place", [
+        ("batch_too_early", "F41", 'bill: "order" in dependsOn does not come before it. ForwardName: ', "/requests/0"),
+        ("batch_wrong_body", "F21", "note: BadBody: ", "/requests/1"),
     ])  # fmt: skip
-    def test_refuses_the_other_batches_of_the_examples(self, name, code, word, place):
+    def test_refuses_the_other_batches_of_the_examples(self, name, code, begins, place):
         status, value = self.client.ask("POST", BATCH_URL, example(name))
         error = value["error"]
         assert (status, error["code"], error["target"]) == (400, code, place)
-        assert error["message"].startswith(f"{word}: ")
+        assert error["message"].startswith(begins)
 
 
 class TestGroups(ServiceTest):

@@ -40,7 +40,8 @@ class TestRefusals(ClientTest):
         status, value = self.client.ask("POST", BATCH_URL, document)
         error = value["error"]
         assert (status, error["code"], error["target"]) == (400, code, place)
-        assert error["message"].startswith(f"{name}: ")
+        # It begins with the id of the request, if there is one.
+        assert error["message"].startswith(f"{'a: ' if code == 'F22' else ''}{name}: ")
 
     @pytest.mark.parametrize("path, size", [(BATCH_URL, MAX_BODY), ("/library/Books", 2**20)], ids=["batch", "alone"])
     @pytest.mark.parametrize("sends_all", [False, True])
