@@ -1,7 +1,9 @@
 """When a batch has to be over, and when a request: by the clock of the running loop."""
 
 import asyncio
-from typing import Any, Optional
+from typing import Any, Awaitable, Optional, TypeVar
+
+_Result = TypeVar("_Result")
 
 
 class Deadline:
@@ -47,3 +49,16 @@ def uncancel(task: "Optional[asyncio.Task[Any]]") -> int:
     """Takes one cancel of a task back; returns how many are left. Until Python 3.11 nobody counts them."""
     left: int = getattr(task, "uncancel", int)()
     return left
+
+
+async def within(seconds: float, result: Awaitable[_Result]) -> _Result:
+    """Returns what something results in; raises asyncio.TimeoutError if that takes longer."""
+    timer = Timer(seconds)
+    try:
+        return await result
+    except asyncio.CancelledError:
+        if timer.end():
+            raise asyncio.TimeoutError from None
+        raise
+    finally:
+        timer.end()

@@ -13,7 +13,7 @@ from typing import Any, Awaitable, Callable, Dict, Iterable, List, MutableMappin
 from urllib.parse import quote, unquote, urlsplit
 
 from ._answers import LOG
-from ._clocks import uncancel
+from ._clocks import uncancel, within
 from ._commands import policy
 from ._endpoint import Outer, folder_of, message_of, names_of, performed, refused, root_of, seconds_of, too_long
 from ._faults import Fault
@@ -30,6 +30,8 @@ _Message = MutableMapping[str, Any]
 _Receive = Callable[[], Awaitable[_Message]]
 _Send = Callable[[_Message], Awaitable[None]]
 _App = Callable[[Any, Any, Any], Awaitable[None]]
+# For how many seconds the body of a batch is waited for.
+_READ_SECONDS = 30.0
 
 
 class BatchMiddleware:
@@ -120,7 +122,10 @@ class BatchMiddleware:
         folder, root = prefix + folder_of(self.path), prefix + self.root
         scheme, host = scope.get("scheme", "http"), headers.get("host", "")
         outer = Outer(scope["method"], scheme, host, folder, root, headers, self.allowed)
-        batch = await self._read(receive, room)
+        try:
+            batch = await within(_READ_SECONDS, self._read(receive, room))
+        except asyncio.TimeoutError:
+            raise Refusal(408, "CutBody", "The batch did not come in time") from None
         with _Client(receive) as client:
             response = await perform_async(
                 batch,
@@ -241,7 +246,7 @@ class _Inner:
             except Exception:
                 # Starlette answers 500, and raises the exception again for the log of the server. After a success it is
                 # that of a commit.
-                if reading.refusal is None and (not exchange.is_complete or exchange.answer().is_success):
+                if reading.refusal is None and (not exchange.is_complete or exchange.is_success):
                     raise
             return exchange.answer()
 
@@ -276,6 +281,7 @@ class _Exchange:
 
     Attributes:
         is_complete: Whether the answer has come to its end.
+        is_success: Whether its status is one from 200 to 299.
     """
 
     def __init__(self, body: bytes, reading: Reading) -> None:
@@ -288,6 +294,11 @@ class _Exchange:
     @property
     def is_complete(self) -> bool:
         return self._completed.is_set()
+
+    @property
+    def is_success(self) -> bool:
+        status: int = self._begun.get("status", 500)
+        return 200 <= status <= 299
 
     async def receive(self) -> _Message:
         if not self._incoming:

@@ -8,16 +8,7 @@ import pytest
 
 from odb_batch import Stop, _perform, perform, perform_async
 from odb_batch._places import Places
-from support.performing import Ledger, Memory, gets, shown
-
-
-class Clock:
-    """The clock of the running loop, which an hour later shows what is due then."""
-
-    def __init__(self):
-        loop, self.is_later = asyncio.get_running_loop(), False
-        clock = loop.time
-        loop.time = lambda: clock() + 3600 * self.is_later
+from support.performing import Clock, Ledger, Memory, gets, shown
 
 
 def over(batch, **options):

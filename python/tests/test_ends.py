@@ -9,6 +9,7 @@ import pytest
 
 from odb_batch import asgi
 from support.applications import CONTINUE, OverAsgi, batch
+from support.performing import Clock
 
 START = {"type": "http.response.start", "status": 200, "headers": [(b"content-type", b"text/plain")]}
 
@@ -111,6 +112,15 @@ class TestMemory:
         assert (status, json.loads(text)["error"]["code"], headers["retry-after"]) == (503, "Busy", "1")
         assert service.middleware.budget.used == 90
 
+    def test_what_fails_after_its_answer_gives_its_memory_back(self):
+        async def app(scope, receive, send):
+            await plain(send, b"x" * 150)
+            raise RuntimeError("as planned")
+
+        service = over(app, max_size=300, width=1)
+        found = batch(service, *[{"url": "a"}] * 3)
+        assert [it["status"] for it in found.values()] == [500, 500, 500]
+
     def test_is_held_until_the_answer_is_sent(self):
         async def main():
             used = []
@@ -190,6 +200,27 @@ class TestClientsThatLeave:
             return sent[1]["body"]
 
         assert b'"status":200' in asyncio.run(main()) and "does not say whether" in caplog.text
+
+
+class TestBatchesThatDoNotCome:
+    def test_are_waited_for_no_longer_than_they_may(self):
+        async def main():
+            clock, sent = Clock(), []
+
+            async def receive():
+                if not clock.is_later:
+                    clock.is_later = True
+                    return {"type": "http.request", "body": b"{", "more_body": True}
+                await asyncio.Event().wait()
+
+            async def send(message):
+                sent.append(message)
+
+            middleware = asgi.BatchMiddleware(None)
+            await middleware(scope_of(), receive, send)
+            return sent[0]["status"], middleware.budget.used
+
+        assert asyncio.run(main()) == (408, 0)
 
 
 class TestDeadlines:

@@ -3,10 +3,11 @@
 import base64
 import json
 import secrets
+import socket
 
 import pytest
 
-from support.servers import CONTINUE
+from support.servers import CONTINUE, until
 
 
 @pytest.fixture(scope="module", params=["odd_flask", "odd_fastapi", "odd_django"])
@@ -52,6 +53,12 @@ def test_answers_of_every_kind(odd):
     assert [it["status"] for it in found.values()] == [200, 200, 200, 500]
 
 
+def test_an_answer_that_does_not_end(odd):
+    """It is ended, and the next request is answered."""
+    for _ in range(4):
+        assert odd.statuses({"url": "events"}, {"url": "text"}) == [507, 200]
+
+
 class TestFastapi:
     @pytest.fixture(scope="class")
     def app(self, serve):
@@ -59,6 +66,24 @@ class TestFastapi:
 
     def test_a_request_that_takes_too_long(self, app):
         assert app.statuses({"url": "slow"}, {"url": "echo"}, {"url": "echo", "dependsOn": ["r0"]}) == [504, 200, 424]
+
+    def test_a_client_that_leaves(self, serve):
+        """Nothing more of its batch starts; what runs comes to its end."""
+        app = serve("odd_fastapi")
+        chain = [{"id": str(k), "method": "delete", "url": f"held/{k}", "dependsOn": [str(k - 1)] if k else []} for k in range(4)]
+        batch = json.dumps({"requests": chain}).encode()
+        head = f"POST /odata/$batch HTTP/1.1\r\nHost: a\r\nContent-Type: application/json\r\nContent-Length: {len(batch)}\r\n\r\n"
+
+        def seen(name):
+            return json.loads(app.ask("GET", "/odata/held")[2])[name]
+
+        with socket.create_connection(("127.0.0.1", app.port)) as client:
+            client.sendall(head.encode() + batch)
+            until(lambda: seen("held") == ["0"])
+        until(lambda: any("has gone" in line for line in seen("lines")))
+        app.ask("DELETE", "/odata/held/release")
+        until(lambda: "0" in seen("done"))
+        assert seen("held") == ["0", "release"]
 
     def test_a_file(self, app):
         assert app.batch({"url": "file"})["r0"]["body"].startswith('"""Answers of every kind in FastAPI')

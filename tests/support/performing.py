@@ -83,3 +83,12 @@ class Memory:
     async def sync(self):
         await asyncio.sleep(0)
         self.synced = len(self.written)
+
+
+class Clock:
+    """The clock of the running loop, which an hour later shows what is due then."""
+
+    def __init__(self):
+        loop, self.is_later = asyncio.get_running_loop(), False
+        clock = loop.time
+        loop.time = lambda: clock() + 3600 * self.is_later

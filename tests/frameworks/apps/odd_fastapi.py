@@ -3,6 +3,7 @@ own.
 """
 
 import asyncio
+import logging
 import os
 
 from fastapi import BackgroundTasks, Depends, FastAPI, Request, Response
@@ -13,6 +14,17 @@ from odb_batch.asgi import BatchMiddleware
 
 app = FastAPI()
 committed = []
+# The requests that wait for a release, those that were released, and what the package has logged.
+held, done, lines = [], [], []
+
+
+class Lines(logging.Handler):
+    def emit(self, record):
+        lines.append(record.getMessage())
+
+
+logging.getLogger("odb_batch").addHandler(Lines())
+logging.getLogger("odb_batch").setLevel(logging.INFO)
 
 
 async def unit_of_work():
@@ -44,6 +56,28 @@ async def stream():
             await asyncio.sleep(0.01)
 
     return StreamingResponse(parts(), media_type="text/plain")
+
+
+@app.get("/odata/events")
+async def events():
+    async def parts():
+        while True:
+            yield b"data: now\n\n" * 10_000
+
+    return StreamingResponse(parts(), media_type="text/event-stream")
+
+
+@app.delete("/odata/held/{name}")
+async def hold(name):
+    held.append(name)
+    while "release" not in held:
+        await asyncio.sleep(0.01)
+    done.append(name)
+
+
+@app.get("/odata/held")
+async def shown():
+    return {"held": held, "done": done, "lines": lines}
 
 
 @app.get("/odata/file")

@@ -1,5 +1,6 @@
 """Answers of every kind in Flask."""
 
+import itertools
 import time
 
 from flask import Flask, request
@@ -34,6 +35,11 @@ def text():
 @app.get("/odata/stream")
 def stream():
     return app.response_class((f"part {k}\n" for k in range(3)), mimetype="text/plain")
+
+
+@app.get("/odata/events")
+def events():
+    return app.response_class((b"data: now\n\n" * 10_000 for _ in itertools.count()), mimetype="text/event-stream")
 
 
 @app.get("/odata/fail")
