@@ -130,11 +130,13 @@ def test_a_short_answer_that_stands_for_a_long_one(raw, front, method, status):
     )
 
 
-def test_a_decoder_makes_no_more_than_was_asked():
+def test_a_decoder_makes_little_at_once():
     pytest.importorskip("aiohttp")
     from odb_batch.gateway._decoding import Decoder
 
-    assert len(Decoder("gzip").decode(gzip.compress(b"x" * 10_000_000), 1_000)) == 1_000
+    parts = Decoder("gzip").parts(gzip.compress(b"x" * 10_000_000))
+    assert [len(next(parts)) for _ in range(9)] == [65_536] * 9
+    assert len(b"".join(Decoder("deflate").parts(zlib.compress(b"x" * 10_000_000)))) == 10_000_000
 
 
 # Reasons

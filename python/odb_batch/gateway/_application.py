@@ -4,7 +4,7 @@ import asyncio
 import contextlib
 import itertools
 import time
-from typing import AsyncIterator, Dict, Optional
+from typing import AsyncIterator, Awaitable, Dict, Optional
 
 from aiohttp import web
 
@@ -12,6 +12,7 @@ from .._answers import FAILED, LOG
 from .._endpoint import Outer, folder_of, forwarded_hosts, message_of, performed, refused, too_long
 from .._faults import Fault
 from .._messages import Answer, Refusal
+from .._room import Budget, Room
 from ._credentials import Credentials, Incoming
 from ._journal import FileJournal, Journals
 from ._lines import digest, identity
@@ -24,6 +25,8 @@ from ._upstreams import Upstreams
 
 # For how many seconds the body of a batch is waited for.
 _READ_SECONDS = 30.0
+# For how many seconds a client may take to read a response.
+_WRITE_SECONDS = 300.0
 # How often old journals are looked for, in seconds; those that are kept for days less often.
 _PRUNE_SECONDS = 60.0
 _PRUNED_WHILE_KEPT = 24
@@ -41,9 +44,9 @@ class Gateway:
 
     def __init__(self, options: Options) -> None:
         self._options = options
-        self._metrics = Metrics(
-            {"batches": options.batches, "connections": options.connections, "width": options.width}
-        )
+        self._budget = Budget(options.memory)
+        limits = {"batches": options.batches, "connections": options.connections, "width": options.width}
+        self._metrics = Metrics(limits, self._budget)
         self._routes, self._upstreams = Routes(options.routes), Upstreams(options, self._metrics)
         self._credentials = Credentials(options.routes, options.credentials, options.sent)
         self._incoming = Incoming((*options.credentials, *filter(None, [options.client_header]), *dict(options.sent)))
@@ -60,7 +63,7 @@ class Gateway:
 
     def application(self) -> web.Application:
         """Returns the application that answers batches."""
-        app = web.Application(client_max_size=self._options.max_size + 1)
+        app = web.Application()
         app.router.add_get(self._options.health, self._alive)
         app.router.add_get(self._options.health + "/ready", self._ready)
         if self._options.metrics_path:
@@ -138,14 +141,26 @@ class Gateway:
     # Batches
 
     async def _answer(self, request: web.Request) -> web.Response:
-        """Answers a request, counts it and writes a line of the log."""
+        """Answers a request."""
         if not request.path.endswith("/$batch"):
             return _response(Refusal(404, "NotFound", "Only $batch is answered here").answer)
+        # A response that is not sent yet is still in memory.
+        with Room(self._options.max_size, self._budget) as room:
+            response = _response(await self._answer_batch(request, room))
+            try:
+                await asyncio.wait_for(_send(request, response), _WRITE_SECONDS)
+            except (ConnectionError, asyncio.TimeoutError):
+                if request.transport is not None:
+                    request.transport.abort()
+        return response
+
+    async def _answer_batch(self, request: web.Request, room: Room) -> Answer:
+        """Returns what a batch is answered; counts it and writes a line of the log."""
         began, code, performance = time.perf_counter(), "", None
         try:
             headers = self._headers(request)
-            performance = self._performance(request, headers)
-            answer = await self._performed(request, headers, performance)
+            performance = self._performance(request, headers, room)
+            answer = await self._performed(request, headers, room, performance)
         except (Fault, Refusal) as error:
             answer = refused(error)
         except Exception as error:
@@ -158,7 +173,7 @@ class Gateway:
         self._metrics.batch(answer.status, seconds)
         if self._options.log != "none":
             self._log(request, answer, code, seconds, performance)
-        return _response(answer)
+        return answer
 
     def _log(
         self, request: web.Request, answer: Answer, code: str, seconds: float, performance: Optional[Performance]
@@ -174,7 +189,7 @@ class Gateway:
         more = {"bytes": size, "client": client, "ms": f"{1000 * seconds:.1f}"}
         log_line({**words, "status": answer.status, "code": code, **counts, **more})
 
-    def _performance(self, request: web.Request, headers: Dict[str, str]) -> Performance:
+    def _performance(self, request: web.Request, headers: Dict[str, str], room: Room) -> Performance:
         """How the batch of a request is performed; raises Refusal if it is not one."""
         scheme = headers.get("x-forwarded-proto", "").partition(",")[0].strip().lower()
         scheme = scheme if scheme in ("http", "https") else request.scheme
@@ -188,7 +203,7 @@ class Gateway:
         }
         seen = f"{scheme}://{next(iter(forwarded_hosts(headers)), host)}/"
         services = (self._routes, self._credentials, self._upstreams, self._metrics)
-        return Performance(self._options, *services, outer, forwarded, seen, next(self._numbers))
+        return Performance(self._options, *services, outer, forwarded, seen, room, next(self._numbers))
 
     def _headers(self, request: web.Request) -> Dict[str, str]:
         """The headers of a request that hold for its batch."""
@@ -199,7 +214,9 @@ class Gateway:
             raise Refusal(400, "BadHeader", "The URL or a header has bytes that are not UTF-8") from None
         return headers
 
-    async def _performed(self, request: web.Request, headers: Dict[str, str], performance: Performance) -> Answer:
+    async def _performed(
+        self, request: web.Request, headers: Dict[str, str], room: Room, performance: Performance
+    ) -> Answer:
         """Performs a batch; raises what it is refused by."""
         self._require_running()
         if self._metrics.batches_running >= self._options.batches:
@@ -207,7 +224,7 @@ class Gateway:
         repeatable = self._repeatability.of(headers)
         self._metrics.batches_running += 1
         try:
-            batch = await self._read(request)
+            batch = await self._read(request, room)
             self._require_running()
             if self._journals is None or repeatable is None:
                 response = await performance.response(batch, None, lambda: _is_gone(request))
@@ -215,7 +232,8 @@ class Gateway:
             same = (request.path, str(self._options.forwards), headers.get("prefer", ""))
             parts = {"sender": digest(*map(str.encode, same)), "sent": repeatable.first_sent}
             first = identity(batch=digest(batch), mode=performance.mode, **parts)
-            return await self._repeatable(self._journals, repeatable.key, first, batch, performance)
+            opened = self._journals.journal(repeatable.key, first, room.hold)
+            return await self._repeatable(digest(repeatable.key), opened, batch, performance)
         finally:
             self._end_batch()
 
@@ -224,33 +242,50 @@ class Gateway:
             raise Refusal(503, "Stopping", "The gateway stops", retry_after="1")
 
     async def _repeatable(
-        self, journals: Journals, key: bytes, first: bytes, batch: bytes, performance: Performance
+        self, name: str, opened: Awaitable[FileJournal], batch: bytes, performance: Performance
     ) -> Answer:
         """Performs a batch that may be sent again, or goes on with it."""
         journal: Optional[FileJournal] = None
         try:
-            journal = await journals.journal(key, first)
+            journal = await opened
             performance.tally.is_repeated = bool(journal.events)
             answer = performed(await performance.response(batch, journal, lambda: False), performance.mode)
             return answer._replace(headers={**answer.headers, "repeatability-result": "accepted"})
         except Fault:
             raise
         except (OSError, ValueError) as error:
-            LOG.error("the journal %s: %s", digest(key), error)
+            LOG.error("the journal %s: %s", name, error)
             raise Refusal(500, "BadJournal", "The journal of the batch cannot be read or written") from None
         finally:
             if journal is not None:
                 journal.close()
 
-    async def _read(self, request: web.Request) -> bytes:
+    async def _read(self, request: web.Request, room: Room) -> bytes:
+        """Reads a batch, whose bytes are reserved as they come."""
         try:
-            return await asyncio.wait_for(request.read(), _READ_SECONDS)
-        except web.HTTPRequestEntityTooLarge:
-            raise too_long(self._options.max_size) from None
+            return await asyncio.wait_for(_document(request, room, self._options.max_size), _READ_SECONDS)
+        except Refusal:
+            raise
         except asyncio.TimeoutError:
             raise Refusal(408, "CutBody", "The batch did not come in time") from None
         except Exception:
             raise Refusal(400, "CutBody", "The batch cannot be read to its end") from None
+
+
+async def _document(request: web.Request, room: Room, most: int) -> bytes:
+    """The bytes of a batch; raises Refusal if they are too many (413), or there is no room for them (503)."""
+    found = bytearray()
+    while part := await request.content.readany():
+        if len(found) + len(part) > most:
+            raise too_long(most)
+        room.hold(len(part))
+        found += part
+    return bytes(found)
+
+
+async def _send(request: web.Request, response: web.Response) -> None:
+    await response.prepare(request)
+    await response.write_eof()
 
 
 def _is_gone(request: web.Request) -> bool:

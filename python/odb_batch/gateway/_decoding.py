@@ -1,7 +1,7 @@
 """What a service has answered, as Python has it: headers as text, and bodies without their coding."""
 
 import zlib
-from typing import Dict, Iterable, Tuple
+from typing import Dict, Iterable, Iterator, Tuple
 
 from .._messages import Refusal, header_dict
 
@@ -10,6 +10,8 @@ _SINGLE = frozenset({"content-location", "etag", "location", "odata-entityid"})
 # What zlib calls the formats of the codings that are read.
 _FORMATS = {"gzip": 31, "x-gzip": 31, "deflate": 15}
 _RAW = -15
+# How many bytes are made of a part at once.
+_MOST = 65_536
 
 
 def _text(value: str) -> str:
@@ -56,35 +58,33 @@ class Decoder:
     def _refusal(self) -> Refusal:
         return Refusal(502, "Encoded", f"The service has compressed its answer by {self._coding}: it cannot be read")
 
-    def decode(self, part: bytes, most: int) -> bytes:
-        """Returns what a part of the body stands for, but at most this many bytes, of which there is one at least; then
-        the rest of the part is lost.
+    def parts(self, part: bytes) -> Iterator[bytes]:
+        """Yields what a part of the body stands for, in parts that are not long, however long it is together.
 
         Raises:
             Refusal: It is not of the coding: 502 ``Encoded``.
         """
-        found = bytearray()
-        try:
-            while part and len(found) < most:
-                if self._stream.eof:  # a body of gzip may have several members
-                    self._stream = zlib.decompressobj(self._format)
-                found += self._decoded(part, most - len(found))
-                part = self._stream.unused_data
-        except zlib.error:
-            raise self._refusal() from None
-        return bytes(found)
+        while part:
+            if self._stream.eof:  # a body of gzip may have several members
+                self._stream = zlib.decompressobj(self._format)
+            try:
+                found = self._decoded(part)
+            except zlib.error:
+                raise self._refusal() from None
+            part = self._stream.unconsumed_tail or self._stream.unused_data
+            yield found
 
-    def _decoded(self, part: bytes, most: int) -> bytes:
+    def _decoded(self, part: bytes) -> bytes:
         is_new, self._is_new = self._is_new, False
         try:
-            return self._stream.decompress(part, most)
+            return self._stream.decompress(part, _MOST)
         except zlib.error:
             if self._coding != "deflate" or not is_new:
                 raise
         # Some servers send deflate without the frame of zlib.
         self._format = _RAW
         self._stream = zlib.decompressobj(_RAW)
-        return self._stream.decompress(part, most)
+        return self._stream.decompress(part, _MOST)
 
     def require_end(self) -> None:
         """Raises Refusal, as `decode` does, if the body was cut."""

@@ -171,9 +171,9 @@ class Journals:
         """Ends the threads that have nothing to do."""
         self._threads.shutdown(wait=False)
 
-    async def journal(self, id: bytes, first: bytes) -> FileJournal:
+    async def journal(self, id: bytes, first: bytes, hold: Callable[[int], None] = lambda size: None) -> FileJournal:
         """Opens the journal of a batch as `open` does, in a thread; it raises OSError, too, if that takes too long."""
-        opened = asyncio.wrap_future(self._threads.submit(self.open, id, first))
+        opened = asyncio.wrap_future(self._threads.submit(self.open, id, first, hold))
         try:
             return FileJournal(*await asyncio.wait_for(asyncio.shield(opened), _OPEN_SECONDS))
         except (asyncio.TimeoutError, asyncio.CancelledError) as error:
@@ -182,12 +182,13 @@ class Journals:
                 raise
             raise OSError("the file cannot be opened in time") from None
 
-    def open(self, id: bytes, first: bytes) -> _Opened:
+    def open(self, id: bytes, first: bytes, hold: Callable[[int], None] = lambda size: None) -> _Opened:
         """Opens and locks the journal of a batch; returns what a FileJournal is made of.
 
         Args:
             id: The name of the batch.
             first: The first line, as `identity` makes it.
+            hold: Reserves memory for what is read, or raises Refusal.
 
         Raises:
             Refusal: The batch is being performed (409), the id is that of another batch (422), or the file is damaged
@@ -197,6 +198,7 @@ class Journals:
         path = os.path.join(self._path, digest(id))
         file = _locked(path)
         try:
+            hold(os.fstat(file).st_size)
             with os.fdopen(os.dup(file), "rb") as reader:
                 lines = reader.read().splitlines(keepends=True)
             whole = whole_lines(lines)

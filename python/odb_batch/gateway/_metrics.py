@@ -5,10 +5,11 @@ import time
 from bisect import bisect_left
 from collections import Counter
 from itertools import accumulate
-from typing import Dict, Iterable, Iterator, List, Mapping, Tuple
+from typing import Dict, Iterable, Iterator, List, Mapping, Optional, Tuple
 from urllib.parse import quote
 
 from .._places import Places
+from .._room import Budget
 
 CONTENT_TYPE = "text/plain; version=0.0.4; charset=utf-8"
 # What a value of the log has as it is: printable ASCII but a space.
@@ -42,8 +43,8 @@ class Metrics:
         batches_running, requests_running: How many are on their way now.
     """
 
-    def __init__(self, limits: Mapping[str, int]) -> None:
-        self._limits = limits
+    def __init__(self, limits: Mapping[str, int], budget: Optional[Budget] = None) -> None:
+        self._limits, self._budget = limits, budget
         self.batches_running = self.requests_running = 0
         self._batches: "Counter[_Labels]" = Counter()
         self._requests: "Counter[_Labels]" = Counter()
@@ -98,6 +99,9 @@ class Metrics:
     def _gauges(self) -> Iterator[Tuple[str, str, int]]:
         yield "batches_running", "Batches on their way.", self.batches_running
         yield "requests_running", "Requests on their way to services: the width in use.", self.requests_running
+        if self._budget is not None:
+            yield "memory_used", "Bytes that batches and their answers hold.", self._budget.used
+            yield "memory_limit", "The option --memory.", self._budget.size
         for name, value in self._limits.items():
             yield f"{name}_limit", f"The option --{name}.", value
 

@@ -3,6 +3,7 @@
 import argparse
 from typing import NamedTuple, Optional, Sequence, Tuple
 
+from .._room import USUAL_MEMORY
 from . import _values as values
 from ._credentials import USUAL
 from ._routes import Route
@@ -29,6 +30,7 @@ class Options(NamedTuple):
     keep_alive: float = 1.0
     limit: int = 1_000
     max_size: int = 16_777_216
+    memory: int = USUAL_MEMORY
     journal: str = ""
     client_header: str = ""
     keep: float = 86_400.0
@@ -81,6 +83,8 @@ def _add_limits(found: argparse.ArgumentParser) -> None:
     add("--limit", metavar="N", type=values.number, default=_USUAL.limit, help="requests in a batch, else 413; 1000")
     add("--max-size", metavar="BYTES", type=values.size, default=_USUAL.max_size,
         help="of a batch, else 413, and of its answers together; 16777216")  # fmt: skip
+    add("--memory", metavar="BYTES", type=values.number, default=_USUAL.memory,
+        help="of all batches and their answers together, else 503; 268435456")  # fmt: skip
 
 
 def _add_journal(found: argparse.ArgumentParser) -> None:
@@ -116,6 +120,8 @@ def _fault_of(given: argparse.Namespace) -> str:
     for name, prefix in given.sent:
         if prefix not in prefixes:
             return f"--send {name}={prefix}: no route has this prefix"
+    if given.memory < given.max_size:
+        return f"--memory must be at least --max-size, {given.max_size}"
     if given.client_header and given.one_client:
         return "--client-header and --one-client cannot be combined"
     if given.journal and not (given.client_header or given.one_client):

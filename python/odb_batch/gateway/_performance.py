@@ -6,12 +6,13 @@ import time
 from typing import Any, AsyncContextManager, Callable, Collection, Dict, List, NamedTuple, Optional, Tuple, Union
 from urllib.parse import urlsplit
 
-from .._endpoint import Outer, Room, folder_of
+from .._endpoint import Outer, folder_of
 from .._events import Journal
 from .._groups import MemberRefused, PreparedGroup
 from .._messages import Answer, PreparedRequest, Refusal
 from .._perform_async import perform_async
 from .._requests import Request
+from .._room import Room
 from ._credentials import Credentials
 from ._metrics import Metrics, log_line
 from ._options import Options
@@ -51,6 +52,8 @@ class Performance:
         outer: The HTTP request that carries it.
         forwarded: The headers by which services see who has sent it.
         seen: A URL with the scheme and the host that the client has asked, as services see them.
+        room: What the batch may hold in memory.
+        number: The number of the batch in this process.
 
     Attributes:
         mode: How it is performed.
@@ -67,12 +70,13 @@ class Performance:
         outer: Outer,
         forwarded: Dict[str, str],
         seen: str,
+        room: Room,
         number: int,
     ) -> None:
         self._options, self._routes, self._credentials = options, routes, credentials
         self._upstreams, self._metrics = upstreams, metrics
         self._outer, self._forwarded, self._seen = outer, forwarded, seen
-        self._room = Room(options.max_size)
+        self._room = room
         # Found when a place was asked for.
         self._targets: Dict[str, Optional[Tuple[Route, str]]] = {}
         self.mode = outer.mode

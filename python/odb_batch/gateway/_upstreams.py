@@ -7,9 +7,9 @@ from typing import Any, Callable, Dict, NamedTuple
 import aiohttp
 from yarl import URL
 
-from .._endpoint import Room
 from .._messages import Answer, Refusal
 from .._places import Places
+from .._room import Reading, Room
 from ._decoding import Decoder, headers_of
 from ._metrics import Metrics
 from ._options import Options
@@ -141,7 +141,7 @@ class Upstreams:
 
     async def _answer(self, request: Outgoing, room: Room) -> Answer:
         try:
-            return room.fit(request.method, await self._exchanged(request, room))
+            return await self._exchanged(request, room)
         except Refusal as refusal:
             if refusal.answer.status == 502:
                 self.say(request.url, _code(refusal), "answer", refusal)
@@ -163,7 +163,7 @@ class Upstreams:
         return Refusal(502, "BadGateway", "The connection broke before an answer came")
 
     async def _exchanged(self, request: Outgoing, room: Room) -> Answer:
-        """The answer of a service, with more of its body than there is room for at most by a part."""
+        """The answer of a service; raises Refusal if there is no room for it, or it cannot be shown."""
         headers = {"accept-encoding": "identity", **request.headers}
         url = URL(request.url, encoded=True)
         async with self.session(request.method).request(
@@ -171,20 +171,24 @@ class Upstreams:
         ) as answer:
             if not 200 <= answer.status <= 599:
                 raise Refusal(502, "BadGateway", f"The service has answered with the status {answer.status}")
-            return Answer(answer.status, headers_of(answer.headers.items()), await _body(answer, room))
+            with room.read(request.method) as reading:
+                await _read(answer, reading)
+                return Answer(answer.status, headers_of(answer.headers.items()), reading.body())
 
 
 def _code(refusal: Refusal) -> str:
     return str(refusal.answer.body["error"]["code"])
 
 
-async def _body(answer: aiohttp.ClientResponse, room: Room) -> bytes:
-    """The body of an answer without its coding; raises Refusal if it cannot be read: 502 ``Encoded``."""
-    coding, body = answer.headers.get("Content-Encoding", "").strip().lower(), bytearray()
+async def _read(answer: aiohttp.ClientResponse, reading: Reading) -> None:
+    """Reads the body of an answer without its coding, as far as it is kept; raises Refusal if it cannot be read: 502
+    ``Encoded``."""
+    coding = answer.headers.get("Content-Encoding", "").strip().lower()
     is_coded = coding not in ("", "identity") and answer.status not in (204, 304)
     decoder = Decoder(coding) if is_coded else None
-    while len(body) <= room.left and (part := await answer.content.read(_PART)):
-        body += part if decoder is None else decoder.decode(part, room.left + 1 - len(body))
-    if decoder is not None and len(body) <= room.left:
+    while part := await answer.content.read(_PART):
+        parts = [part] if decoder is None else decoder.parts(part)
+        if not all(map(reading.add, parts)):
+            return
+    if decoder is not None:
         decoder.require_end()
-    return bytes(body)

@@ -1,0 +1,132 @@
+"""What batches and their answers hold in memory: reserved as it is read, from one budget, and given back."""
+
+import json
+import os
+import socket
+
+import pytest
+
+from odb_batch.gateway._options import options_of
+from support.servers import CONTINUE, SECONDS, repeatable, until
+
+ONE = json.dumps({"requests": [{"id": "a", "method": "get", "url": "x"}]})
+
+
+@pytest.fixture
+def peak(monkeypatch):
+    """Returns how much was reserved at once, at most."""
+    from odb_batch._room import Budget
+
+    take, most = Budget.take, [0]
+
+    def noted(budget, count):
+        found = take(budget, count)
+        most[0] = max(most[0], budget.used)
+        return found
+
+    monkeypatch.setattr(Budget, "take", noted)
+    return lambda: most[0]
+
+
+def is_free(it):
+    return "odb_gateway_memory_used 0\n" in it.metrics()
+
+
+def test_answers_that_come_at_once_have_the_room_of_one_batch(upstream, front, peak):
+    """Each could have it alone; together they hold no more, and those that find no room are not kept."""
+    it = front("--upstream", upstream().url, "--max-size", "400000", "--width", "8")
+    found = it.statuses(*[{"url": "big"}] * 8)
+    assert set(found) <= {200, 507} and found.count(200) <= 1
+    assert 0 < peak() <= 400_000 + 2_000
+    until(lambda: is_free(it))
+
+
+@pytest.mark.parametrize("paths", [
+    ["x", "missing", "html"], ["big", "big"], ["hang-up", "half"], ["gzip"], ["elsewhere", "cookie"],
+], ids=str)  # fmt: skip
+@pytest.mark.parametrize("method", ["get", "post"])
+def test_all_is_given_back(upstream, front, peak, paths, method):
+    it = front("--upstream", upstream().url, "--max-size", "400000")
+    it.statuses(*({"method": method, "url": path} for path in paths))
+    assert peak() > 0
+    until(lambda: is_free(it))
+
+
+@pytest.mark.parametrize("body, status", [("{", 400), (b" " * 2_000, 413), (ONE, 405)])
+def test_all_is_given_back_by_what_is_refused(upstream, front, body, status):
+    it = front("--upstream", upstream().url, "--max-size", "1000")
+    assert it.ask("PUT" if status == 405 else "POST", "/odata/$batch", body, CONTINUE)[0] == status
+    until(lambda: is_free(it))
+
+
+def test_all_is_given_back_by_a_batch_that_is_cut(upstream, front):
+    it = front("--upstream", upstream().url)
+    with socket.create_connection(("127.0.0.1", it.port), SECONDS) as client:
+        head = b"POST /odata/$batch HTTP/1.1\r\nHost: a\r\nContent-Type: application/json\r\nContent-Length: 100\r\n\r\n"
+        client.sendall(head + b"{")
+        until(lambda: not is_free(it))
+    until(lambda: is_free(it))
+
+
+def test_a_batch_for_which_others_have_left_no_memory(upstream, front):
+    service = upstream()
+    it = front("--upstream", service.url, "--memory", "500000", "--max-size", "400000")
+    assert it.gateway._budget.take(500_000 - 10)
+    status, headers, text = it.ask("POST", "/odata/$batch", ONE, CONTINUE)
+    assert (status, headers["retry-after"], json.loads(text)["error"]["code"]) == (503, "1", "Busy")
+    assert service.seen == []
+    it.gateway._budget.give(500_000 - 10)
+    assert it.ask("POST", "/odata/$batch", ONE, CONTINUE)[0] == 200
+
+
+@pytest.mark.parametrize("method, status, code", [("get", 503, "Busy"), ("post", 201, None)])
+def test_an_answer_for_which_others_have_left_no_memory(upstream, front, method, status, code):
+    """A GET may be sent again; what was performed keeps its status, and loses its body."""
+    it = front("--upstream", upstream().url, "--memory", "500000", "--max-size", "400000")
+    assert it.gateway._budget.take(400_000)
+    found = it.batch({"method": method, "url": "big"})["r0"]
+    assert (found["status"], found.get("body", {}).get("error", {}).get("code")) == (status, code)
+
+
+def test_a_journal_is_read_only_if_there_is_memory_for_it(upstream, front, tmp_path):
+    service = upstream()
+    it = front("--upstream", service.url, "--journal", str(tmp_path), "--one-client", "--memory", "500000",
+               "--max-size", "400000")  # fmt: skip
+    headers = {**CONTINUE, **repeatable("x")}
+    first = it.ask("POST", "/odata/$batch", ONE, headers)
+    (name,) = os.listdir(tmp_path)
+    left = len(ONE) + os.stat(tmp_path / name).st_size - 1
+    assert it.gateway._budget.take(500_000 - left)
+    assert it.ask("POST", "/odata/$batch", ONE, headers)[0] == 503
+    it.gateway._budget.give(500_000 - left)
+    assert it.ask("POST", "/odata/$batch", ONE, headers)[2] == first[2]
+    assert len(service.seen) == 1
+
+
+def test_the_memory_is_in_the_metrics(upstream, front):
+    it = front("--upstream", upstream().url, "--memory", "20000000")
+    assert {"odb_gateway_memory_used 0", "odb_gateway_memory_limit 20000000"} <= set(it.metrics().splitlines())
+
+
+def test_memory_for_less_than_one_batch(capsys):
+    with pytest.raises(SystemExit):
+        options_of(["--upstream", "http://a/", "--memory", "1000"])
+    line = "python3 -m odb_batch gateway: error: --memory must be at least --max-size, 16777216"
+    assert capsys.readouterr().err.splitlines()[-1] == line
+
+
+def test_a_client_that_does_not_read_is_not_waited_for_for_ever(upstream, front, monkeypatch):
+    from aiohttp import web
+
+    from odb_batch.gateway import _application
+
+    monkeypatch.setattr(_application, "_WRITE_SECONDS", 0.5)
+    it = front("--upstream", upstream(lambda seen: web.Response(body=b"x" * 12_000_000)).url)
+    with socket.socket() as client:
+        client.setsockopt(socket.SOL_SOCKET, socket.SO_RCVBUF, 4096)
+        client.connect(("127.0.0.1", it.port))
+        head = f"POST /odata/$batch HTTP/1.1\r\nHost: a\r\nContent-Type: application/json\r\nContent-Length: {len(ONE)}\r\n\r\n"
+        client.sendall((head + ONE).encode())
+        until(lambda: not is_free(it))
+        until(lambda: is_free(it))
+    assert "batches_running 0" in it.metrics()
