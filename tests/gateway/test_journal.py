@@ -1,8 +1,7 @@
-"""Batches with a Repeatability-Request-ID: files of events, cut at any byte, damaged, locked, old and full."""
+"""Batches with a Repeatability-Request-ID: files of events, cut at any byte, damaged, locked and full."""
 
 import asyncio
 import email.utils
-import fcntl
 import json
 import os
 import secrets
@@ -13,17 +12,11 @@ from concurrent.futures import ThreadPoolExecutor
 
 import pytest
 
-from odb_batch import Report, ReportUnit, Start, StartUnit, Stop
 from odb_batch.gateway import _journal
-from odb_batch.gateway._journal import Clock, FileJournal, Journals, identity
+from odb_batch.gateway._journal import Journals
+from support.journals import EVENTS, FIRST, Clocks, events_of, file_of, opened, pruned, written
 from support.servers import CONTINUE, JSON, SECONDS, repeatable, until
 
-EVENTS = [
-    Start("a"), Report("a", 201, {"location": "/x(1)"}, b'{"n":\n 9.990, "t": "\xc3\xbc"}'), StartUnit(("b", "c")),
-    Report("c", 204, {}), Report("b", 200, {}, b'"text"'), StartUnit(("d", "e")),
-    ReportUnit((Report("d", 201, {"location": "/y"}, b"1.0"), Report("e", 204, {}))), Stop(),
-]  # fmt: skip
-FIRST = identity(batch="1", mode="stop")
 REQUESTS = [
     {"id": "a", "method": "post", "url": "A", "body": 1},
     {"id": "b", "method": "get", "url": "$a/B", "dependsOn": ["a"]},
@@ -33,35 +26,6 @@ REQUESTS = [
     {"id": "f", "method": "delete", "url": "F", "dependsOn": ["g", "b"]},
 ]
 BATCH = json.dumps({"requests": REQUESTS})
-
-
-def opened(journals, id="x", first=FIRST):
-    return FileJournal(*journals.open(id.encode(), first))
-
-
-def written(journals, events=EVENTS):
-    async def write():
-        journal = opened(journals)
-        for event in events:
-            journal.write(event)
-        await journal.sync()
-        journal.close()
-
-    asyncio.run(write())
-
-
-def events_of(journals):
-    async def read():
-        journal = opened(journals)
-        journal.close()
-        return journal.events
-
-    return asyncio.run(read())
-
-
-def file_of(folder):
-    (name,) = os.listdir(folder)
-    return os.path.join(folder, name)
 
 
 def test_events_are_read_as_they_were_written(tmp_path):
@@ -106,81 +70,6 @@ def test_a_damaged_file_is_not_gone_on_with(tmp_path, line, upstream, front):
     count = len(service.seen)
     status, _, text = it.ask("POST", "/odata/$batch", BATCH, headers)
     assert (status, json.loads(text)["error"]["code"], len(service.seen)) == (500, "BadJournal", count)
-
-
-class Clocks:
-    """The clocks of a process, which tests set."""
-
-    def __init__(self):
-        self.ahead, self.steady = 0.0, 0.0
-
-    def journals(self, folder, keep=60):
-        return Journals(str(folder), keep, Clock(lambda: time.time() + self.ahead, lambda: self.steady))
-
-
-def pruned(journals, clocks, seconds=60):
-    """Removes what is old, and stays so for some seconds."""
-    journals.prune()
-    clocks.steady += seconds
-    journals.prune()
-
-
-def test_old_files_are_removed_unless_they_are_in_use(tmp_path):
-    clocks = Clocks()
-    journals = clocks.journals(tmp_path)
-    for name in ("old", "used", "new"):
-        asyncio.run(_kept(journals, name))
-    paths = {name: tmp_path / _journal.digest(name.encode()) for name in ("old", "used", "new")}
-    (tmp_path / "other").write_text("")
-    for name in (paths["old"], paths["used"], tmp_path / "other"):
-        os.utime(name, (0, time.time() - 361))
-    os.utime(paths["new"], (0, time.time() - 300))
-    with open(paths["used"]) as file:
-        fcntl.flock(file, fcntl.LOCK_EX)
-        pruned(journals, clocks, 59)
-        assert paths["old"].exists()
-        pruned(journals, clocks, 1)
-    assert set(os.listdir(tmp_path)) == {paths["used"].name, paths["new"].name, "other"}
-
-
-def test_a_clock_that_is_ahead_removes_nothing(tmp_path):
-    clocks = Clocks()
-    journals = clocks.journals(tmp_path)
-    written(journals)
-    clocks.ahead = 172_800
-    pruned(journals, clocks)
-    assert events_of(journals) == EVENTS
-
-
-def test_a_machine_whose_clock_is_ahead_for_a_while_removes_nothing(tmp_path, monkeypatch):
-    """Its file system has the same clock, so each file is too old until the clock is set."""
-    clocks = Clocks()
-    journals = clocks.journals(tmp_path)
-    written(journals)
-    path, times = file_of(tmp_path), os.stat(file_of(tmp_path))
-    os.utime(path, (0, times.st_mtime - 172_800))
-    journals.prune()
-    os.utime(path, (0, times.st_mtime))
-    clocks.steady += 60
-    journals.prune()
-    os.utime(path, (0, times.st_mtime - 172_800))
-    journals.prune()
-    assert os.path.exists(path)
-
-
-def test_a_repeat_does_not_keep_a_file_for_longer(tmp_path):
-    journals = Journals(str(tmp_path), 60)
-    written(journals)
-    os.utime(file_of(tmp_path), (0, 7))
-    assert events_of(journals) == EVENTS
-    assert os.stat(file_of(tmp_path)).st_mtime == 7
-
-
-async def _kept(journals, name):
-    journal = opened(journals, name)
-    journal.write(Start("a"))
-    await journal.sync()
-    journal.close()
 
 
 def test_what_another_process_has_written_is_synced(tmp_path, monkeypatch):
@@ -241,52 +130,6 @@ def test_a_link_is_not_followed(tmp_path):
         journals.open(b"x", FIRST)
     pruned(journals, clocks)
     assert other.read_text() == "" and len(os.listdir(folder)) == 1
-
-
-def test_a_file_that_is_removed_by_hand_leaves_nothing_open(tmp_path, monkeypatch):
-    clocks, count = Clocks(), lambda: len(os.listdir("/dev/fd"))
-    journals = clocks.journals(tmp_path)
-    before = count()
-
-    async def close():
-        journal = opened(journals)
-        os.unlink(file_of(tmp_path))
-        journal.close()
-
-    asyncio.run(close())
-    asyncio.run(_kept(journals, "x"))
-    os.utime(file_of(tmp_path), (0, 0))
-
-    def gone(path):
-        raise FileNotFoundError(2, "No such file or directory")
-
-    with monkeypatch.context() as patched:
-        patched.setattr(_journal.os, "unlink", gone)
-        pruned(journals, clocks)
-    assert count() == before
-
-
-def test_a_batch_that_goes_on_just_before_it_is_removed_is_kept(tmp_path, monkeypatch):
-    clocks, locked = Clocks(), _journal._locked
-    journals = clocks.journals(tmp_path)
-    asyncio.run(_kept(journals, "x"))
-    path = file_of(tmp_path)
-    os.utime(path, (0, 0))
-    monkeypatch.setattr(_journal, "_locked", lambda *given: (os.utime(path), locked(*given))[1])
-    pruned(journals, clocks)
-    assert os.path.exists(path)
-
-
-def test_old_files_are_looked_for_again_after_an_error(tmp_path, monkeypatch, front):
-    calls = []
-
-    def prune(journals):
-        calls.append(journals)
-        raise OSError(24, "Too many open files")
-
-    monkeypatch.setattr(Journals, "prune", prune)
-    front("--upstream", "http://127.0.0.1:1/", "--journal", str(tmp_path), "--one-client", "--keep", "0.01")
-    until(lambda: len(calls) >= 3)
 
 
 @pytest.mark.parametrize("folder", ["no", "file"])
