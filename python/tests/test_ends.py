@@ -233,10 +233,17 @@ class TestDeadlines:
 
     def test_who_waits_too_long_for_a_place_is_busy(self):
         async def app(scope, receive, send):
-            await asyncio.Event().wait()
+            [places] = service.middleware._places.values()
+            try:
+                await asyncio.Event().wait()
+            finally:
+                while places.waiting:  # it holds its place until the other one has given up
+                    await asyncio.sleep(0)
 
-        found = batch(over(app, at_once=1, timeout=0.05), {"url": "a"}, {"url": "b"})
-        assert found["r0"]["status"] == 504 and found["r1"]["status"] in (503, 504)
+        service = over(app, at_once=1, timeout=0.05)
+        found = batch(service, {"url": "a"}, {"url": "b"})
+        assert [it["status"] for it in found.values()] == [504, 503]
+        assert found["r1"]["body"]["error"]["code"] == "Busy" and found["r1"]["headers"]["retry-after"] == "1"
 
 
 @contextlib.contextmanager
