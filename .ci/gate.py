@@ -2,16 +2,18 @@
 
 The parts are `rt ci` (the proofs, the tests, the must-fail edits), the program and the library if they are older, the
 tools that compare what is written twice, the tests of what is built, and the short form of the benchmark, which compares
-answers and judges no time. A part runs even if one before it failed. The exit status is 0 if all of them pass. The
-arguments are packages that are not installed, which a line at the end names.
+answers and judges no time. Parts that do not need each other run side by side, and what one prints is shown when it has
+ended. A part runs even if one before it failed. The exit status is 0 if all of them pass. The arguments are packages that
+are not installed, which a line at the end names.
 """
 
 import os
-import resource
 import shutil
 import subprocess
 import sys
 import time
+from concurrent.futures import ThreadPoolExecutor
+from dataclasses import dataclass
 
 ROOT = os.path.dirname(os.path.dirname(os.path.realpath(__file__)))
 
@@ -23,27 +25,35 @@ MODULES = {
     "jsonschema": "python3-jsonschema",
 }
 
-TESTS = f"-m pytest -n {os.cpu_count()} -q --hypothesis-profile gate --durations 10"
-
 # Parts that need a tool, and are left out where that is not installed.
 TOOLS = {"aarch64-linux": "aarch64-linux-gnu-gcc", "x86_64-windows": "x86_64-w64-mingw32-gcc"}
 
 
-def parts_for(target):
-    """The library and the program for another system."""
-    words = ["--target", target, f"dist/{target}"]
-    return [(f"the {what} for {target}, if it is older", [f"bin/odb_{what}", *words]) for what in ("library", "program")]
+def build_for(target, what):
+    """Returns the part that builds the library or the program for another system."""
+    return (f"the {what} for {target}, if it is older", [f"bin/odb_{what}", "--target", target, f"dist/{target}"])
 
 
-# The parts after `rt ci`: a title, and a command, or what follows `python3` in it.
-PARTS = [
-    ("the program, if it is older", ["bin/odb_batch", "--version"]),
-    ("the library, if it is older", ["bin/odb_library", "dist/library"]),
-    ("the WebAssembly modules, if they are older", ["bin/odb_wasm", "dist/wasm"]),
-    ("the page", ["bin/odb_page", "dist/wasm"]),
-    *parts_for("aarch64-linux"),
-    *parts_for("x86_64-windows"),
-    ("the objects for macOS, if they are older", ["bin/odb_library", "--target", "macos", "dist/macos"]),
+# What is built after `rt ci`, by two lists that run side by side: a title and a command. In each the first proves and
+# builds a crate, of which the others are made.
+BUILDS = [
+    [
+        ("the program, if it is older", ["bin/odb_batch", "--version"]),
+        build_for("aarch64-linux", "program"),
+        build_for("x86_64-windows", "program"),
+    ],
+    [
+        ("the library, if it is older", ["bin/odb_library", "dist/library"]),
+        ("the WebAssembly modules, if they are older", ["bin/odb_wasm", "dist/wasm"]),
+        ("the page", ["bin/odb_page", "dist/wasm"]),
+        build_for("aarch64-linux", "library"),
+        build_for("x86_64-windows", "library"),
+        ("the objects for macOS, if they are older", ["bin/odb_library", "--target", "macos", "dist/macos"]),
+    ],
+]
+
+# What compares texts that are written twice: a title, and what follows `python3`.
+COMPARISONS = [
     ("versions", ["tools/version.py", "--program"]),
     ("the places of the faults", ["tools/places.py"]),
     ("the questions of the edits", ["tools/edits.py"]),
@@ -52,11 +62,10 @@ PARTS = [
     ("examples of calls", ["tools/call_examples.py"]),
     ("docs/faults.md", ["tools/faults.py"]),
     ("explanations of faults", ["tools/explanations.py"]),
-    ("quick tests", [*TESTS.split(), "-m", "not slow"]),
-    ("slow tests", [*TESTS.split(), "-m", "slow"]),
-    ("the short benchmark", ["bench/bench.py", "--short"]),
 ]
-QUIET = ("the short benchmark",)
+
+TESTS = ("the tests", f"-m pytest -n {os.cpu_count()} -q --hypothesis-profile gate --durations 10".split())
+BENCHMARK = ("the short benchmark", ["bench/bench.py", "--short"])
 
 
 def lacking(python):
@@ -80,45 +89,69 @@ def not_installed(packages):
     return f".ci/run: not installed: {', '.join(dict.fromkeys(packages))}"
 
 
-def spent_by_children():
-    used = resource.getrusage(resource.RUSAGE_CHILDREN)
-    return used.ru_utime + used.ru_stime
+@dataclass(frozen=True)
+class Part:
+    """A part that has ended; its processor time is in seconds."""
+
+    title: str
+    failed: bool
+    seconds: float
+    printed: str
 
 
-def run(words, quiet=False):
-    """Runs a command; returns its exit status, its processor time in seconds, and its last lines."""
-    before, last = spent_by_children(), []
-    messages = None if quiet else subprocess.STDOUT
-    started = subprocess.Popen(words, stdout=subprocess.PIPE, stderr=messages, text=True, errors="replace")
-    for line in started.stdout:
-        last = [*last[-2:], line]
-        if not quiet:
+def run(title, words, shown="at the end"):
+    """Runs a part, and shows what it prints: as it comes, at the end, or only if it fails."""
+    print(f"{title}: begun", flush=True)
+    lines = []
+    process = subprocess.Popen(words, stdin=subprocess.DEVNULL, stdout=subprocess.PIPE, stderr=subprocess.STDOUT, text=True, errors="replace")
+    for line in process.stdout:
+        lines.append(line)
+        if shown == "as it comes":
             print(line, end="", flush=True)
-    return started.wait(), spent_by_children() - before, last
+    _, status, used = os.wait4(process.pid, 0)
+    process.returncode = os.waitstatus_to_exitcode(status)
+    part = Part(title, status != 0, used.ru_utime + used.ru_stime, "".join(lines))
+    is_shown = shown == "at the end" or part.failed and shown == "if it fails"
+    print(f"{title}: {'FAILED' if part.failed else 'passed'}\n{part.printed if is_shown else ''}", end="", flush=True)
+    return part
+
+
+def tool_of(words):
+    """Returns the tool that a part needs and that is not installed, if there is one."""
+    tool = next((TOOLS[word] for word in words if word in TOOLS), None)
+    return tool if tool and not shutil.which(tool) else None
+
+
+def build(parts):
+    """Runs parts one after another, but for those that lack their tool."""
+    ended = []
+    for title, words in parts:
+        tool = tool_of(words)
+        if tool:
+            print(f"{title}: skipped: {tool} is not installed", flush=True)
+        else:
+            ended.append(run(title, words))
+    return ended
 
 
 def main():
     os.chdir(ROOT)
     python, begun = python_of_tests(), time.monotonic()
-    status, seconds, last = run(["rt", "ci"])
-    failed, rows = ["rt ci"] * bool(status), [("rt ci", seconds)]
-    for title, words in PARTS:
-        print(f"{title}:", flush=True)
-        tool = next((TOOLS[it] for it in words if it in TOOLS), None)
-        if tool and not shutil.which(tool):
-            print(f"skipped: {tool} is not installed", flush=True)
-            continue
-        script = not words[0].startswith("bin/")
-        status, seconds, _ = run([python, *words] if script else words, title in QUIET)
-        failed += [title] * bool(status)
-        rows.append((title, seconds))
+    parts = [run("rt ci", ["rt", "ci"], "as it comes")]
+    with ThreadPoolExecutor(os.cpu_count()) as pool:
+        parts += [part for ended in pool.map(build, BUILDS) for part in ended]
+        parts += pool.map(lambda each: run(each[0], [python, *each[1]]), COMPARISONS)
+    parts.append(run(TESTS[0], [python, *TESTS[1]], "as it comes"))
+    parts.append(run(BENCHMARK[0], [python, *BENCHMARK[1]], "if it fails"))
     print("processor minutes:")
-    for name, seconds in [*rows, ("all", sum(it for _, it in rows))]:
-        print(f"  {name:48}{seconds / 60:7.1f}")
+    for part in parts:
+        print(f"  {part.title:48}{part.seconds / 60:7.1f}")
+    print(f"  {'all':48}{sum(part.seconds for part in parts) / 60:7.1f}")
     print(f"minutes by the clock:{(time.monotonic() - begun) / 60:36.1f}")
-    print("rt ci:", *last, sep="\n", end="")
+    print("rt ci:", *parts[0].printed.splitlines()[-3:], sep="\n")
     if sys.argv[1:]:
         print(not_installed(sys.argv[1:]))
+    failed = [part.title for part in parts if part.failed]
     print(f"failed: {', '.join(failed)}" if failed else "all passed")
     return 1 if failed else 0
 

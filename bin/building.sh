@@ -1,6 +1,6 @@
 # What bin/odb_batch, bin/odb_library, bin/odb_program and bin/odb_wasm do alike: each proves and builds a crate and all
 # crates below it if what they make is missing or older than its sources. Sourced by them, after they have set `root`, the
-# top of the repository; `tool`, their own name; `top`, the crate; and `made`, the file that is made.
+# top of the repository; `tool`, their own name; `top`, the crate; and `made`, the file that is made of it, by `build`.
 
 say() { echo "$tool: $*" >&2; }
 
@@ -21,59 +21,112 @@ is_current() {
     [ -z "$newer" ]
 }
 
-# Proves one crate after the other by `prove NAME`, and ends with status 70 at the first that is not proved.
+# Prints rules of GNU make for the libraries of the crates below. A library is made of its sources and of the libraries that it
+# uses, if it is older than one of them; what rt has left serves as well. Crates at the same height may be proved side by
+# side, so they share the processors.
+rules() {
+    below | awk -v processors="$(nproc)" '
+        function library(name) { return "crates/" name "/out/rlib/" name ".rlib" }
+        NR == FNR {
+            at = index($0, ":")
+            split(substr($0, 1, at - 1), head, " ")
+            uses[head[1]] = substr($0, at + 1)
+            next
+        }
+        {
+            order[++count] = $1
+            height[$1] = 1
+            parts = split(uses[$1], used, " ")
+            for (i = 1; i <= parts; i++) {
+                if (!height[used[i]]) continue
+                needed[$1] = needed[$1] " " library(used[i])
+                if (height[used[i]] >= height[$1]) height[$1] = height[used[i]] + 1
+            }
+            beside[height[$1]]++
+        }
+        END {
+            printf "SHELL = /bin/bash\nall:"
+            for (i = 1; i <= count; i++) printf " %s", library(order[i])
+            print "\nsources = $(shell find crates/$(1)/src crates/$(1)/specs crates/$(1)/proofs -type f 2>/dev/null)"
+            for (i = 1; i <= count; i++) {
+                jobs = int(processors / beside[height[order[i]]])
+                printf "%s: crates.txt $(call sources,%s)%s\n", library(order[i]), order[i], needed[order[i]]
+                printf "\t@. bin/building.sh && prove %s %d\n", order[i], jobs ? jobs : 1
+            }
+        }' "$root/crates.txt" -
+}
+
+# Proves one crate, builds its library, and says how long that took, by the clock and of processors: prove NAME JOBS
+prove() {
+    local library=out/rlib/$1.rlib TIMEFORMAT='%0R s (%0U s of processors)'
+    say "proving $1" 2>&3
+    if { time build_over_proofs "$1" "$library" "$2" </dev/null >"$notes/$1" 2>&1; } 2>"$notes/$1.time"; then
+        touch "crates/$1/$library"
+        say "proved $1 in $(cat "$notes/$1.time")" 2>&3
+    else
+        mv "$notes/$1" "$notes/$1.failed"
+        return 1
+    fi
+}
+
+# Prints the errors of a crate that is not proved, and then its name: refused NAME LOG
+refused() {
+    { grep -E ':[0-9]+:[0-9]+: |: no proof' "$2" || tail -n 20 "$2"; } | head -n 20 | cut -c 1-300 >&2
+    say "$1 was not proved, so nothing was built"
+}
+
+# Proves the crates below, side by side where none uses the other, and then the crate itself. A crate that is not proved lets
+# the others end before it is named, with status 70. What is proved is kept, also if this is broken off.
 prove_crates() {
-    local log name names at=0
-    log=$(mktemp)
-    names=$(crates)
-    for name in $names; do
-        at=$((at + 1))
-        say "proving $name ($at of $(wc -w <<<"$names"))"
-        if ! (prove "$name") </dev/null >"$log" 2>&1; then
-            { grep -E ':[0-9]+:[0-9]+: |: no proof' "$log" || tail -n 20 "$log"; } | head -n 20 | cut -c 1-300 >&2
-            rm -f "$log"
-            say "$name was not proved, so nothing was built"
-            exit 70
-        fi
-    done
-    rm -f "$log"
+    local log status=0
+    notes=$(mktemp -d)
+    export root tool top notes
+    (cd "$root" && make --silent --keep-going --jobs="$(nproc)" --file=<(rules) all) 3>&2 2>"$notes/make" || status=70
+    if [ $status = 0 ]; then
+        say "proving and building $top"
+        build </dev/null >"$notes/$top.failed" 2>&1 || status=70
+    fi
+    if [ $status != 0 ]; then
+        for log in "$notes"/*.failed; do
+            if [ -f "$log" ]; then refused "$(basename "$log" .failed)" "$log"; else cat "$notes/make" >&2; fi
+        done
+    fi
+    rm -r "$notes"
+    return $status
 }
 
-# Whether rt ci has left every crate below as it is now. What it leaves has no stamp, so rt lib would
-# prove all of it again. A file that it takes from an earlier run keeps its old time, so the folder is compared.
-is_left_by_ci() {
-    local name left newer
-    for name in $(below); do
-        left=$root/crates/$name/out/rlib/$name.rlib
-        [ -f "$left/format" ] && [ ! -e "$root/crates/$name/out/rlib/stamp" ] || return 1
-        newer=$(find "$root/crates.txt" "$root/crates/$name" -path '*/out' -prune -o -path '*/must-fail' -prune \
-            -o -type f -newer "$left" -print -quit)
-        [ -z "$newer" ] || return 1
-    done
-}
-
-# Proves and compiles the crate, the program or a static library, over what is proved of the crates below it and kept of
-# itself, by a toolchain: build_over_proofs TOOLCHAIN OUT [FLAG..]
+# Proves a crate over the libraries of the crates below it, and compiles it if it is a program or a static library. It takes what
+# an earlier check has kept of it; of a library of which nothing is kept it makes the statements alone, which takes a fifth
+# less: build_over_proofs NAME OUT JOBS [FLAG..]
 build_over_proofs() {
-    local kit name toolchain=$1 out=$2 words=(src/main.rt)
-    shift 2
+    local kit name=$1 out=$2 jobs=$3 used words=(--incremental out/incremental src/lib.rt)
+    shift 3
     kit=$(dirname "$(rt doc)")
-    if [ ! -f "$root/crates/$top/src/main.rt" ]; then words=(--crate-type staticlib src/lib.rt); fi
-    words+=(--crate-name "$top" --extern "std=$kit/rlibs/std.rlib" -L "dependency=$kit/rlibs")
-    for name in $(sed -n "s/^$top\( staticlib\)\?://p" "$root/crates.txt"); do
-        if [ -d "$root/crates/$name" ]; then
-            words+=(--extern "$name=$root/crates/$name/out/rlib/$name.rlib")
+    if [ -f "$root/crates/$name/src/main.rt" ]; then
+        words=(--incremental out/incremental src/main.rt)
+    elif grep -q "^$name staticlib:" "$root/crates.txt"; then
+        words=(--incremental out/incremental --crate-type staticlib src/lib.rt)
+    elif [ ! -d "$root/crates/$name/out/incremental" ]; then
+        words=(--statements src/lib.rt)
+    fi
+    words+=(--crate-name "$name" --extern "std=$kit/rlibs/std.rlib" -L "dependency=$kit/rlibs")
+    for used in $(sed -n "s/^$name\( staticlib\)\?://p" "$root/crates.txt"); do
+        if [ -d "$root/crates/$used" ]; then
+            words+=(--extern "$used=$root/crates/$used/out/rlib/$used.rlib")
         else
-            words+=(--extern "$name=$kit/rlibs/$name.rlib")
+            words+=(--extern "$used=$kit/rlibs/$used.rlib")
         fi
     done
-    for name in $(below); do
-        words+=(-L "dependency=$root/crates/$name/out/rlib")
+    for used in $("$root/bin/crates" "$name" | sed '$d'); do
+        words+=(-L "dependency=$root/crates/$used/out/rlib")
     done
-    words+=(--antt-project "$kit/rattle/logic/antt-project.json" --logic-built "$kit/logic_built" --links "$top=")
-    mkdir -p "$root/crates/$top/out/incremental"
-    (cd "$root/crates/$top" &&
-        "$kit/bin/rattle" build "${words[@]}" --jobs 2 --incremental out/incremental --toolchain "$toolchain" -o "$out" "$@")
+    words+=(--antt-project "$kit/rattle/logic/antt-project.json" --logic-built "$kit/logic_built" --links "$name=")
+    mkdir -p "$root/crates/$name/out/rlib"
+    rm -f "$root/crates/$name/out/rlib/stamp"
+    (
+        flock 9 # as rt does, so that one at a time works in a crate
+        cd "$root/crates/$name" && "$kit/bin/rattle" build "${words[@]}" --jobs "$jobs" -o "$out" "$@"
+    ) 9<"$root/crates/$name"
 }
 
 # Lowers the crate, for the least processor of x86-64, by a toolchain whose clang keeps the LLVM module: keep_module OUT
@@ -85,7 +138,7 @@ keep_module() {
     ln -s "$kit/toolchain/lib" "$toolchain/lib"
     ln -s "$kit"/toolchain/bin/{ld.lld,llvm-ar,rattle-x64} "$toolchain/bin/"
     cp "$root/wasm/clang" "$toolchain/bin/clang"
-    build_over_proofs "$toolchain" "$toolchain/unused" --cpu x86-64 && mv "$toolchain/module.bc" "$1" || status=1
+    build_over_proofs "$top" "$toolchain/unused" "$(nproc)" --toolchain "$toolchain" --cpu x86-64 && mv "$toolchain/module.bc" "$1" || status=1
     rm -r "$toolchain"
     return $status
 }
@@ -128,16 +181,6 @@ compile_module() {
     return $status
 }
 
-# Proves the crates below and then builds the crate by a command, over what rt ci has left, if it has.
-build_by() {
-    if is_left_by_ci; then
-        say "proving $top over what rt ci has proved"
-        if "$@" >/dev/null 2>&1; then return; fi
-    fi
-    say "proving and building $top, once; on four processors this takes 6 to 35 minutes, and one if it was only copied"
-    prove_crates
-}
-
 # Ends with status 70 if a tool is not on the PATH.
 need() {
     local it
@@ -156,7 +199,9 @@ bring_up_to_date() {
         say "it is not built yet; building it needs the command rt of the Rattle toolchain on the PATH"
         exit 70
     fi
+    need make flock
     local started=$SECONDS
-    build
+    say "proving and building $top and the crates below it, once: TIMES"
+    prove_crates || exit
     say "proved and built after $(((SECONDS - started + 30) / 60)) min"
 }
