@@ -12,7 +12,7 @@ from support.commands import with_package
 def called(*words, **variables):
     """Runs python3 -m with some words; returns its status, and what it prints."""
     words = [sys.executable, "-m", *words]
-    done = subprocess.run(words, env={**with_package(), **variables}, capture_output=True, text=True)
+    done = subprocess.run(words, env={**with_package(), **variables}, capture_output=True, text=True, timeout=120)
     return done.returncode, done.stdout, done.stderr
 
 
