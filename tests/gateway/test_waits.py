@@ -86,7 +86,7 @@ def test_the_log_says_that_no_connection_was_free(aiohttp, capsys):
 def test_what_waits_is_not_lost_in_a_crash(slow, running, event, tmp_path):
     """Only what had a connection may have been sent."""
     service = slow()
-    words = ["--upstream", service.url, "--connections", "1", "--journal", str(tmp_path), "--one-client", "--log", "none"]
+    words = ["--upstream", service.url, "--connections", "1", "--journal", str(tmp_path), "--one-client"]
     requests = [{"id": f"r{k}", "method": "post", "url": f"slow{k}"} for k in range(8)]
     ask = lambda it: it.ask("POST", "/odata/$batch", json.dumps({"requests": requests}), {**CONTINUE, **repeatable("x")})
     it = running(*words)
@@ -94,10 +94,13 @@ def test_what_waits_is_not_lost_in_a_crash(slow, running, event, tmp_path):
     until(lambda: service.seen)
     it.stop(signal.SIGKILL)
     event.set()
-    status, _, text = ask(running(*words))
+    again = running(*words)
+    status, _, text = ask(again)
     found = json.loads(text)["responses"]
     assert (status, [response["status"] for response in found]) == (200, [500] + [201] * 7)
     assert code_of(found[0]) == "Lost" and len(service.seen) == 8
+    line = r"(?m)^[-\d]+T[:\d]+Z level=error number=1 r0 was out when a process ended, and is lost$"
+    assert re.search(line, again.stop(signal.SIGTERM)[1])
 
 
 # Clients that have gone

@@ -16,7 +16,8 @@ from .._room import Budget, Room
 from ._credentials import Credentials, Incoming
 from ._journal import FileJournal, Journals
 from ._lines import digest, identity
-from ._metrics import CONTENT_TYPE, Metrics, log_line
+from ._log import NUMBER, log_line
+from ._metrics import CONTENT_TYPE, Metrics
 from ._options import Options
 from ._performance import Performance
 from ._repeatability import Repeatability
@@ -202,8 +203,9 @@ class Gateway:
             "x-forwarded-proto": scheme,
         }
         seen = f"{scheme}://{next(iter(forwarded_hosts(headers)), host)}/"
+        NUMBER.set(next(self._numbers))
         services = (self._routes, self._credentials, self._upstreams, self._metrics)
-        return Performance(self._options, *services, outer, forwarded, seen, room, next(self._numbers))
+        return Performance(self._options, *services, outer, forwarded, seen, room, NUMBER.get())
 
     def _headers(self, request: web.Request) -> Dict[str, str]:
         """The headers of a request that hold for its batch."""

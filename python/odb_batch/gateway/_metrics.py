@@ -1,19 +1,14 @@
-"""What is counted of batches and requests, in the text form of Prometheus, and the lines of the log."""
+"""What is counted of batches and requests, in the text form of Prometheus."""
 
-import sys
-import time
 from bisect import bisect_left
 from collections import Counter
 from itertools import accumulate
 from typing import Dict, Iterable, Iterator, List, Mapping, Optional, Tuple
-from urllib.parse import quote
 
 from .._places import Places
 from .._room import Budget
 
 CONTENT_TYPE = "text/plain; version=0.0.4; charset=utf-8"
-# What a value of the log has as it is: printable ASCII but a space.
-_LOGGED = "".join(map(chr, range(0x21, 0x7F)))
 _BOUNDS = (0.001, 0.0025, 0.005, 0.01, 0.025, 0.05, 0.1, 0.25, 0.5, 1.0, 2.5, 5.0, 10.0, 30.0)
 _Labels = Tuple[Tuple[str, str], ...]
 
@@ -114,13 +109,3 @@ def _counted(name: str, counter: Mapping[_Labels, int]) -> Iterator[str]:
 def _quoted(value: str) -> str:
     escaped = value.replace("\\", r"\\").replace('"', r"\"").replace("\n", r"\n")
     return f'"{escaped}"'
-
-
-def log_line(values: Dict[str, object]) -> None:
-    """Writes a line of the log to standard error: the time, and names with their values, in which all that could end
-    one is escaped as in a URL."""
-    texts = ((name, quote(str(value), _LOGGED, errors="surrogateescape")) for name, value in values.items())
-    words = (f"{name}={text}" for name, text in texts if text)
-    # One call, so that lines of several processes do not mix.
-    sys.stderr.write(f"{time.strftime('%Y-%m-%dT%H:%M:%SZ', time.gmtime())} {' '.join(words)}\n")
-    sys.stderr.flush()

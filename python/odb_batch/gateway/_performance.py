@@ -14,7 +14,8 @@ from .._perform_async import perform_async
 from .._requests import Request
 from .._room import Room
 from ._credentials import Credentials
-from ._metrics import Metrics, log_line
+from ._log import log_line
+from ._metrics import Metrics
 from ._options import Options
 from ._routes import Route, Routes
 from ._upstreams import Outgoing, Upstreams

@@ -9,7 +9,7 @@ from urllib.parse import urlsplit
 
 import aiohttp
 
-from ._metrics import log_line
+from ._log import log_line
 
 # How many seconds lie between two lines about one service.
 _SECONDS = 1.0

@@ -53,7 +53,9 @@ async def _serve(options: Options) -> None:
     from aiohttp import web
 
     from ._application import Gateway
+    from ._log import log_package
 
+    log_package()
     gateway = Gateway(options)
     apps = [(gateway.application(), options.listen)]
     if options.metrics_at is not None:
