@@ -108,8 +108,8 @@ export class Batch {
    * and `If-Match: $a` by its ETag. If there is none, the request is 424.
    *
    * If a part is answered as a whole, by a status that is not 2xx, each of its requests has that answer. If `post` throws, or if
-   * what it returns is not the response to the part, each has 504 for a timeout or an aborted fetch, else 502, or the answer of a `Refusal`. Then
-   * nothing more is sent, and the other requests are 424.
+   * what it returns is not the response to the part, each has 504 for a timeout or an aborted fetch, else 502, or the answer of a
+   * `Refusal`. Then nothing more is sent, and the other requests are 424.
    *
    * Rejects, and nothing was sent, with a `Fault` if the batch is refused, with a `RangeError` if a group has more requests than
    * the limit or an option has none of its values, and with a `TypeError` for an option with another name.
@@ -174,5 +174,7 @@ export class Results implements Iterable<Result> {
   rest(): Batch
   /** What `post` threw, or why what it returned is not the response to a part; undefined if each part was answered. */
   readonly error: unknown
+  /** The status of each request after its id, as `1 201, 2 409`. */
+  toString(): string
   [Symbol.iterator](): Iterator<Result>
 }

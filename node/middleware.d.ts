@@ -15,12 +15,26 @@ export interface BatchOptions extends PerformanceOptions {
   path?: string
   /** What the path of each request begins with, with a slash at its end; the folder of `path` is the default. */
   root?: string
-  /** Names of headers that requests may have, beside those of OData and of conditional requests. Others are answered 400. */
+  /**
+   * Names of headers that requests may have, beside those of OData and of conditional requests, and `traceparent`, `tracestate`,
+   * `X-Request-ID`, `X-Correlation-ID`, `client-request-id`, `X-CSRF-Token`, `X-Requested-With` and `sap-*`. Others are answered
+   * 400, which the log says once for each name, of at most 100.
+   */
   allowed?: readonly string[]
-  /** How many bytes a batch may have, and its answers together; 16,777,216 is the default. */
+  /**
+   * How many bytes a batch may have, and its answers together; 16,777,216 is the default. An answer takes its bytes as it is
+   * written. If they are too many, a GET is ended at once and answered 507; another request keeps its status and loses its body.
+   */
   maxSize?: number
+  /**
+   * How many bytes all batches and their answers may have at once: 268,435,456, or twice `maxSize` if that is more. A batch or a GET
+   * that would need more is answered 503 with `Retry-After`.
+   */
+  memory?: number
   /** How many requests a batch may have; 1,000 is the default. */
   limit?: number
+  /** For how many milliseconds an answer is waited for, then its connection is closed and it is 504; 30,000 is the default. */
+  timeout?: number
 }
 
 /**
@@ -28,8 +42,12 @@ export interface BatchOptions extends PerformanceOptions {
  * called without it. Each request of a batch is answered by the app in this process, with the headers of the outer request but
  * those that are about the batch. The mode is `continue` if the preference continue-on-error says so, else `stop`.
  *
+ * Once the client has left nothing more of its batch starts. What only reads has its connection closed, as with a client of its
+ * own; a write or a group is waited for. An answer with another number of bytes than its `Content-Length` is 502.
+ *
  * What is refused is answered by an error object (OData JSON Format 4.01, section 21.1): 400 with the fault of the batch, 405,
- * 413, 415 with `Accept`, and 501. Throws a `TypeError` for an option that has none of its values.
+ * 413, 415 with `Accept` or `Accept-Encoding`, 501 and 503. Throws a `TypeError` or a `RangeError` for an option that has none of
+ * its values.
  */
 export function batch(app: Handler, options?: BatchOptions): Middleware
 /** The same for an app that has no handler, in which it always has a `next`. */

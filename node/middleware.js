@@ -7,26 +7,96 @@ const { MOST_BYTES } = require('./bodies.js')
 const { optionsOf } = require('./commands.js')
 const { dispatcher } = require('./dispatch.js')
 const { Fault } = require('./faults.js')
+const { OwnHeaders } = require('./headers.js')
 const { Refusal, refusalOf } = require('./messages.js')
 const { Outer, folderOf } = require('./outer.js')
-const { logged, perform } = require('./perform.js')
+const { performBy, settingsOf } = require('./perform.js')
+const { Room, busy, isRead, withoutBody } = require('./room.js')
 const { unquoted } = require('./urls.js')
 
-const OF_BATCH = ['path', 'root', 'allowed', 'maxSize', 'limit', 'width', 'transaction', 'timeout', 'stop', 'log']
+const OF_BATCH = [
+  'path', 'root', 'allowed', 'maxSize', 'memory', 'limit', 'width', 'transaction', 'timeout', 'deadline', 'stop', 'log',
+]
+const MOST_REQUESTS = 1000
+const MOST_MILLISECONDS = 30000
+// How many bytes all batches may have together, unless two alone may have more.
+const USUAL_MEMORY = 268435456
+
+/** Throws unless options are numbers of bytes, with memory for one batch. */
+function requireBytes({ maxSize, memory }) {
+  for (const [name, size] of Object.entries({ maxSize, memory })) {
+    if (!Number.isInteger(size) || size < 0) throw new TypeError(`${name} must be a whole number, not ${String(size)}`)
+  }
+  if (memory < maxSize) throw new TypeError(`memory must be at least maxSize, ${maxSize}, not ${memory}`)
+}
 
 /** The options with their defaults, or a TypeError. */
-function settingsOf(options) {
-  const { path = '/$batch', root = folderOf(path), allowed = [], maxSize = MOST_BYTES, ...rest } = optionsOf(options, OF_BATCH)
+function settingsOfBatch(options) {
+  const { path = '/$batch', root = folderOf(path), allowed = [], maxSize = MOST_BYTES, ...others } = options
+  const { memory = Math.max(USUAL_MEMORY, 2 * maxSize), limit = MOST_REQUESTS, timeout = MOST_MILLISECONDS, ...rest } = others
   for (const [name, it] of Object.entries({ path, root })) {
     if (!String(it).startsWith('/')) throw new TypeError(`the ${name} must begin with /, not ${String(it)}`)
   }
   if (!root.endsWith('/')) throw new TypeError(`the root must end with /, not ${root}`)
-  if (!Number.isInteger(maxSize) || maxSize < 0) throw new TypeError(`maxSize must be a whole number, not ${String(maxSize)}`)
-  return { path, root, allowed: allowed.map((name) => name.toLowerCase()), maxSize, performed: { limit: 1000, ...rest } }
+  requireBytes({ maxSize, memory })
+  const performed = settingsOf({ ...rest, limit, timeout })
+  return { path, root, own: new OwnHeaders(allowed, performed.log), maxSize, memory: new Room(memory), performed }
 }
 
-/** The body of a request, as long as it has no more bytes than these; the rest is not read. */
-function readBody(req, maxSize) {
+/** The client of a batch. Once it has left nothing more is started for it, and what only reads ends at once. */
+class Client {
+  #res
+  #stop
+  #reads = new Set()
+  #isAnswered = false
+  #isClosed
+  hasLeft
+
+  constructor(res, stop) {
+    this.#res = res
+    this.#stop = stop
+    this.#isClosed = this.hasLeft = res.destroyed === true
+    res.on('close', () => this.#leave())
+  }
+
+  /** Whether nothing more is to start: the client has left, or the signal of the options is aborted. */
+  get aborted() {
+    return this.hasLeft || this.#stop?.aborted === true
+  }
+
+  /** Calls a function that waits for the answer to a request. */
+  async waiting(wait, call) {
+    this.#reads.add(wait)
+    try {
+      return await call()
+    } finally {
+      this.#reads.delete(wait)
+    }
+  }
+
+  answer({ status, headers, body }) {
+    if (this.hasLeft) return
+    this.#isAnswered = true
+    this.#res.writeHead(status, { 'odata-version': '4.01', ...headers, 'content-length': body.length })
+    this.#res.end(body)
+  }
+
+  /** Calls a function once the answer is sent, or the client has left. */
+  whenClosed(call) {
+    if (this.#isClosed) call()
+    else this.#res.on('close', call)
+  }
+
+  #leave() {
+    this.#isClosed = true
+    if (this.#isAnswered) return
+    this.hasLeft = true
+    for (const wait of this.#reads) wait.end(new Refusal(503, 'Left', 'The client has left'))
+  }
+}
+
+/** The body of a request, as long as it has no more bytes than these, and there is room for them; the rest is not read. */
+function readBody(req, maxSize, memory) {
   return new Promise((resolve, reject) => {
     const parts = []
     let size = 0
@@ -34,63 +104,56 @@ function readBody(req, maxSize) {
     req.on('data', (part) => {
       parts.push(part)
       size += part.length
-      if (size <= maxSize) return
+      const hasRoom = memory.take(part.length)
+      if (hasRoom && size <= maxSize) return
       req.pause()
-      reject(tooLong(maxSize))
+      reject(size > maxSize ? tooLong(maxSize) : unread(busy()))
     })
     req.on('end', () => resolve(Buffer.concat(parts)))
     for (const event of ['error', 'close']) req.on(event, cut)
   })
 }
 
+/** A refusal of a batch whose bytes are not all read, so that its connection ends. */
+function unread(refusal) {
+  refusal.answer.headers.connection = 'close'
+  return refusal
+}
+
 function tooLong(maxSize) {
-  return new Refusal(413, 'TooLong', `A batch may have ${maxSize} bytes`, { headers: { connection: 'close' } })
+  return unread(new Refusal(413, 'TooLong', `A batch may have ${maxSize} bytes`))
+}
+
+/** Refuses a batch in another coding, which a parser in front may take off. */
+function requireIdentity({ 'content-encoding': coding = 'identity' }) {
+  if (coding.trim().toLowerCase() === 'identity') return
+  const headers = { 'accept-encoding': 'identity' }
+  throw unread(new Refusal(415, 'BadEncoding', 'A batch may not have a Content-Encoding', { headers }))
 }
 
 /** The bytes of a batch, as a request carries it, or as a parser in front has left it. */
-async function bodyOf(req, maxSize) {
-  if (Buffer.isBuffer(req.body) || typeof req.body === 'string') return req.body
+async function bodyOf(req, maxSize, memory) {
+  if (Buffer.isBuffer(req.body) || typeof req.body === 'string') {
+    if (memory.take(req.body.length)) return req.body
+    throw busy()
+  }
   if (req.readableEnded) throw new Error('a parser has read the body of the batch: batch() has to come before it')
+  requireIdentity(req.headers)
   if (Number(req.headers['content-length']) > maxSize) throw tooLong(maxSize)
-  return readBody(req, maxSize)
-}
-
-/** How many bytes the bodies of the answers to a batch may still have together. */
-class Room {
-  #left
-
-  constructor(size) {
-    this.#left = size
-  }
-
-  get left() {
-    return this.#left
-  }
-
-  /**
-   * The answer with its body, if there is room for it. If not, a GET is answered 507; any other request was performed, so its
-   * answer keeps the status and the headers.
-   */
-  fitting({ method }, answer) {
-    const { status, headers, body } = answer
-    if (body?.length <= this.#left) {
-      this.#left -= body.length
-      return answer
-    }
-    if (method === 'GET') throw new Refusal(507, 'TooLong', 'The answers to the batch are too long together')
-    return { status, headers }
-  }
+  return readBody(req, maxSize, memory)
 }
 
 /** Has an app answer requests by its own call for that, as Fastify has one. */
 function injector(app) {
-  return async ({ remoteAddress }, { method, url, headers, body }) => {
+  return async ({ remoteAddress }, { method, url, headers, body }, room) => {
     const answer = await app.inject({ method, url, headers, payload: body, remoteAddress })
-    return { status: answer.statusCode, headers: answer.headers, body: answer.rawPayload }
+    const { statusCode: status, headers: given, rawPayload } = answer
+    if (room.take(rawPayload.length)) return { status, headers: given, body: rawPayload }
+    return withoutBody({ method }, { status, headers: given }, room.shortage(rawPayload.length))
   }
 }
 
-/** Has an app answer requests in this process: a function of a client, a request, and how long a body is kept. */
+/** Has an app answer requests in this process: a function of a client, a request, the room for its answer, and the wait for it. */
 function answererOf(app) {
   if (typeof app === 'function') return dispatcher(app)
   if (typeof app?.inject === 'function') return injector(app)
@@ -98,13 +161,22 @@ function answererOf(app) {
 }
 
 /** The answer to a request that carries a batch. */
-async function answerOf(answered, req, { path, root, allowed, maxSize, performed }) {
-  const outer = new Outer(req, path, allowed)
+async function answerOf(answered, req, client, memory, { path, root, own, maxSize, performed }) {
+  const outer = new Outer(req, path, own)
   const { mode, base } = outer
-  const document = await bodyOf(req, maxSize)
-  const room = new Room(maxSize)
-  const send = async (request) => room.fitting(request, await answered(req.socket, outer.inner(request), room.left))
-  const body = await perform(document, send, { ...performed, mode, base, roots: outer.rootsOf(root) })
+  const document = await bodyOf(req, maxSize, memory)
+  const room = new Room(maxSize, memory)
+  const send = (request, wait) => {
+    const answer = async () => {
+      const found = await answered(req.socket, outer.inner(request), room, wait)
+      const { shortage } = found
+      if (shortage !== undefined) performed.log(shortage, `the request ${request.id}, whose answer loses its body`)
+      return found
+    }
+    return isRead(request) && request.group === null ? client.waiting(wait, answer) : answer()
+  }
+  const body = await performBy(document, send, { ...performed, stop: client, mode, base, roots: outer.rootsOf(root) })
+  if (client.hasLeft) performed.log(new Error('the client left before the answer: what had not started was not sent'), 'the batch')
   const applied = mode === 'continue' ? { 'preference-applied': 'continue-on-error' } : {}
   return { status: 200, headers: { 'content-type': 'application/json', ...applied }, body }
 }
@@ -122,18 +194,18 @@ function failedOf(error, log) {
 
 function batch(app, options = {}) {
   const answered = answererOf(app)
-  const settings = settingsOf(options)
-  const { log = logged } = settings.performed
+  const settings = settingsOfBatch(optionsOf(options, OF_BATCH))
+  const { log } = settings.performed
   return function answerBatch(req, res, next = () => app(req, res)) {
     const [path] = (req.originalUrl ?? req.url).split('?', 1)
     if (unquoted(path) !== settings.path) return next()
-    answerOf(answered, req, settings)
+    const client = new Client(res, settings.performed.stop)
+    const memory = new Room(Infinity, settings.memory) // of this batch, to be given back as a whole
+    answerOf(answered, req, client, memory, settings)
       .catch((error) => failedOf(error, log))
-      .then(({ status, headers, body }) => {
-        res.writeHead(status, { 'odata-version': '4.01', ...headers, 'content-length': body.length })
-        res.end(body)
-      })
+      .then((answer) => client.answer(answer))
       .catch((error) => log(error, 'the response to a batch'))
+      .finally(() => client.whenClosed(() => memory.close()))
   }
 }
 

@@ -2,25 +2,10 @@
 
 // What a $batch makes of the HTTP request around it: mode, base, and the headers that its requests have.
 
-const { validateHeaderValue } = require('node:http')
+const { inheritedOf } = require('./headers.js')
 const { Refusal, mediaTypeOf } = require('./messages.js')
 const { unquoted } = require('./urls.js')
 
-const NOT_INHERITED = new Set([
-  'accept', 'accept-encoding', 'connection', 'digest', 'expect', 'http2-settings', 'idempotency-key', 'keep-alive', 'prefer',
-  'proxy-connection', 'range', 'signature', 'signature-input', 'te', 'trailer', 'transfer-encoding', 'upgrade', 'x-http-method',
-  'x-http-method-override', 'x-method-override',
-])
-const PREFIXES_NOT_INHERITED = ['content-', 'if-', 'repeatability-']
-// Others could be those by which a proxy tells the service who the client is.
-const ALLOWED = [
-  'accept', 'accept-charset', 'accept-language', 'content-language', 'content-type', 'idempotency-key', 'if-match',
-  'if-modified-since', 'if-none-match', 'if-unmodified-since', 'isolation', 'odata-isolation', 'odata-maxversion',
-  'odata-version', 'prefer', 'repeatability-first-sent', 'repeatability-request-id',
-]
-const IGNORED = new Set([
-  'accept-encoding', 'cache-control', 'connection', 'content-length', 'date', 'host', 'pragma', 'user-agent',
-])
 const FORWARDED = /host="?([^";,\s]+)/gi
 const HOST = /^([a-z0-9._~-]+|\[[0-9a-f:.]+\])(:[0-9]{1,5})?$/i
 const PREFERENCES = /(?:[^,"]|"[^"]*"?)+/g
@@ -61,30 +46,22 @@ function preferencesOf({ prefer = '' }) {
   })
 }
 
-/** The headers that the requests of a batch have from the request that carries it. */
-function inheritedOf(headers, preferences) {
-  const isInherited = (name) => !NOT_INHERITED.has(name) && !PREFIXES_NOT_INHERITED.some((it) => name.startsWith(it))
-  const found = Object.fromEntries(Object.entries(headers).filter(([name]) => isInherited(name)))
-  return preferences.length > 0 ? { ...found, prefer: preferences.join(', ') } : found
-}
-
 class Outer {
-  #allowed
+  #own
   #preferences
+  // Those that are not about the batch.
+  #ofRequests
   #inherited
 
-  /** `path` is that of the batch, and `allowed` has further headers that its requests may have. */
-  constructor(req, path, allowed) {
+  /** `path` is that of the batch, and `own` says which headers its requests may have for themselves. */
+  constructor(req, path, own) {
     this.req = req
     this.path = path
-    this.#allowed = new Set([...ALLOWED, ...allowed])
+    this.#own = own
     this.#preferences = preferencesOf(req.headers)
-    this.#inherited = inheritedOf(req.headers, this.#ofRequests)
-  }
-
-  /** The preferences that are not about the batch. */
-  get #ofRequests() {
-    return this.#preferences.filter(({ name }) => !OF_BATCH.has(name)).map(({ text }) => text)
+    this.#ofRequests = this.#preferences.filter(({ name }) => !OF_BATCH.has(name)).map(({ text }) => text)
+    this.#inherited = inheritedOf(req.headers)
+    if (this.#ofRequests.length > 0) this.#inherited.prefer = this.#ofRequests.join(', ')
   }
 
   /** The mode, as the preference continue-on-error says (OData Protocol 4.01, section 8.2.8.3); or a refusal of the request. */
@@ -121,29 +98,10 @@ class Outer {
   }
 
   /** A request of the batch as the service has it, with what it inherits; or a refusal if it may not be sent. */
-  inner(request) {
-    const url = request.url.slice(request.url.indexOf('/', request.url.indexOf('://') + '://'.length))
+  inner({ id, method, url: absolute, headers, body }) {
+    const url = absolute.slice(absolute.indexOf('/', absolute.indexOf('://') + '://'.length))
     if (unquoted(url.split('?', 1)[0]) === this.path) throw new Refusal(400, 'NestedBatch', 'A batch has no batches')
-    return { ...request, url, headers: { ...this.#inherited, ...this.#ownOf(request.headers) } }
-  }
-
-  /** The headers that a request has for itself. */
-  #ownOf(headers) {
-    const own = Object.entries(headers).filter(([name]) => !IGNORED.has(name))
-    return Object.fromEntries(own.map(([name, value]) => [name, this.#allow(name, value)]))
-  }
-
-  #allow(name, value) {
-    const target = { target: name }
-    if (!this.#allowed.has(name)) {
-      throw new Refusal(400, 'HeaderNotAllowed', `A request of a batch may not have the header ${name}`, target)
-    }
-    try {
-      validateHeaderValue(name, value)
-    } catch {
-      throw new Refusal(400, 'BadHeader', `The header ${name} has a character that no header may have`, target)
-    }
-    return name === 'prefer' ? [value, ...this.#ofRequests].join(', ') : value
+    return { method, url, headers: { ...this.#inherited, ...this.#own.of(id, headers, this.#ofRequests) }, body }
   }
 }
 

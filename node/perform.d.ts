@@ -18,7 +18,7 @@ export interface PreparedRequest {
   body: Bytes | undefined
   /** Its atomicity group, or null. */
   group: string | null
-  /** Is aborted when `timeout` is over; undefined without that option. */
+  /** Is aborted when `timeout` or `deadline` is over; undefined without these options. */
   signal: Signal | undefined
 }
 
@@ -65,11 +65,19 @@ export interface PerformanceOptions {
   transaction?: Transaction
   /** For how many milliseconds an answer is waited for, then it is 504; without it there is no limit. */
   timeout?: number
+  /**
+   * For how many milliseconds the batch is performed. Then nothing more starts, what is sent is 504, and the rest is 424; a
+   * transaction that waits is waited for. Without it there is no limit.
+   */
+  deadline?: number
   /** How many requests a batch may have; one with more is refused: 413. */
   limit?: number
   /** Once it is aborted nothing more starts. What was sent is waited for, and the rest is answered 424. */
   stop?: Signal
-  /** Takes each error that is shown as 500, 502 or 504, and those of transactions; `console.error` is the default. */
+  /**
+   * Takes each error that is shown as 500, 502 or 504, and those of transactions; with a `$batch` also what the types of its options
+   * say. `console.error` is the default.
+   */
   log?: (error: unknown, what: string) => void
 }
 

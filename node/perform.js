@@ -2,48 +2,48 @@
 
 // Performs batches: hands each request that may be sent to a function. index.d.ts says what each call takes and returns.
 
-const { optionsOf } = require('./commands.js')
+const { numbersOf, optionsOf } = require('./commands.js')
 const { toJson } = require('./bodies.js')
-const { bytesOf } = require('./documents.js')
+const { bytesOf, kindOf } = require('./documents.js')
 const { Group } = require('./groups.js')
 const { Refusal, readAnswer, refusalOf } = require('./messages.js')
 const { requests: requestsOf } = require('./requests.js')
 const { Service } = require('./urls.js')
+const { Stop } = require('./wait.js')
 const { Work } = require('./work.js')
 
-const OF_PERFORM = ['mode', 'width', 'transaction', 'base', 'roots', 'timeout', 'limit', 'stop', 'log']
+const OF_PERFORM = ['mode', 'width', 'transaction', 'base', 'roots', 'timeout', 'deadline', 'limit', 'stop', 'log']
 const MOST_REQUESTS = 10000
+const MOST_MILLISECONDS = 2 ** 31 - 1
+const TRANSACTION = '(group, body) => knex.transaction((trx) => storage.run(trx, body))'
 
 function logged(error, what) {
   console.error(`odb-batch: ${what}:`, error)
 }
 
-/** The options with their defaults, or a TypeError; the run checks the mode and the width. */
-function settingsOf(options) {
-  const { limit = MOST_REQUESTS, timeout, ...rest } = optionsOf(options, OF_PERFORM)
-  if (!Number.isInteger(limit) || limit < 0) throw new TypeError(`limit must be a whole number, not ${String(limit)}`)
-  if (timeout !== undefined && !(timeout > 0 && timeout <= 2 ** 31 - 1)) {
-    throw new TypeError(`timeout must be a number of milliseconds up to ${2 ** 31 - 1}, not ${String(timeout)}`)
-  }
-  return { mode: 'continue', width: 1, log: logged, ...rest, limit, timeout }
+/** Throws unless an option is a time, or undefined. */
+function requireTime(name, time) {
+  if (time === undefined || (time > 0 && time <= MOST_MILLISECONDS)) return
+  throw new TypeError(`${name} must be a number of milliseconds up to ${MOST_MILLISECONDS}, not ${String(time)}`)
 }
 
-/** Calls a function that sends, with a signal that is aborted once the time is over. */
-async function within(timeout, call) {
-  if (timeout === undefined) return call()
-  const controller = new AbortController()
-  let timer
-  const late = new Promise((_, reject) => {
-    timer = setTimeout(() => {
-      controller.abort(new DOMException('No answer came in time', 'TimeoutError'))
-      reject(controller.signal.reason)
-    }, timeout)
-  })
-  try {
-    return await Promise.race([call(controller.signal), late])
-  } finally {
-    clearTimeout(timer)
-  }
+/** Throws unless a transaction is a function that can wait for a body, or undefined. */
+function requireTransaction(transaction) {
+  if (transaction === undefined) return
+  const kind = typeof transaction === 'function' ? kindOf(transaction) : typeof transaction
+  if (kind === 'Function' || kind === 'AsyncFunction') return
+  throw new TypeError(`transaction must be a function, as ${TRANSACTION}, not a ${kind}`)
+}
+
+/** The options with their defaults; or a TypeError, or a RangeError. */
+function settingsOf(options) {
+  const { limit = MOST_REQUESTS, timeout, deadline, transaction, ...rest } = optionsOf(options, OF_PERFORM)
+  numbersOf({ mode: rest.mode, width: rest.width })
+  if (!Number.isInteger(limit) || limit < 0) throw new TypeError(`limit must be a whole number, not ${String(limit)}`)
+  requireTime('timeout', timeout)
+  requireTime('deadline', deadline)
+  requireTransaction(transaction)
+  return { mode: 'continue', width: 1, log: logged, ...rest, limit, timeout, deadline, transaction }
 }
 
 /** Performs the units of a batch. */
@@ -52,6 +52,7 @@ class Performance {
   #send
   #settings
 
+  /** `send` is given a request, and the wait for its answer, if that has an end. */
   constructor(work, send, settings) {
     this.#work = work
     this.#send = send
@@ -100,9 +101,10 @@ class Performance {
 
   /** Sends a request, and returns its answer with its body as it is in a response. An exception is an answer, too. */
   async #sent(id) {
+    const { stop, timeout } = this.#settings
     try {
-      const { status, headers, body } = await within(this.#settings.timeout, async (signal) => {
-        return readAnswer(await this.#send({ ...this.#work.request(id), signal }))
+      const { status, headers, body } = await stop.within(timeout, async (wait) => {
+        return readAnswer(await this.#send(this.#work.request(id), wait))
       })
       return { status, headers, text: this.#work.fitting(id, toJson(body, headers)) }
     } catch (error) {
@@ -120,14 +122,15 @@ class Performance {
 
 /** Refuses a batch as a whole, before anything of it is sent. */
 function requirePerformable(requests, { limit, transaction }) {
-  if (requests.length > limit) throw new Refusal(413, 'TooManyRequests', `A batch may have ${limit} requests`)
+  if (requests.length > limit) throw new Refusal(413, 'BatchTooLong', `A batch may have ${limit} requests`)
   if (transaction === undefined && requests.some(({ group }) => group !== null)) {
     throw new Refusal(501, 'NoGroups', 'Atomicity groups are not supported here')
   }
 }
 
-async function perform(batch, send, options = {}) {
-  const settings = settingsOf(options)
+/** Performs a batch by a function that is given requests, and the waits for their answers. */
+async function performBy(batch, send, options) {
+  const settings = { ...options, stop: new Stop(options.stop, options.deadline) }
   const service = new Service(settings.base, settings.roots)
   const document = bytesOf(batch)
   const requests = requestsOf(document)
@@ -141,4 +144,14 @@ async function perform(batch, send, options = {}) {
   }
 }
 
-module.exports = { logged, perform }
+async function perform(batch, send, options = {}) {
+  const withSignal = (request, wait) => ({
+    ...request,
+    get signal() {
+      return wait?.signal
+    },
+  })
+  return performBy(batch, (request, wait) => send(withSignal(request, wait)), settingsOf(options))
+}
+
+module.exports = { logged, perform, performBy, settingsOf }

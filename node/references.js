@@ -102,7 +102,9 @@ class References {
     const found = this.#urls.get(id)
     if (found !== undefined) return found
     const { url, reference, rest } = this.of(id)
-    const made = outcomeOf(() => this.#service.target(reference === null ? url : this.#placeOf(reference) + rest))
+    const made = outcomeOf(() => {
+      return reference === null ? this.#service.target(url, url) : this.#service.target(this.#placeOf(reference) + rest)
+    })
     if (this.#named.has(id)) this.#urls.set(id, made)
     return made
   }

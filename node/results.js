@@ -93,6 +93,10 @@ class Results {
     return this.#batchOf(restOf(this.#parts.document, this.#parts.responses()))
   }
 
+  toString() {
+    return Array.from(this, ({ id, status }) => `${id} ${status}`).join(', ')
+  }
+
   [Symbol.iterator]() {
     return this.#found.values()
   }

@@ -6,7 +6,9 @@ const { Refusal } = require('./messages.js')
 
 // What a URL without scheme, host and leading slash is joined to, where there is no base.
 const NOWHERE = 'relative://nowhere/'
-const NOT_PRINTABLE = /[\p{C}\p{Zl}\p{Zp}]/u
+// What no path has, however it is encoded: control characters, and ends of lines and paragraphs.
+const CONTROL = /[\0-\x1f\x7f-\x9f\u2028\u2029]/
+const LONE_SURROGATE = /\p{Surrogate}/u
 
 /** The characters of a part of a URL; a `%` that no two hexadecimal digits follow is kept. */
 function unquoted(part) {
@@ -25,8 +27,12 @@ function joined(url, base) {
   try {
     return new URL(url, base)
   } catch {
-    throw new Refusal(400, 'BadUrl', 'The URL cannot be read')
+    throw unreadable()
   }
+}
+
+function unreadable() {
+  return new Refusal(400, 'BadUrl', 'The URL cannot be read')
 }
 
 function isAbsolute(url) {
@@ -77,15 +83,24 @@ class Service {
     this.#roots = roots.map((root) => folderOf('roots', root))
   }
 
-  /** The URL to which a request is sent, or a refusal if it leads out of the service. */
-  target(url) {
+  /**
+   * The URL to which a request is sent, or a refusal if it leads out of the service. `given` is the URL as the batch has it, if it
+   * has it.
+   */
+  target(url, given = '') {
+    if (LONE_SURROGATE.test(url)) throw unreadable()
     if (this.#base === undefined && this.#roots.length === 0) return url
     const found = joined(url, this.#base)
     found.hash = ''
-    if (this.#roots.length > 0 && !this.#roots.some((root) => isBelow(found, root))) {
-      throw new Refusal(404, 'NotFound', 'The URL leads out of the service')
-    }
+    const isInside = this.#roots.length === 0 || (!CONTROL.test(url) && this.#roots.some((root) => isBelow(found, root)))
+    if (!isInside) throw this.#outside(given)
     return found.href
+  }
+
+  #outside(given) {
+    const isElsewhere = /^\/(?!\/)/.test(given) && !unquoted(given).startsWith(unquoted(this.#roots[0].pathname))
+    const hint = isElsewhere ? ': drop the / that it begins with' : ''
+    return new Refusal(404, 'NotFound', `The URL leads out of the service${hint}`)
   }
 }
 
@@ -95,7 +110,7 @@ function isBelow(url, root) {
   // Servers take \ for /, and drop what follows a ; in a segment.
   const climbs = path.split(/[\\/]/).some((segment) => segment.split(';', 1)[0] === '..')
   const isSame = ['protocol', 'username', 'password', 'host'].every((part) => url[part] === root[part])
-  return isSame && path.startsWith(unquoted(root.pathname)) && !climbs && !NOT_PRINTABLE.test(path)
+  return isSame && path.startsWith(unquoted(root.pathname)) && !climbs && !CONTROL.test(path)
 }
 
 module.exports = { Service, entityUrl, firstSegment, followed, unquoted }

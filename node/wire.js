@@ -28,13 +28,10 @@ function joinedChunks(bytes) {
   }
 }
 
-/** The final answer in what was written. */
-function parsed(bytes) {
-  const end = bytes.indexOf(END_OF_HEAD)
-  const { status, headers } = headOf(bytes.toString('latin1', 0, end))
-  const rest = bytes.subarray(end + END_OF_HEAD.length)
-  if (status < 200) return parsed(rest) // such as 103, which is followed by the final one
+/** The answer with a head and what was written after it. */
+function parsed(head, rest) {
+  const { status, headers } = headOf(head.toString('latin1', 0, head.length - END_OF_HEAD.length))
   return { status, headers, body: /\bchunked$/i.test(headers['transfer-encoding']) ? joinedChunks(rest) : rest }
 }
 
-module.exports = { parsed }
+module.exports = { END_OF_HEAD, parsed }

@@ -19,6 +19,22 @@ function needsOf(batch) {
   return Object.fromEntries(elementsOf(batch).map(({ id, dependsOn = [] }) => [id, dependsOn]))
 }
 
+test('lists the statuses of results, and says that nothing is left', async () => {
+  const one = new Batch()
+  one.get('A')
+  one.post('B', 7)
+  const statuses = { 1: 200, 2: 503 }
+  const post = ({ body }) => {
+    const responses = JSON.parse(body).requests.map(({ id }) => ({ id, status: statuses[id] }))
+    return { status: 200, body: { responses } }
+  }
+  const results = await one.send(post)
+  assert.equal(String(results), '1 200, 2 503')
+  statuses[2] = 201
+  const last = await results.rest().send(post)
+  assert.deepEqual([`${last}`, last.rest().size], ['2 201', 0])
+})
+
 test('writes requests as they are called for', () => {
   const batch = new Batch()
   batch.get('Books')

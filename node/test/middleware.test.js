@@ -172,7 +172,7 @@ everywhere('answers what is not a batch by an error object', { maxSize: 200, lim
   assert.equal(fault.target, '/requests/0')
   assert.match(fault.message, /^\w+: \S/)
   await refused(await post(GROUP), 501, 'NoGroups')
-  await refused(await post(JSON.stringify(batch(['a'], ['b'], ['c']))), 413, 'TooManyRequests')
+  await refused(await post(JSON.stringify(batch(['a'], ['b'], ['c']))), 413, 'BatchTooLong')
   await refused(await post(' '.repeat(201)), 413, 'TooLong', { connection: 'close' })
   const body = new Blob([' '.repeat(201)]).stream() // without a Content-Length
   const chunked = await fetch(origin + PATH, { method: 'POST', headers: JSON_TYPE, body, duplex: 'half' })
@@ -251,6 +251,30 @@ everywhere('refuses headers by which a proxy may say who the client is', { allow
   assert.deepEqual(Object.values(statusesOf(found)), [400, 400, 400, 200, 200, 200, 200, 400])
   assert.deepEqual([found.r0.body.error.code, found.r0.body.error.target], ['HeaderNotAllowed', 'x-forwarded-for'])
   assert.equal(found.bad.body.error.code, 'BadHeader')
+})
+
+// Headers that usual clients give each request.
+const OF_CLIENTS = [
+  'traceparent', 'tracestate', 'X-Request-ID', 'X-Correlation-ID', 'client-request-id', 'X-CSRF-Token', 'X-Requested-With',
+  'sap-contextid', 'SAP-Client',
+]
+
+everywhere('passes on what usual clients give each request', {}, async ({ responses }) => {
+  const document = batch(...OF_CLIENTS.map((name, k) => [`r${k}`, 'get', 'echo', { headers: { [name]: `own ${k}` } }]))
+  const found = await responses(document, { ...CONTINUES, traceparent: 'outer' })
+  const names = OF_CLIENTS.map((name) => name.toLowerCase())
+  assert.deepEqual(names.map((name, k) => found[`r${k}`].body.headers[name]), names.map((_, k) => `own ${k}`))
+  assert.equal(found.r1.body.headers.traceparent, 'outer')
+})
+
+everywhere('says once in the log which header is not allowed', {}, async ({ errors, responses }) => {
+  const names = ['X-Tenant', 'x-tenant', 'X-Other', ...Array.from({ length: 200 }, (_, k) => `X-${k}`)]
+  const document = batch(...names.map((name, k) => [`r${k}`, 'get', 'echo', { headers: { [name]: '1' } }]))
+  for (let k = 0; k < 2; k++) assert.deepEqual(new Set(Object.values(statusesOf(await responses(document)))), new Set([400]))
+  assert.equal(errors.length, 100) // clients choose names, so the log has not all of them
+  const said = errors.slice(0, 2).map(([{ message }, what]) => [message, what.split(' (')[0]])
+  const refused = (name) => `A request of a batch may not have the header ${name}`
+  assert.deepEqual(said, [[refused('x-tenant'), 'the request r0'], [refused('x-other'), 'the request r2']])
 })
 
 everywhere('keeps requests below the root', { root: '/odata/' }, async ({ origin, responses }) => {
@@ -422,8 +446,11 @@ test('has an app answer by its own call for that, as Fastify has one', async () 
 
 test('refuses options that have none of their values', () => {
   assert.throws(() => mounted({}), TypeError)
-  const wrong = [{ path: 'odata' }, { root: '/odata' }, { root: 'odata/' }, { maxSize: -1 }, { maxsize: 7 }, { mode: 'stop' }]
+  const paths = [{ path: 'odata' }, { root: '/odata' }, { root: 'odata/' }]
+  const numbers = [{ maxSize: -1 }, { memory: 7.5 }, { memory: 7, maxSize: 8 }, { timeout: 0 }, { deadline: -1 }, { limit: -1 }]
+  const wrong = [...paths, ...numbers, { maxsize: 7 }, { mode: 'stop' }, { transaction: 7 }]
   for (const options of wrong) {
     assert.throws(() => mounted(handler, options), TypeError)
   }
+  assert.throws(() => mounted(handler, { width: 0 }), RangeError)
 })

@@ -98,7 +98,7 @@ test('refuses a batch as a whole before anything is sent', async () => {
 })
 
 test('refuses options that have none of their values', async () => {
-  for (const options of [{ limit: -1 }, { timeout: 0 }, { base: 'odata' }, { base: 'http://h/odata' }, { wide: 1 }]) {
+  for (const options of [{ limit: -1 }, { timeout: 0 }, { deadline: 0 }, { base: 'odata' }, { base: 'http://h/odata' }, { wide: 1 }]) {
     await assert.rejects(perform(batch(['a']), () => assert.fail('sent'), options), TypeError)
   }
   for (const options of [{ width: 0 }, { mode: 'half' }]) {

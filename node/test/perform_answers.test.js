@@ -71,6 +71,31 @@ test('answers 504 when the time is over, and says so to who sends', async () => 
   assert.equal(reason, 'TimeoutError')
 })
 
+test('ends a batch at its deadline, and says so to who sends', async () => {
+  let signal
+  const send = ({ id, signal: given }) => {
+    if (id === 'b') signal = given
+    return id === 'a' ? { status: 200 } : new Promise(() => {})
+  }
+  const document = batch(['a'], ['b'], ['c'], ['d', 'get', 'D', { dependsOn: ['a'] }])
+  for (const options of [{ deadline: 500 }, { deadline: 500, timeout: 60000 }]) {
+    assert.deepEqual(await statusesOf(document, send, options), { a: 200, b: 504, c: 424, d: 424 })
+    assert.equal(signal.reason.name, 'TimeoutError')
+  }
+})
+
+test('passes the signal on, also in a copy of the request, and makes it when it is asked for', async () => {
+  const seen = []
+  const send = (request) => {
+    const { signal } = { ...request }
+    seen.push(signal instanceof AbortSignal, signal === request.signal, Object.keys(request).includes('signal'))
+    return { status: 200 }
+  }
+  await statusesOf(ONE, send, { timeout: 60000 })
+  await perform(ONE, ({ signal }) => seen.push(signal) && { status: 200 })
+  assert.deepEqual(seen, [true, true, true, undefined])
+})
+
 test('passes on bodies of JSON byte for byte', async () => {
   let sent
   const document = `{"requests":[{"id":"a","method":"post","url":"A","body":${NUMBERS}}]}`

@@ -96,6 +96,23 @@ test('sends nothing of a group whose transaction begins after the run has stoppe
   }
 })
 
+test('sends nothing of a group whose transaction begins after the signal to stop, or the deadline', async () => {
+  const document = batch(['a', 'post', 'A', { atomicityGroup: 'g' }], ['b', 'get', 'B'])
+  const controller = new AbortController()
+  const stopping = { stop: controller.signal, transaction: async (group, body) => (controller.abort(), body()) }
+  const late = { deadline: 1, transaction: (group, body) => after(20).then(body) }
+  for (const options of [stopping, late]) {
+    assert.deepEqual(await statusesOf(document, () => assert.fail('sent'), options), { a: 424, b: 424 })
+  }
+})
+
+test('refuses a transaction that is not a function, or cannot wait for its body', async () => {
+  const expected = { name: 'TypeError', message: /^transaction must be a function, as \(group, body\) => / }
+  for (const transaction of [7, {}, 'BEGIN', null, function* () {}, async function* () {}]) {
+    await assert.rejects(perform(GROUP, () => assert.fail('sent'), { transaction }), expected)
+  }
+})
+
 test('answers a transaction that cannot begin in its own words', async () => {
   const transaction = async () => {
     throw new Refusal(503, 'Busy', 'try again', { headers: { 'Retry-After': 1 } })

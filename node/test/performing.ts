@@ -16,10 +16,10 @@ const transaction: Transaction = async (group, body) => {
     if (!(error instanceof GroupFailed) || error.group !== group) throw error
   })
 }
-const options: PerformOptions = { mode: 'stop', width: 2, transaction, base: 'http://h/', roots: [], timeout: 5, limit: 7, log: () => {} }
+const options: PerformOptions = { mode: 'stop', width: 2, transaction, base: 'http://h/', roots: [], timeout: 5, deadline: 9, limit: 7, log: () => {} }
 export const responses: Promise<Bytes>[] = [byFetch, atOnce, refusing].map((send) => perform('{"requests":[]}', send, options))
 
-const settings: BatchOptions = { path: '/$batch', root: '/', allowed: ['X-Tenant'], maxSize: 1, limit: 1, width: 8, timeout: 5, transaction }
+const settings: BatchOptions = { path: '/$batch', root: '/', allowed: ['X-Tenant'], maxSize: 1, memory: 2, deadline: 9, limit: 1, width: 8, timeout: 5, transaction }
 const handler = (request: { url?: string }, response: { end(): void }) => response.end()
 export const listener: (request: { url?: string }, response: { end(): void }) => void = batch(handler, settings)
 export const injected = batch({ inject: async () => ({ statusCode: 200, headers: {}, rawPayload: new Uint8Array() }) })

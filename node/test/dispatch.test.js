@@ -1,0 +1,59 @@
+'use strict'
+
+// Requests and responses in memory where the classes of node:http are classes of the language, as they may become.
+
+const assert = require('node:assert/strict')
+const http = require('node:http')
+const { test } = require('node:test')
+
+const { IncomingMessage, ServerResponse } = http
+http.IncomingMessage = class extends IncomingMessage {}
+http.ServerResponse = class extends ServerResponse {}
+const { dispatcher } = require('../dispatch.js')
+const { Room } = require('../room.js')
+
+const GET = { method: 'GET', url: '/', headers: {} }
+
+test('needs no call of a class without new', async () => {
+  const app = (req, res) => res.end(`${req instanceof http.IncomingMessage} ${res instanceof http.ServerResponse}`)
+  app.request = Object.create(http.IncomingMessage.prototype)
+  app.response = Object.create(http.ServerResponse.prototype)
+  const { status, body } = await dispatcher(app)({}, GET, new Room(1000), {})
+  assert.deepEqual([status, body.toString()], [200, 'true true'])
+})
+
+/** A handler that answers some parts of ten bytes, and calls a function after each. */
+function parted(count, after = () => {}) {
+  return async (req, res) => {
+    res.on('error', () => {}) // of what is written after the end
+    for (let k = 0; k < count; k++) {
+      res.write(Buffer.alloc(10))
+      await new Promise(setImmediate)
+      after()
+    }
+    res.end()
+  }
+}
+
+test('takes of the room what is written as it is written, and gives back what is not kept', async () => {
+  const all = new Room(1000)
+  const room = new Room(60, all)
+  const left = () => [60, 50, 40, 30, 20, 10, 0].find((size) => room.take(size) && (room.give(size), true))
+  const found = []
+  const lengthOf = async (count, method = 'GET') => {
+    const handler = parted(count, () => found.push(left()))
+    return (await dispatcher(handler)({}, { ...GET, method }, room, {})).body?.length
+  }
+  assert.equal(await lengthOf(2), 20)
+  assert(found[1] <= 40 && found[1] < found[0], String(found))
+  assert.equal(left(), 40)
+  await assert.rejects(lengthOf(7), { code: 'TooLong' })
+  assert.equal(left(), 40)
+  assert.equal(await lengthOf(7, 'POST'), undefined)
+  assert.equal(await lengthOf(2), 20)
+  assert.deepEqual([left(), all.take(961), all.take(960)], [20, false, true])
+  room.close()
+  assert.deepEqual([all.take(40), room.take(1)], [true, false])
+  room.give(1)
+  assert.equal(all.take(1), false)
+})

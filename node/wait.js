@@ -1,0 +1,76 @@
+'use strict'
+
+// How long an answer is waited for, and when nothing more starts.
+
+/** The wait for one answer. Its signal is made for who asks for it: to make one takes longer than a request in memory. */
+class Wait {
+  #controller
+  #reason
+  /** Is called with the reason when the wait is over before an answer came. */
+  onEnd
+
+  get signal() {
+    if (this.#controller === undefined) {
+      this.#controller = new AbortController()
+      if (this.#reason !== undefined) this.#controller.abort(this.#reason)
+    }
+    return this.#controller.signal
+  }
+
+  end(reason) {
+    this.#reason = reason
+    this.#controller?.abort(reason)
+    this.onEnd?.(reason)
+  }
+}
+
+/**
+ * Calls a function with the wait for its answer, which ends after a number of milliseconds: `onEnd` is called then. Without a number
+ * it has no wait.
+ */
+async function within(milliseconds, call, onEnd) {
+  if (milliseconds === Infinity) return call()
+  const wait = new Wait()
+  let timer
+  const late = new Promise((_, reject) => {
+    timer = setTimeout(() => {
+      const reason = new DOMException('No answer came in time', 'TimeoutError')
+      onEnd()
+      reject(reason)
+      wait.end(reason)
+    }, milliseconds)
+  })
+  try {
+    return await Promise.race([call(wait), late])
+  } finally {
+    clearTimeout(timer)
+  }
+}
+
+/** When nothing more of a batch starts: once a signal is aborted, or some milliseconds after now. */
+class Stop {
+  #signal
+  #end
+
+  constructor(signal, deadline = Infinity) {
+    this.#signal = signal
+    this.#end = performance.now() + deadline
+  }
+
+  get aborted() {
+    return this.#signal?.aborted === true || this.#left <= 0
+  }
+
+  /** Calls a function with the wait for its answer, which is not longer than up to the deadline, and than some milliseconds. */
+  within(timeout = Infinity, call) {
+    const left = this.#left
+    if (left > timeout) return within(timeout, call, () => {})
+    return within(left, call, () => (this.#end = 0)) // the clock of timers is another one, and may be ahead
+  }
+
+  get #left() {
+    return this.#end === Infinity ? Infinity : this.#end - performance.now()
+  }
+}
+
+module.exports = { Stop }
