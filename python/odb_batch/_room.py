@@ -5,7 +5,7 @@ from types import TracebackType
 from typing import List, Optional, Type
 
 from ._answers import LOG
-from ._messages import Answer, Refusal
+from ._messages import Refusal
 
 #: How many bytes all batches of a process may hold at once, if nothing else is said.
 USUAL_MEMORY = 268_435_456
@@ -111,13 +111,6 @@ class Room:
         with self._lock:
             self._taken += count
         return True
-
-    def fit(self, method: str, answer: Answer) -> Answer:
-        """Returns an answer, whose body is bytes, with as much of that as there is room for: all or nothing; raises
-        Refusal as `Reading.add` does."""
-        with self.read(method) as reading:
-            reading.add(answer.body)
-            return answer._replace(body=reading.body())
 
 
 class Reading:

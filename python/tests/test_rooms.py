@@ -4,7 +4,7 @@ import threading
 
 import pytest
 
-from odb_batch import Answer, Refusal
+from odb_batch import Refusal
 from odb_batch._room import USUAL_MEMORY, Budget, Room, memory_of
 
 
@@ -61,13 +61,6 @@ class TestRooms:
             reading.add(b"xxx")
             raise KeyError
         assert (room.left, budget.used) == (10, 0)
-
-    def test_fit(self):
-        room = Room(5)
-        assert room.fit("GET", Answer(200, {}, b"abc")).body == b"abc"
-        assert room.fit("PUT", Answer(200, {}, b"abc")).body == b""
-        with pytest.raises(Refusal):
-            room.fit("GET", Answer(200, {}, b"abc"))
 
 
 class TestBudgets:
