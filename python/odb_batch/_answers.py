@@ -57,7 +57,10 @@ def checked(answered: Any) -> Answer:
 def _legible(headers: Dict[str, str]) -> Dict[str, str]:
     """Returns headers that a document can have. Bytes that a client has read by surrogateescape are Latin-1 (RFC 9110,
     section 5.5); a header with any other half of a surrogate pair is left out."""
-    if all(name.isascii() and value.isascii() for name, value in headers.items()):
+    for name, value in headers.items():
+        if not (name.isascii() and value.isascii()):
+            break
+    else:
         return headers
     found = {}
     for name, value in headers.items():

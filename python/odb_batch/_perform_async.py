@@ -3,6 +3,7 @@
 import asyncio
 import contextlib
 import functools
+import sys
 from typing import (
     Any,
     AsyncContextManager,
@@ -15,6 +16,7 @@ from typing import (
     Optional,
     Sequence,
     Set,
+    Tuple,
     TypeVar,
     Union,
 )
@@ -234,39 +236,43 @@ class _Tasks:
             if self._work.confirm(unit):
                 await self._perform_unit(unit)
             return
-        async with contextlib.AsyncExitStack() as stack:
-            refused = await self._take_place(stack, unit, self._how.gate)
+        place, refused = await self._take_place(unit, self._how.gate)
+        try:
             if not self._work.confirm(unit):
                 return
             if refused is not None:
                 return self._work.refuse(unit, refused)
             await self._perform_unit(unit)
+        finally:
+            if place is not None:
+                await place.__aexit__(*sys.exc_info())
 
     async def _take_place(
-        self, stack: contextlib.AsyncExitStack, unit: Unit, gate: Union[AsyncContextManager[Any], Gate]
-    ) -> Optional[Answer]:
-        """Waits for the place of a unit, unless it cannot be sent; returns what it is answered if it has none."""
+        self, unit: Unit, gate: Union[AsyncContextManager[Any], Gate]
+    ) -> Tuple[Optional[AsyncContextManager[Any]], Optional[Answer]]:
+        """Waits for the place of a unit; returns it, or what the unit is answered without it. One that cannot be sent has
+        neither."""
         task = asyncio.current_task()
         assert task is not None
         try:
             if callable(gate):
                 outgoing = self._outgoing(unit)
                 if outgoing is None:
-                    return None
+                    return None, None
                 gate = gate(outgoing)
             self._waiting.add(task)
-            await stack.enter_async_context(gate)
+            await gate.__aenter__()
+            return gate, None
         except asyncio.CancelledError as error:
             if self._how.ends.is_over and not self.is_cancelled:
                 uncancel(task)
             if self._is_to_end():
                 raise
-            return answer_to(error, str(unit))
+            return None, answer_to(error, str(unit))
         except Exception as error:
-            return answer_to(error, str(unit))
+            return None, answer_to(error, str(unit))
         finally:
             self._waiting.discard(task)
-        return None
 
     def _outgoing(self, unit: Unit) -> Union[PreparedRequest, PreparedGroup, None]:
         """Returns what of a unit is sent first, or None if that cannot be sent."""

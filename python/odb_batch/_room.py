@@ -71,8 +71,10 @@ class Room:
         Raises:
             Refusal: Other batches have taken the memory: 503 ``Busy``.
         """
-        if not self._from_budget(count):
-            raise _busy()
+        with self._lock:
+            if self._budget is not None and not self._budget.take(count):
+                raise _busy()
+            self._taken += count
 
     def read(self, method: str) -> "Reading":
         """Returns the body of an answer to a request with a method, while it is read."""
@@ -83,12 +85,11 @@ class Room:
         with self._lock:
             if count > self._left:
                 return Refusal(507, "TooLong", "The answers to the batch are too long together")
+            if self._budget is not None and not self._budget.take(count):
+                return _busy()
             self._left -= count
-        if self._from_budget(count):
-            return None
-        with self._lock:
-            self._left += count
-        return _busy()
+            self._taken += count
+        return None
 
     def give(self, count: int) -> None:
         """Gives bytes of a body back."""
@@ -104,13 +105,6 @@ class Room:
             count, self._taken = self._taken, 0
         if self._budget is not None:
             self._budget.give(count)
-
-    def _from_budget(self, count: int) -> bool:
-        if self._budget is not None and not self._budget.take(count):
-            return False
-        with self._lock:
-            self._taken += count
-        return True
 
 
 class Reading:
