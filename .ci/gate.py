@@ -103,7 +103,8 @@ def run(title, words, shown="at the end"):
     """Runs a part, and shows what it prints: as it comes, at the end, or only if it fails."""
     print(f"{title}: begun", flush=True)
     lines = []
-    process = subprocess.Popen(words, stdin=subprocess.DEVNULL, stdout=subprocess.PIPE, stderr=subprocess.STDOUT, text=True, errors="replace")
+    how = {"stdin": subprocess.DEVNULL, "stdout": subprocess.PIPE, "stderr": subprocess.STDOUT, "errors": "replace"}
+    process = subprocess.Popen(words, text=True, **how)
     for line in process.stdout:
         lines.append(line)
         if shown == "as it comes":

@@ -138,7 +138,8 @@ keep_module() {
     ln -s "$kit/toolchain/lib" "$toolchain/lib"
     ln -s "$kit"/toolchain/bin/{ld.lld,llvm-ar,rattle-x64} "$toolchain/bin/"
     cp "$root/wasm/clang" "$toolchain/bin/clang"
-    build_over_proofs "$top" "$toolchain/unused" "$(nproc)" --toolchain "$toolchain" --cpu x86-64 && mv "$toolchain/module.bc" "$1" || status=1
+    build_over_proofs "$top" "$toolchain/unused" "$(nproc)" --toolchain "$toolchain" --cpu x86-64 &&
+        mv "$toolchain/module.bc" "$1" || status=1
     rm -r "$toolchain"
     return $status
 }
