@@ -14,8 +14,9 @@ import pytest
 
 from odb_batch.gateway import _journal
 from odb_batch.gateway._journal import Journals
+from odb_batch.gateway._repeatability import seconds_of
 from support.journals import EVENTS, FIRST, Clocks, events_of, file_of, opened, pruned, written
-from support.servers import CONTINUE, JSON, SECONDS, repeatable, until
+from support.servers import CONTINUE, FIRST_SENT, JSON, SECONDS, repeatable, until
 
 REQUESTS = [
     {"id": "a", "method": "post", "url": "A", "body": 1},
@@ -212,7 +213,7 @@ def test_a_batch_goes_on_wherever_its_journal_ends(pair, tmp_path):
 
 @pytest.mark.parametrize("change", [
     {"batch": BATCH + " "}, {"Prefer": ""}, {"Prefer": "continue-on-error, return=minimal"}, {"path": "/other/$batch"},
-    {"Repeatability_First_Sent": email.utils.formatdate(time.time() - 7, usegmt=True)},
+    {"Repeatability_First_Sent": email.utils.formatdate(seconds_of(FIRST_SENT) - 7, usegmt=True)},
 ], ids=["batch", "prefer", "minimal", "path", "date"])  # fmt: skip
 def test_another_batch_under_the_same_id(pair, change):
     service, ask = pair
