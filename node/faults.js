@@ -3,6 +3,7 @@
 // Why a call does not do what it is asked for.
 
 const explanations = require('./explanations.json')
+const { finding } = require('./findings.js')
 const library = require('./library.js')
 
 const NUMBERS = 3 // of an odb_position
@@ -39,6 +40,11 @@ class Fault extends Error {
 
   get explanation() {
     return explanations[this.code] ?? ''
+  }
+
+  get details() {
+    const found = this.#document === undefined ? '' : finding(this.code, this.#document, this.place)
+    return `${found}${this.faultName}: ${this.explanation.replace(/\s+/g, ' ').trim()}`
   }
 
   get #numbers() {

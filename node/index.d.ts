@@ -126,6 +126,11 @@ export class Fault extends Error {
   readonly offset: number | undefined
   /** What the fault means, and how it is repaired. */
   readonly explanation: string
+  /**
+   * What is wrong, for people: the id of the request and the name that is wrong, where there are any, as
+   * `order: "lines" is not listed in dependsOn. `, then the name of the fault and its explanation.
+   */
+  readonly details: string
 }
 
 /** A start or a report of a live run is refused, and nothing has changed. */

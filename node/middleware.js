@@ -183,10 +183,7 @@ async function answerOf(answered, req, client, memory, { path, root, own, maxSiz
 
 /** The answer in place of one that failed. A batch that is refused is answered with its first fault. */
 function failedOf(error, log) {
-  if (error instanceof Fault) {
-    const { code, faultName, explanation, place } = error
-    return failedOf(new Refusal(400, code, `${faultName}: ${explanation.replace(/\s+/g, ' ').trim()}`, { target: place }))
-  }
+  if (error instanceof Fault) return failedOf(new Refusal(400, error.code, error.details, { target: error.place }))
   if (!(error instanceof Refusal)) log(error, 'the batch')
   const { status, headers, body } = refusalOf(error).answer
   return { status, headers, body: Buffer.from(JSON.stringify(body)) }

@@ -25,8 +25,8 @@ class Wait {
 }
 
 /**
- * Calls a function with the wait for its answer, which ends after a number of milliseconds: `onEnd` is called then. Without a number
- * it has no wait.
+ * Calls a function with the wait for its answer, which ends after a number of milliseconds: `onEnd` is called then. If they are
+ * infinite, there is no wait.
  */
 async function within(milliseconds, call, onEnd) {
   if (milliseconds === Infinity) return call()

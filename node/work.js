@@ -95,14 +95,27 @@ class Work {
     return undefined
   }
 
-  /** Reports a body as JSON; one that is not JSON, though its answer claims it, as a string, unless that is too long. */
+  /**
+   * Reports a body as JSON. What the run cannot read is left out as little as may be: a body that is not JSON, though its answer
+   * claims it, is a string, unless that is too long; of headers that are not Unicode those in ASCII stay.
+   */
   #put(id, status, headers, text) {
+    const given = shown(headers)
+    if (this.#takes(id, status, given, text)) return
+    const string = text && asText(text, {})
+    const fitting = string?.length > MOST_BYTES ? undefined : string
+    if (this.#takes(id, status, given, fitting) || this.#takes(id, status, plain(given), text)) return
+    this.#run.report(id, status, plain(given), fitting)
+  }
+
+  /** Reports an answer, and returns whether the run can read it. */
+  #takes(id, status, headers, text) {
     try {
-      this.#run.report(id, status, shown(headers), text)
+      this.#run.report(id, status, headers, text)
+      return true
     } catch (error) {
-      if (!(error instanceof Fault)) throw error
-      const string = text && asText(text, {})
-      this.#run.report(id, status, plain(shown(headers)), string?.length > MOST_BYTES ? undefined : string)
+      if (error instanceof Fault) return false
+      throw error
     }
   }
 

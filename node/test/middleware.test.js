@@ -170,7 +170,7 @@ everywhere('answers what is not a batch by an error object', { maxSize: 200, lim
   await refused(multipart, 415, 'BadMediaType', { accept: 'application/json' })
   const fault = await refused(await post('{"requests":[{"id":"a"}]}'), 400, 'F14')
   assert.equal(fault.target, '/requests/0')
-  assert.match(fault.message, /^\w+: \S/)
+  assert.match(fault.message, /^a: \w+: \S/)
   await refused(await post(GROUP), 501, 'NoGroups')
   await refused(await post(JSON.stringify(batch(['a'], ['b'], ['c']))), 413, 'BatchTooLong')
   await refused(await post(' '.repeat(201)), 413, 'TooLong', { connection: 'close' })

@@ -185,6 +185,20 @@ test('shows headers but those of the connection, however they are passed', async
   assert.deepEqual(await of({ 'X-A': '1', 'x-a': '2' }), { 'x-a': '1, 2' })
 })
 
+test('keeps what can be read of an answer', async () => {
+  const wrong = { 'X-Name': '\ud800', Location: 'Books(1)' }
+  const answers = [
+    [wrong, '{"a":9.990}', '{"a":9.990}', { location: 'Books(1)' }],
+    [wrong, '<p>', '"<p>"', { location: 'Books(1)' }],
+    [{ 'X-Name': 'é', Location: 'Books(1)' }, '<p>', '"<p>"', { 'x-name': 'é', location: 'Books(1)' }],
+  ]
+  for (const [headers, body, text, shown] of answers) {
+    const response = (await perform(ONE, () => ({ status: 201, headers, body: Buffer.from(body) }), SILENT)).toString()
+    assert(response.startsWith(`{"responses":[{"body":${text},`), response)
+    assert.deepEqual(responsesOf(response)[0].headers, shown)
+  }
+})
+
 test('sends by fetch', async () => {
   const server = http.createServer(async (req, res) => {
     const parts = []

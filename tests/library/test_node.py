@@ -27,8 +27,10 @@ def found_gyp():
 
 
 def run_own_tests(folder):
-    packages = {**os.environ, "NODE_PATH": "/usr/share/nodejs"}  # where Debian has Express
-    print(run("node", "--test", *sorted((folder / "test").glob("*.test.js")), env=packages))
+    packages = {"NODE_PATH": "/usr/share/nodejs"}  # where Debian has Express
+    cases = {"URL_CASES": os.path.join(ROOT, "tests", "support", "urls.json")}
+    tests = sorted((folder / "test").glob("*.test.js"))
+    print(run("node", "--test", *tests, env={**os.environ, **packages, **cases}))
 
 
 def test_its_own_tests(module):
