@@ -7,6 +7,8 @@ const SVG = 'http://www.w3.org/2000/svg'
 function fill(made, attributes, children) {
   for (const [name, value] of Object.entries(attributes)) {
     if (name.startsWith('on')) made.addEventListener(name.slice(2), value)
+    // The policy of the page takes no style from an attribute.
+    else if (name === 'style') made.style.cssText = value
     else if (value !== undefined && value !== false) made.setAttribute(name, value === true ? '' : value)
   }
   made.append(...children.filter((it) => it !== undefined && it !== ''))
@@ -38,13 +40,13 @@ function count(number, noun, nouns = `${noun}s`) {
   return `${number.toLocaleString('en')} ${number === 1 ? noun : nouns}`
 }
 
-/** Puts a text on the clipboard, and says whether that worked. */
-async function copy(text, note) {
+/** Puts a text on the clipboard, and says in a note whether that worked, or else where the text is. */
+async function copy(text, note, elsewhere = '') {
   try {
     await navigator.clipboard.writeText(text)
     note.textContent = 'Copied.'
   } catch {
-    note.textContent = copyByHand(text) ? 'Copied.' : 'The browser does not allow it.'
+    note.textContent = copyByHand(text) ? 'Copied.' : `The browser does not allow it.${elsewhere}`
   }
 }
 

@@ -8,6 +8,7 @@ const { requests } = require('../node/requests.js')
 const { Course } = require('./course.js')
 const { elementsAt, membersAt, skipSpace } = require('./json.js')
 const { Places } = require('./places.js')
+const { answersOf } = require('./served.js')
 const { verdictOf } = require('./verdict.js')
 
 // How much of a document the page shows if it is too long to be edited, and how much of it before a place.
@@ -66,7 +67,7 @@ class Document {
   }
 }
 
-/** The events of a document of events, or the answers of one of outcomes: `id`, and headers and body as JSON texts. */
+/** The events of a document of events, or the answers of one of outcomes or responses: `id`, and headers and body as JSON texts. */
 function elementsOf(text, kind) {
   const list = membersAt(text, skipSpace(text, 0)).get(kind)
   return Array.from(elementsAt(text, list.value.start), ({ start }) => {
@@ -76,7 +77,7 @@ function elementsOf(text, kind) {
       const found = value && text.slice(value.start, value.end)
       return found === 'null' ? undefined : found
     }
-    const id = JSON.parse(raw('start') ?? raw('report') ?? raw('id'))
+    const id = JSON.parse(kind === 'events' ? (raw('start') ?? raw('report')) : raw('id'))
     const status = raw('status')
     if (status === undefined) return { id }
     return { id, status: Number(status), ...present({ headers: raw('headers'), body: raw('body') }) }
@@ -186,6 +187,15 @@ class Engine {
     return { ...verdict, statuses: verdict.accepted ? linesOf(verdict.text) : [] }
   }
 
+  /** What `match` makes of the responses of a service, also with --strict, and what a run has to be answered to end so. */
+  #served({ bytes, text }, mode) {
+    const verdict = this.#match(bytes, { mode })
+    if (!verdict.accepted) return verdict
+    const strict = this.#match(bytes, { mode, strict: true })
+    const impossible = strict.accepted ? undefined : { line: strict.text, explanation: strict.faults[0].explanation }
+    return { ...verdict, impossible, ...answersOf(this.#requests, elementsOf(text, 'responses'), mode) }
+  }
+
   /** The places of a second document; a fault may also be about a request of the batch. */
   #placesOf(document) {
     return {
@@ -200,7 +210,7 @@ class Engine {
   read({ document: given, kind, mode, width, order }) {
     const document = new Document(given)
     const found = kindOf(document.text) ?? kind
-    if (found === 'responses') return { kind: found, ...this.#match(given, { mode }) }
+    if (found === 'responses') return { kind: found, ...this.#served(document, mode) }
     const options = found === 'events' ? { mode, width } : { mode, width, order, trace: true }
     const command = found === 'events' ? 'run' : 'replay'
     const verdict = verdictOf(command, [this.#batch.bytes, document.bytes], this.#placesOf(document), options)

@@ -122,8 +122,8 @@ class Page {
 
   /** Takes the batch of the link, if it carries one. */
   async fromLink() {
-    const { isLink, text } = await readLink(location.hash)
-    byId('shared').textContent = isLink && text === undefined ? 'The link is damaged: it carries no batch.' : ''
+    const { text, refusal = '' } = await readLink(location.hash)
+    byId('shared').textContent = refusal
     if (text !== undefined) this.write(text)
     return text !== undefined
   }
@@ -270,7 +270,7 @@ class Page {
     }
     const link = location.href.replace(/#.*$/, '') + part
     history.replaceState(null, '', part)
-    await copy(link, byId('shared'))
+    await copy(link, byId('shared'), ' The link is in the address bar.')
   }
 
   #writeSecond(text) {
@@ -313,7 +313,7 @@ class Page {
       if (this.#run.events.length > 0) this.#keep('.second')
       this.#run.replace(read.run)
     }
-    this.#run.compare(read.statuses ?? [])
+    this.#run.compare(read)
     this.count++
   }
 

@@ -36,14 +36,25 @@ function verdictOf({ accepted, text, statuses }) {
 
 /** What a comparison has found. */
 function found(differing, isFinished) {
-  if (!isFinished) return 'Finish the run to compare the statuses with it.'
+  if (!isFinished) return 'Play the run to see why each request is answered so.'
   if (differing.length === 0) return 'The run and the service answered every request with the same status.'
   const verb = differing.length === 1 ? 'was' : 'were'
-  return `${count(differing.length, 'request')} ${verb} answered otherwise: ${listed(differing.map(({ id }) => id))}.`
+  const words = `${count(differing.length, 'request')} ${verb} answered otherwise: ${listed(differing.map(({ id }) => id))}.`
+  return `${words} Play again to run the batch with what the service answered.`
+}
+
+/** What the page has done with the responses of a service, in words. */
+function taken({ impossible, isCut }) {
+  const words = [`Answer with has what the service answered${isCut ? ', without headers and bodies, since these are long' : ''}. `]
+  if (!impossible) return words
+  const { line, explanation } = impossible
+  const title = 'No run of the batch ends with these statuses: match --strict prints '
+  return [...words, title, element('code', {}, line), `. ${explanation} `]
 }
 
 /** Compares the statuses of a service with those of the run, by the ids of the requests. */
-function showComparison(place, statuses, requests, run) {
+function showComparison(place, served, requests, run) {
+  const { statuses = [] } = served
   if (statuses.length === 0) {
     place.replaceChildren()
     return
@@ -64,7 +75,8 @@ function showComparison(place, statuses, requests, run) {
   const label = 'The statuses of the service and of the run'
   const head = element('thead', {}, element('tr', {}, ...heads))
   const table = element('table', { 'aria-label': label }, head, element('tbody', {}, ...cells))
-  place.replaceChildren(element('p', {}, found(differing, run.finished)), element('div', { class: 'table' }, table))
+  const words = element('p', {}, ...taken(served), found(differing, run.finished))
+  place.replaceChildren(words, element('div', { class: 'table' }, table))
 }
 
 module.exports = { showComparison, showResponse }

@@ -21,7 +21,8 @@ class RunView {
   #requests = []
   #reasons
   #run
-  #statuses = []
+  // What `match` makes of the responses of a service, once some were read.
+  #served = {}
   #isPlaying = false
   // The id of the request whose status was refused last, while the page says so.
   #badStatus
@@ -66,7 +67,7 @@ class RunView {
     this.#reasons = new Reasons(requests)
     this.#reasons.run = run
     this.#run = run
-    this.#statuses = []
+    this.#served = {}
     this.#picture.show(requests, this.#reasons)
     this.#table.show(requests, this.#reasons)
     this.#shown(run)
@@ -83,7 +84,7 @@ class RunView {
     this.#say('There is no run: the batch is not accepted.')
     showTimeline(byId('timeline'), { events: [], undone: [] })
     showResponse(byId('response'), { finished: false })
-    showComparison(byId('comparison'), [], [], {})
+    showComparison(byId('comparison'), {}, [], {})
     this.#buttons()
   }
 
@@ -99,10 +100,12 @@ class RunView {
     if (events.length > 0 && (await this.#ask('add', { events }))) this.#say(this.#happened('The run is back. '))
   }
 
-  /** Shows the statuses that a service has answered. */
-  compare(statuses) {
-    this.#statuses = statuses
-    if (this.#run) showComparison(byId('comparison'), statuses, this.#requests, this.#run)
+  /** Shows what a service has answered, and answers the requests so from now on; or shows that nothing was read of one. */
+  compare(served) {
+    this.#served = served
+    if (!this.#run) return
+    if (served.answers) this.#table.take(served.answers)
+    showComparison(byId('comparison'), served, this.#requests, this.#run)
   }
 
   /** Copies the events of the run as a document, and says so in a note. */
@@ -230,7 +233,7 @@ class RunView {
     this.#table.paint()
     showTimeline(byId('timeline'), run, (id) => this.#reasons.kind(this.#reasons.membersOf(id)[0]))
     showResponse(byId('response'), run, (note) => this.copyEvents(note))
-    showComparison(byId('comparison'), this.#statuses, this.#requests, run)
+    showComparison(byId('comparison'), this.#served, this.#requests, run)
     this.#buttons()
   }
 

@@ -2,12 +2,30 @@
 
 // Links that carry a batch after their `#`, packed, so that no server sees it.
 
-const PREFIX = '#batch='
-const MOST = 12_000 // characters that links may have nearly everywhere
+const { count } = require('./dom.js')
+const { Editor } = require('./editor.js')
 
-async function through(bytes, stream) {
-  const piped = new Blob([bytes]).stream().pipeThrough(stream)
-  return new Uint8Array(await new Response(piped).arrayBuffer())
+const PREFIX = '#batch='
+const MOST = 12_000 // bytes, packed: links may have the characters for them nearly everywhere
+const MOST_TEXT = 1_200_000 // bytes of a text that can be edited
+const DAMAGED = 'The link is damaged: it carries no batch.'
+const TOO_LONG = `The link is refused: it carries more than the ${count(MOST_TEXT, 'byte')} that a link of this page may have.`
+
+/** Puts bytes through a stream; returns undefined as soon as there are more of them than that. */
+async function through(bytes, stream, most = Infinity) {
+  const reader = new Blob([bytes]).stream().pipeThrough(stream).getReader()
+  const parts = []
+  let length = 0
+  for (;;) {
+    const { done, value } = await reader.read()
+    if (done) return new Uint8Array(await new Blob(parts).arrayBuffer())
+    length += value.length
+    if (length > most) {
+      reader.cancel().catch(() => {})
+      return undefined
+    }
+    parts.push(value)
+  }
 }
 
 /** The part of a link that carries a text, or undefined if that is too long. */
@@ -18,21 +36,24 @@ async function linkOf(text) {
   return PREFIX + letters.replaceAll('+', '-').replaceAll('/', '_').replace(/=+$/, '')
 }
 
-/** Whether the part of a link is to carry a text, and that text, unless it is damaged. */
+/** The text that the part of a link carries, or why that is refused; neither if it is not to carry one. */
 async function readLink(part) {
-  const isLink = part.startsWith(PREFIX)
-  return { isLink, text: isLink ? await textOf(part) : undefined }
+  if (!part.startsWith(PREFIX)) return {}
+  try {
+    const text = await textOf(part.slice(PREFIX.length))
+    return text === undefined ? { refusal: TOO_LONG } : { text }
+  } catch {
+    return { refusal: DAMAGED }
+  }
 }
 
-async function textOf(part) {
-  try {
-    const letters = atob(part.slice(PREFIX.length).replaceAll('-', '+').replaceAll('_', '/'))
-    const packed = Uint8Array.from(letters, (it) => it.charCodeAt(0))
-    const bytes = await through(packed, new DecompressionStream('deflate-raw'))
-    return new TextDecoder('utf-8', { fatal: true, ignoreBOM: true }).decode(bytes)
-  } catch {
-    return undefined
-  }
+/** The text of the letters of a link, or undefined if it is too long; throws an exception if they are damaged. */
+async function textOf(letters) {
+  const packed = Uint8Array.from(atob(letters.replaceAll('-', '+').replaceAll('_', '/')), (it) => it.charCodeAt(0))
+  if (packed.length > MOST) return undefined
+  const bytes = await through(packed, new DecompressionStream('deflate-raw'), MOST_TEXT)
+  const text = bytes && new TextDecoder('utf-8', { fatal: true, ignoreBOM: true }).decode(bytes)
+  return text !== undefined && Editor.takes(text) ? text : undefined
 }
 
 module.exports = { linkOf, readLink }

@@ -73,6 +73,13 @@ class Table {
     this.#fill()
   }
 
+  /** Takes what requests are to be answered, in place of all that was chosen. */
+  take(answers) {
+    this.#answers = answers
+    this.#rows = new Map()
+    this.#fill()
+  }
+
   /** What a request is answered if it is reported now. */
   answerOf({ id, method }) {
     return { status: usualStatus(method), ...this.#answers[id] }
@@ -144,7 +151,7 @@ class Table {
     const field = (name, title, example) => element('label', {}, title, element('textarea', {
       spellcheck: 'false', placeholder: example, 'aria-label': `${title} of the answer to ${id}`,
       oninput: ({ target }) => this.#answer(id, { [name]: target.value.trim() || undefined }),
-    }))
+    }, this.#answers[id]?.[name]))
     const fields = [field('headers', 'Headers', '{"Location": "Loans(1)"}'), field('body', 'Body', '{"Due": "2026-12-01"}')]
     const cell = element('td', { role: 'cell', colspan: TITLES.length }, element('div', {}, ...fields))
     return element('tr', { class: 'parts', role: 'row', hidden: true }, cell)

@@ -1,5 +1,9 @@
 """A batch is typed, pasted, opened and linked; each fault is marked in the text, and is gone once it is mended."""
 
+import base64
+import os
+import zlib
+
 import pytest
 
 from support.keys import CONTROL
@@ -109,6 +113,50 @@ def test_a_damaged_link_says_so(page):
     page.value("location.hash = '#batch=AAAA'")
     page.until("return document.getElementById('shared').textContent.includes('The link is damaged')")
     assert "ok 4 requests" in verdict(page)
+
+
+def packed(text):
+    """The part of a link that carries a text, also one that the page makes no link of."""
+    press = zlib.compressobj(9, zlib.DEFLATED, -15)
+    return "#batch=" + base64.urlsafe_b64encode(press.compress(text) + press.flush()).decode().rstrip("=")
+
+
+@pytest.mark.parametrize("text", [b" " * 5_000_000, b" " * 500_000, os.urandom(15_000)], ids=["bytes", "characters", "packed"])
+def test_a_link_that_unpacks_to_too_much_says_so(page, text):
+    before = page.value("return document.getElementById('text').value")
+    page.value(f"location.hash = '{packed(text)}'")
+    page.until("return document.getElementById('shared').textContent.includes('The link is refused: it carries more than')")
+    assert page.value("return document.getElementById('text').value") == before
+    assert "ok 4 requests" in verdict(page)
+
+
+def test_a_link_of_a_long_text_is_read(page):
+    text = '{"requests": []}'.ljust(400_000)
+    page.value(f"location.hash = '{packed(text.encode())}'")
+    page.until("return document.getElementById('verdict').textContent.includes('ok 0 requests')")
+    assert page.value("return document.getElementById('text').value.length") == 400_000
+
+
+def test_a_link_that_cannot_be_copied_is_in_the_address_bar(page):
+    page.value("""const clipboard = { writeText: () => Promise.reject(new Error('no')) }
+        Object.defineProperty(navigator, 'clipboard', { value: clipboard, configurable: true })
+        document.execCommand = () => false
+        document.getElementById('share').click()""")
+    said = page.until("return document.getElementById('shared').textContent")
+    assert said == "The browser does not allow it. The link is in the address bar."
+    assert page.value("return location.hash.length") > len("#batch=")
+
+
+def test_no_other_script_or_style_is_taken(page):
+    found = page.value("""const script = document.createElement('script')
+        script.textContent = 'window.taken = 1'
+        document.body.append(script)
+        const styled = '<p id="styled" style="color: red" onclick="window.taken = 2">x</p>'
+        document.body.insertAdjacentHTML('beforeend', styled + '<style>#styled { font-size: 99px }</style>')
+        document.getElementById('styled').click()
+        const { color, fontSize } = getComputedStyle(document.getElementById('styled'))
+        return [window.taken ?? 'none', color, fontSize]""")
+    assert found[0] == "none" and found[1] != "rgb(255, 0, 0)" and found[2] != "99px"
 
 
 def test_the_page_can_send_nothing(page):

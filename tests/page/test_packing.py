@@ -1,5 +1,7 @@
 """The page is one small file that names nothing outside of it; the package for Python opens and writes it."""
 
+import base64
+import hashlib
 import importlib.util
 import os
 import re
@@ -28,6 +30,17 @@ def test_it_names_nothing_outside(page_file):
     named = re.findall(r"""(?:src|href|action)="([^"]*)\"""", text) + re.findall(r"url\(([^)]*)\)|@import", text)
     assert set(named) == {"data:,", "#text", "#play"}
     assert not re.search(r"\b(?:fetch|XMLHttpRequest|sendBeacon|WebSocket|EventSource|importScripts)\(", text)
+
+
+def test_the_policy_names_its_script_and_its_style(page_file):
+    """So that the browser runs no script, and takes no style, that anything else puts into the page."""
+    text = page_file.read_text(encoding="utf-8")
+    policy = dict(it.strip().split(" ", 1) for it in re.search(r'Security-Policy" content="(.*?)"', text)[1].split(";"))
+    for name, begin, end in [("script-src", '<script id="code">', "</script>"), ("style-src", "<style>", "</style>")]:
+        own = text.partition(begin)[2].partition(end)[0]
+        digest = base64.b64encode(hashlib.sha256(own.encode()).digest()).decode()
+        assert policy[name].split()[0] == f"'sha256-{digest}'"
+    assert "unsafe-inline" not in text.partition("<body>")[0]
 
 
 @pytest.mark.parametrize("words, status, line", [

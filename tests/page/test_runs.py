@@ -282,6 +282,94 @@ def test_responses_are_compared(page, example):
         return value.slice(selectionStart, selectionEnd)""").startswith('{"id": "list"')
 
 
+def served(*statuses):
+    """The response of a service to batch_usual.json, of which some responses have more."""
+    groups = {"mark": "lend", "loan": "lend"}
+    return json.dumps({"responses": [
+        {"id": id, "status": it, **({"atomicityGroup": groups[id]} if id in groups else {})}
+        for id, it in zip(("book", "mark", "loan", "list"), statuses)
+    ]})  # fmt: skip
+
+
+def answers(page):
+    """The statuses that the requests are to be answered."""
+    return [int(status_of(page, id, "value")) for id in ("book", "mark", "loan", "list")]
+
+
+def reasons(page):
+    return page.value("return Array.from(document.querySelectorAll('#requests tbody tr[data-position]'), (it) => it.cells[1].textContent)")
+
+
+SAME = "The run and the service answered every request with the same status."
+
+
+def test_responses_are_what_requests_are_answered(page):
+    answer(page, "book", 203)
+    read(page, served(200, 424, 409, 424))
+    assert "Accepted: ok 4 responses" in page.text("second-verdict")
+    # What was not performed, or undone, has no status of its own: the run finds it.
+    assert answers(page) == [200, 204, 409, 200]
+    assert page.text("comparison").startswith("Answer with has what the service answered. Play the run to see why")
+    assert page.value("return document.querySelectorAll('#timeline rect').length") == 0
+    play(page)
+    assert SAME in page.text("comparison")
+    assert reasons(page) == [
+        "✓answered 200",
+        "↶to be undone, answered 424loan was answered 409, and the group lend is applied as a whole or not at all",
+        "✕answered 409",
+        "–not started, answered 424it needs the group lend, and loan was answered 409",
+    ]
+
+
+@pytest.mark.parametrize("statuses, filled, is_stop", [
+    ((424, 424, 424, 424), [424, 204, 201, 200], False),
+    ((200, 424, 424, 424), [200, 424, 201, 200], False),
+    ((200, 404, 409, 424), [200, 404, 409, 200], False),
+    ((200, 204, 201, 424), [200, 204, 201, 424], False),
+    ((500, 424, 424, 424), [500, 204, 201, 200], True),
+])  # fmt: skip
+def test_a_424_without_a_cause_is_an_answer(page, statuses, filled, is_stop):
+    choose(page, "stop", is_stop)
+    read(page, served(*statuses))
+    assert answers(page) == filled
+    play(page)
+    assert SAME in page.text("comparison")
+
+
+def test_responses_bring_headers_and_bodies(page, program, example, tmp_path):
+    text = served(200, 204, 201, 200).replace('"id": "loan",', '"id": "loan", "headers": {"Location": "Loans(1)", "Age": 7}, "body": {"n": 9.990},')
+    read(page, text)
+    fields = [f"""document.querySelector('[aria-label="{it} of the answer to loan"]').value""" for it in ("Headers", "Body")]
+    assert page.value(f"return [{', '.join(fields)}]") == ['{"Location":"Loans(1)","Age":"7"}', '{"n": 9.990}']
+    play(page)
+    assert '"body":{"n": 9.990},"headers":{"age":"7","location":"Loans(1)"},"id":"loan"' in response(page)
+    assert SAME in page.text("comparison")
+
+
+def test_long_bodies_are_left_out(page):
+    body = json.dumps("x" * 1_000_000)
+    read(page, served(200, 424, 409, 424).replace('"id": "book",', f'"id": "book", "body": {body},'))
+    assert page.text("comparison").startswith("Answer with has what the service answered, without headers and bodies")
+    assert answers(page) == [200, 204, 409, 200]
+
+
+def test_statuses_that_no_run_ends_with_say_so(page):
+    read(page, served(200, 201, 409, 424))
+    assert "Accepted: ok 4 responses" in page.text("second-verdict")
+    assert "No run of the batch ends with these statuses: match --strict prints fault F77 " in page.text("comparison")
+    read(page, served(200, 424, 409, 424))
+    assert "No run" not in page.text("comparison")
+
+
+def test_responses_stay_with_a_run_that_is_finished(page):
+    answer(page, "loan", 409)
+    play(page)
+    read(page, served(200, 204, 201, 200))
+    assert "answered otherwise: mark, loan and list. Play again to run the batch with what" in page.text("comparison")
+    play(page)
+    assert SAME in page.text("comparison")
+
+
 def test_numbers_of_bodies_stay_as_they_are(page):
     write(page, '{"requests": [{"id": "a", "method": "get", "url": "A"}]}')
     page.value("""const field = document.querySelector('[aria-label="Body of the answer to a"]')
