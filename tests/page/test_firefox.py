@@ -4,13 +4,13 @@ import contextlib
 
 import pytest
 
-from support.firefox import PROGRAM, Firefox
+from support.firefox import PROGRAM, StrictFirefox
 
 
 @pytest.fixture(scope="module")
 def firefox(need, tmp_path_factory):
     need(PROGRAM)
-    with contextlib.closing(Firefox(tmp_path_factory.mktemp("firefox"))) as made:
+    with contextlib.closing(StrictFirefox(tmp_path_factory.mktemp("firefox"))) as made:
         yield made
 
 

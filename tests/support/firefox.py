@@ -37,6 +37,13 @@ script.textContent = `
 document.head.append(script)
 """
 
+# The same in the sandbox of the protocol.
+IN_SANDBOX = """
+const done = arguments[arguments.length - 1]
+const answer = (async () => {CODE})()
+answer.then((value) => done(JSON.stringify({ value })), (error) => done(JSON.stringify({ error: String(error) })))
+"""
+
 
 class Firefox:
     """A page of a browser. Commands and answers are JSON texts, each with its length and a colon before it."""
@@ -91,7 +98,10 @@ class Firefox:
 
     def value(self, code):
         """The value of the body of an async function, in the page."""
-        found = json.loads(self.call("WebDriver:ExecuteAsyncScript", script=IN_PAGE, args=[code])["value"])
+        return self.answer(IN_PAGE, code)
+
+    def answer(self, script, *words):
+        found = json.loads(self.call("WebDriver:ExecuteAsyncScript", script=script, args=words)["value"])
         if "error" in found:
             raise Failed(found["error"])
         return found.get("value")
@@ -129,3 +139,10 @@ class Firefox:
             self.process.kill()
             self.process.wait()
         self.connection.close()
+
+
+class StrictFirefox(Firefox):
+    """A page of a browser whose policy lets no script run but the page's own: it sees only what is in the document."""
+
+    def value(self, code):
+        return self.answer(IN_SANDBOX.replace("CODE", code))
