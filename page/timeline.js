@@ -7,12 +7,14 @@ const { listed } = require('./words.js')
 
 const ROW = 24
 const LEFT = 130 // pixels for the ids
+const RIGHT = 70 // pixels for the status of a bar that ends last
+const EDGE = 20 // pixels for a scroll bar
 const MOST_ROWS = 200
 const MOST_MARKS = 100
 const APART = 30 // pixels between marks of steps
 const TOP = 22
 const MOST_HIGH = 352 // pixels of the picture before it scrolls
-const STEPS = { least: 6, most: 64, all: 560 } // pixels of a step, and of all of them if they fit
+const STEPS = { least: 6, most: 64, all: 560 } // pixels of a step, and of all of them if the page has no room yet
 
 /** When each request starts and reports, in the order of the starts. */
 function barsOf(events) {
@@ -52,8 +54,9 @@ function showTimeline(place, { events, undone }, kindOf) {
   const bars = barsOf(events)
   const shown = bars.slice(0, MOST_ROWS)
   const now = events.length
-  const width = Math.min(Math.max(STEPS.all / now, STEPS.least), STEPS.most)
-  const size = { width: LEFT + now * width + 70, height: TOP + shown.length * ROW + 6 }
+  const room = place.clientWidth > 0 ? place.clientWidth - LEFT - RIGHT - EDGE : STEPS.all
+  const width = Math.min(Math.max(room / now, STEPS.least), STEPS.most)
+  const size = { width: LEFT + now * width + RIGHT, height: TOP + shown.length * ROW + 6 }
   const every = Math.max(Math.ceil(APART / width), Math.ceil(now / MOST_MARKS))
   const marks = Array.from({ length: Math.floor(now / every) + 1 }, (_, at) => {
     const x = LEFT + at * every * width

@@ -370,6 +370,14 @@ def test_responses_stay_with_a_run_that_is_finished(page):
     assert SAME in page.text("comparison")
 
 
+@pytest.mark.parametrize("width", [1100, 1400])
+def test_the_time_line_fits_its_place(page, width):
+    page.size(width, 1000)
+    play(page)
+    found = page.value("const { scrollWidth, clientWidth } = document.querySelector('#timeline .scroll'); return [scrollWidth, clientWidth]")
+    assert found[0] <= found[1]
+
+
 def test_numbers_of_bodies_stay_as_they_are(page):
     write(page, '{"requests": [{"id": "a", "method": "get", "url": "A"}]}')
     page.value("""const field = document.querySelector('[aria-label="Body of the answer to a"]')
