@@ -3,12 +3,18 @@
 import fnmatch
 from typing import List, Sequence
 
+from ._again import again
 from ._alone import alone
-from ._failures import failing_groups, failing_long_groups, one_failure
+from ._conditions import conditions
+from ._failures import failing_beside, failing_groups, failing_long_groups, one_failure
 from ._flows import FLOWS, longest
+from ._headers import headers
+from ._members import members
 from ._names import names
 from ._promises import Case
 from ._references import references
+from ._stops import stops
+from ._values import values
 from ._waits import waits
 
 # How many requests the longest batch may have, and how many it has if nobody says.
@@ -20,11 +26,18 @@ def all_cases(requests: int) -> List[Case]:
     return [
         *FLOWS,
         *alone(),
+        *values(),
+        *headers(),
+        *members(),
         *waits(),
+        *again(),
         *names(),
         *references(),
+        *conditions(),
         *one_failure("missing"),
         *failing_groups(),
+        *failing_beside(),
+        *stops(),
         *longest(requests),
         *failing_long_groups(requests),
     ]

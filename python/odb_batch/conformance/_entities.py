@@ -2,8 +2,10 @@
 
 import itertools
 import secrets
+import time
 import uuid
-from typing import Any, Callable, Dict, Iterator, List, NamedTuple, Optional, Sequence, Tuple
+from functools import partial
+from typing import Any, Callable, Dict, Iterator, List, Mapping, NamedTuple, Optional, Sequence, Set, Tuple
 from urllib.parse import quote
 
 from ._service import GONE, Answer, Service, Unusable
@@ -44,6 +46,14 @@ class Effect(NamedTuple):
     mark: Any = None
 
 
+# Where keys are looked for that a service does not give: far above those that it counts.
+FAR = (2_000_000_000, 30_000)
+# How often it is looked, within a second, for what was created and cannot be read at once.
+LOOKS, PAUSE = 20, 0.05
+# How many entities are made, read and removed to see whether that shows at once.
+ROUNDS = 8
+BEHIND = "does the service commit after it has answered?"
+
 # Keys that a service may take, and None for one that makes its own: each is tried in turn.
 KEYS: Tuple[Callable[[], Any], ...] = (
     lambda: f"conformance-{secrets.token_hex(6)}",
@@ -51,6 +61,15 @@ KEYS: Tuple[Callable[[], Any], ...] = (
     lambda: secrets.randbelow(2_000_000_000),
     lambda: None,
 )
+
+
+def keys_far_from(key: Any) -> Iterator[Callable[[], Any]]:
+    """Ways to make keys of the kind of one that a service has given, and that it does not give next."""
+    if isinstance(key, int):
+        for far in FAR:
+            yield partial(next, itertools.count(far - secrets.randbelow(1_000), -7))
+    else:
+        yield from (KEYS[1], KEYS[0])
 
 
 def literals(value: Any) -> Iterator[str]:
@@ -71,6 +90,11 @@ class Entities:
         lacks: What the service does not have, with the reason to print: names of `learning.LACKS`.
         before: What the set has besides, if it can be listed.
         spare, lent: What requests read and change, and no request removes; it lasts from case to case.
+        has_version: Whether the service says alone which version of OData an answer has.
+        values: Properties that take certain values, each with one, by names of `values.TRIED`.
+        unused: Makes keys that the service never gives, since it gives that of a deleted entity again; else None.
+        removed: The addresses of what plain requests have removed.
+        notes: What was learned that the report says.
     """
 
     def __init__(self, service: Service, entity_set: str, key: str, body: Dict[str, Any]) -> None:
@@ -85,6 +109,11 @@ class Entities:
         self.before: Optional[Listing] = None
         self.spare: List[Entity] = []
         self.lent: List[Entity] = []
+        self.has_version = False
+        self.values: Dict[str, Tuple[str, Any]] = {}
+        self.unused: Optional[Callable[[], Any]] = None
+        self.removed: Set[str] = set()
+        self.notes: List[str] = []
 
     def learn_keys(self) -> None:
         """Makes one entity, to learn how keys are given and written; raises Unusable if none can be made."""
@@ -97,19 +126,51 @@ class Entities:
                 self.are_named = key is not None and value == key
                 self.new_key = new_key if self.are_named else KEYS[-1]
                 self._learn_to_write(value, answer)
+                if not self.are_named:
+                    self._learn_reuse(value)
                 return
             refusals.append(answer)
         raise Unusable(f"{self.set} takes no entity: POST {self.service.root}{self.set} is answered {refusals[-1]}")
 
     def _learn_to_write(self, value: Any, answer: Answer) -> None:
         """Finds out how the key of an entity that is there is written in its URL."""
-        for at, literal in enumerate(literals(value)):
-            url = f"{self.set}({literal})"
-            if self.read(url) is not None:
+        urls = [f"{self.set}({literal})" for literal in literals(value)]
+        for url in urls:
+            if self.service.ask("GET", url).is_success:
                 self._found(url, answer)
-                self.are_quoted = at == 0
+                self.are_quoted = url == urls[0]
                 return
-        raise Unusable(f"{self.service.root}{self.set}({next(literals(value))}) was created, and cannot be read")
+        place = f"{self.service.root}{urls[0]}"
+        for _ in range(LOOKS):
+            time.sleep(PAUSE)
+            if any(self.service.ask("GET", url).is_success for url in urls):
+                raise Unusable(f"{place} was created, and cannot be read at once: {BEHIND}")
+        raise Unusable(f"{place} was created, and cannot be read")
+
+    def _learn_reuse(self, key: Any) -> None:
+        """Finds out whether the key of an entity that is removed is given again, as by an INTEGER PRIMARY KEY of
+        SQLite. What is missing then has a key that is never given."""
+        self._remove(self.url_of(key))
+        entity = self.make()
+        if entity.key != key:
+            return
+        self.notes.append(f"{self.set} gives the key of an entity that is removed again")
+        for new_key in keys_far_from(key):
+            if self.service.ask("GET", self.url_of(new_key())).status in GONE:
+                self.unused = new_key
+                self.notes[-1] += "; what is missing has keys that it does not give"
+                return
+
+    def require_reads(self) -> None:
+        """Raises Unusable unless what is created can be read at once, and what is removed is gone at once."""
+        for _ in range(ROUNDS):
+            entity = self.make()
+            place = f"{self.service.root}{entity.url}"
+            if self.read(entity.url) is None:
+                raise Unusable(f"{place} was created, and cannot be read at once: {BEHIND}")
+            if self._remove(entity.url) and self.read(entity.url) is not None:
+                raise Unusable(f"{place} was deleted, and can be read all the same: {BEHIND}")
+            self.made.pop(self.service.address(entity.url), None)
 
     # Making
 
@@ -139,10 +200,14 @@ class Entities:
             self.note(url)
         return Entity(url, self.body_with(key, mark), key, mark)
 
-    def make(self) -> Entity:
-        """Makes an entity by a plain request."""
+    def make(self, more: Mapping[str, Any] = {}, text: Optional[Callable[[Any], str]] = None) -> Entity:
+        """Makes an entity by a plain request, with more properties and a text around its mark if the service takes
+        them."""
         entity = self.fresh()
-        answer = self.post(entity.body)
+        body = {**entity.body, **more, **({self.text: text(entity.mark)} if text and self.text else {})}
+        answer = self.post(body)
+        if not answer.is_success and body != entity.body:
+            answer = self.post(entity.body)
         if not answer.is_success:
             raise Unusable(f"POST {self.service.root}{self.set} is answered {answer}, and was answered 2xx before")
         key = entity.key if self.are_named else self.key_of(answer)
@@ -176,9 +241,18 @@ class Entities:
         if self.are_named:
             key = self.new_key()
             return Entity(self.url_of(key), self.body_with(key, self.new_mark()), key)
+        if self.unused is not None:
+            key, mark = self.unused(), self.new_mark()
+            return Entity(self.url_of(key), self.body_with(None, mark), key, mark)
         entity = self.make()
-        self.service.ask("DELETE", entity.url)
+        self._remove(entity.url)
         return entity
+
+    def hold_keys(self) -> None:
+        """Makes an entity after all others, so that none of their keys is given again while a batch is performed: many
+        services give the greatest key plus one."""
+        if self.unused is not None:
+            self.make()
 
     def post(self, body: Any, headers: Dict[str, str] = {}) -> Answer:
         """Posts to the set, and notes what that creates."""
@@ -257,8 +331,16 @@ class Entities:
             return (effect.mark in self.marks(listing)) == effect.is_there
         entity = self.read(effect.url) if listing is None else listing.get(effect.url)
         if entity is None or not effect.is_there:
-            return (entity is None) != effect.is_there
-        return effect.mark is None or entity.get(self.text or "") == effect.mark
+            is_gone = entity is None or self._is_other(entity, effect)
+            return is_gone != effect.is_there
+        return effect.mark in (None, self._mark_of(entity))
+
+    def _is_other(self, entity: Dict[str, Any], effect: Effect) -> bool:
+        """Whether an entity has the key of one that was removed, and is another."""
+        return self.unused is not None and effect.mark not in (None, self._mark_of(entity))
+
+    def _mark_of(self, entity: Dict[str, Any]) -> Any:
+        return entity.get(self.text or "")
 
     # Removing
 
@@ -300,4 +382,7 @@ class Entities:
         answer = self.service.ask("DELETE", url)
         if answer.status == 428:
             answer = self.service.ask("DELETE", url, headers={"If-Match": "*"})
-        return answer.is_success or answer.status in GONE or self.read(url) is None
+        is_gone = answer.is_success or answer.status in GONE or self.read(url) is None
+        if is_gone:
+            self.removed.add(self.service.address(url))
+        return is_gone

@@ -1,9 +1,9 @@
 """Cases in which a request fails."""
 
 from functools import partial
-from typing import Callable, List, Tuple
+from typing import Callable, List, Optional, Sequence, Tuple
 
-from ._flows import chain, group
+from ._flows import group
 from ._kinds import KINDS, fail
 from ._promises import Case
 from ._stage import Stage
@@ -94,37 +94,38 @@ def at_once(stage: Stage, kind: str) -> None:
     stage.write("last", needs=["h"])
 
 
-def stop_after_failure(stage: Stage, kind: str) -> None:
-    fail(stage, "bad", kind)
-    chain(stage, 30)
+def beside_groups(stage: Stage, kind: str, at: Sequence[Optional[int]]) -> None:
+    """Groups side by side, of which some fail at a member: what becomes of one is nothing to the others."""
+    for name, place in zip("ghk", at):
+        for k in range(3):
+            if k == place:
+                fail(stage, f"{name}{k}", kind, group=name)
+            else:
+                stage.write(f"{name}{k}", group=name)
+    for name in "ghk":
+        stage.write(f"after-{name}", needs=[name])
 
 
-def stop_after_group(stage: Stage, kind: str) -> None:
-    for k in range(2):
-        stage.write(f"g{k}", group="g")
-    fail(stage, "g2", kind, group="g")
-    chain(stage, 30)
-
-
-def stop_before_failure(stage: Stage, kind: str) -> None:
-    chain(stage, 4)
-    fail(stage, "bad", kind, needs=["c3"])
-    stage.write("w", needs=["bad"])
+def after_others(stage: Stage, kind: str, act: str) -> None:
+    """A group of requests by one method, of which the last fails by another."""
+    for k in range(3):
+        is_lasting = act in ("patch", "put", "read")
+        subject = stage.lasting() if is_lasting else stage.subject(act != "create")
+        stage.act(f"g{k}", act, subject, group="g")
+    fail(stage, "g3", kind, group="g")
+    stage.write("other")
 
 
 Failing = Callable[[Stage, str], None]
-FAILING: Tuple[Tuple[str, str, str, Failing, bool], ...] = (
-    ("failure-among-others", "continue", "requests beside one that fails are performed", among_others, False),
-    ("failing-fan-in", "failed", "writes depend on some requests, of which one fails", fan_in, False),
-    ("failing-fan-out", "failed", "five requests depend on one that fails", fan_out, False),
-    ("reference-failed", "failed", "a read of what a failed request should have created", reference_failed, False),
-    ("group-after-failure", "failed", "a group depends on a request that fails", group_after_failure, False),
-    ("group-late-failure", "failed", "one member of a group depends on a failure", late_failure, False),
-    ("groups-after-failure", "failed", "a group depends on one that fails, one does not", groups_after_failure, False),
-    ("group-fails-in-order", "group", "a group in a row fails at its end", failing_group_in_order, False),
-    ("stop-after-failure", "stop", "thirty requests in a row after one that fails", stop_after_failure, True),
-    ("stop-after-group", "stop", "thirty requests in a row after a group that fails", stop_after_group, True),
-    ("stop-before-failure", "stop", "what came before the error is performed", stop_before_failure, True),
+FAILING: Tuple[Tuple[str, str, str, Failing], ...] = (
+    ("failure-among-others", "continue", "requests beside one that fails are performed", among_others),
+    ("failing-fan-in", "failed", "writes depend on some requests, of which one fails", fan_in),
+    ("failing-fan-out", "failed", "five requests depend on one that fails", fan_out),
+    ("reference-failed", "failed", "a read of what a failed request should have created", reference_failed),
+    ("group-after-failure", "failed", "a group depends on a request that fails", group_after_failure),
+    ("group-late-failure", "failed", "one member of a group depends on a failure", late_failure),
+    ("groups-after-failure", "failed", "a group depends on one that fails, one does not", groups_after_failure),
+    ("group-fails-in-order", "group", "a group in a row fails at its end", failing_group_in_order),
 )
 
 
@@ -134,8 +135,8 @@ def one_failure(kind: str) -> List[Case]:
     for at, place in ((0, "first"), (2, "third"), (4, "last")):
         write = partial(failing_chain, kind=kind, at=at)
         found.append(Case(f"chain-fails-{place}", "failed", f"of five in a row the {place} fails", write, kind=kind))
-    for name, promise, shows, function, stops in FAILING:
-        found.append(Case(name, promise, shows, partial(function, kind=kind), stops, kind))
+    for name, promise, shows, function in FAILING:
+        found.append(Case(name, promise, shows, partial(function, kind=kind), kind=kind))
     shows = "four batches at the same time, with a group that fails"
     return [*found, Case("failing-at-once", "group", shows, partial(at_once, kind=kind), kind=kind, at_once=4)]
 
@@ -149,6 +150,28 @@ def failing_groups() -> List[Case]:
             shows = f"a group fails at its {place} member, by {described.text}"
             found.append(Case(f"group-fails-{kind}-{at + 1}", "group", shows, write, kind=kind))
     return found
+
+
+def failing_beside() -> List[Case]:
+    """Groups that fail after members by one method, and beside other groups."""
+    found = []
+    for act, what in (("create", "POSTs"), ("delete", "deletes"), ("patch", "PATCHes"), ("put", "PUTs")):
+        write, shows = partial(after_others, kind="missing", act=act), f"a group fails after three {what}"
+        needs = [act] if act in ("patch", "put") else []
+        found.append(Case(f"group-fails-after-{act}", "group", shows, write, kind="missing", needs=needs))
+    for name, shows, places in BESIDE:
+        write = partial(beside_groups, kind="missing", at=places)
+        found.append(Case(f"groups-beside-{name}", "group", shows, write, kind="missing"))
+    return found
+
+
+# Of three groups: at which member each fails, or None.
+BESIDE: Tuple[Tuple[str, str, Sequence[Optional[int]]], ...] = (
+    ("first", "a group that fails at its first member, before two others", (0, None, None)),
+    ("last", "a group that fails at its last member, after two others", (None, None, 2)),
+    ("middle", "a group that fails between two others", (None, 1, None)),
+    ("two", "two groups that fail, and one between them", (2, None, 0)),
+)
 
 
 def failing_long_groups(requests: int) -> List[Case]:

@@ -45,7 +45,7 @@ class Judge:
         """Looks at the response, and at the entities, which may be in a listing."""
         if self.responses is None:
             return [Check("answered", f"the batch is answered {self.answer}, without a document of responses")]
-        found = [Check("answered"), *self._by_match()]
+        found = [*self._by_head(), *self._by_match()]
         for step, expected in zip(self.stage.steps, self.expected):
             checks = self._of_step_by(listing, step, expected)
             if listing is not None and step.effect and step.effect.url and any(it.rule for it in checks):
@@ -57,6 +57,14 @@ class Judge:
     def _of_step_by(self, listing: Optional[Listing], step: Step, expected: str) -> List[Check]:
         performed = self.entities.is_shown(step.effect, listing) if step.effect is not None else None
         return list(self._of_step(step, expected, self.statuses.get(step.id), performed))
+
+    def _by_head(self) -> Iterator[Check]:
+        """What the status and the headers of the answer say (OData Protocol 4.01, sections 11.7.7 and 8.1.5)."""
+        status, version = self.answer.status, self.answer.headers.get("odata-version", "missing")
+        yield check("answered", status == 200, f"the batch is answered {status}, and not 200")
+        if self.entities.has_version:
+            rule = f"the OData-Version of the answer to the batch is {version}, and a request alone has one"
+            yield check("answered", version.startswith("4."), rule)
 
     # By the library
 
@@ -92,7 +100,8 @@ class Judge:
         else:
             promise = "failed" if expected == SKIPPED else step.promise or ("group" if step.group else "alone")
             if status is not None:
-                yield check(promise, fits(expected, status), wrong_text(step, expected, status))
+                is_right = fits(expected, status) and step.status in (None, status)
+                yield check(promise, is_right, wrong_text(step, expected, status))
             yield from unseen(promise, step, status, performed)
 
     def _done(self, step: Step, status: Optional[int], performed: Optional[bool]) -> Iterator[Check]:
@@ -113,7 +122,7 @@ class Judge:
 
     def _beside_alone(self, step: Step, twin: Twin) -> Iterator[Check]:
         """A request that was also sent alone does the same in the batch."""
-        taking = Taking(self.entities, twin.entity, twin.marks)
+        taking = Taking(self.entities, twin.entity, twin.marks, twin.is_read)
         batch = parts_in_batch(taking, self.clear[step.id])
         found = differences(twin.alone(), batch)
         yield from (Check("alone", f"{step.id}: {it}") for it in found)
@@ -160,13 +169,16 @@ class Judge:
             yield check("stop", not (is_success(status) if performed is None else performed), text)
 
     def _follows_from_another(self, step: Step) -> bool:
-        """Whether a request is answered 424 for the error of another, which is judged by itself."""
+        """Whether a request is answered 424 for the error of another, which is judged by itself: a member of its group,
+        or what its group depends on."""
         if self.statuses.get(step.id) != 424:
             return False
-        others = [it for it in self.stage.steps if it is not step]
-        causes = [it for it in others if it.unit == step.unit or {it.id, it.unit} & set(step.needs)]
-        found = [self.statuses.get(it.id) for it in causes]
-        return any(it is not None and not is_success(it) for it in found)
+        unit = [other for other in self.stage.steps if other.unit == step.unit]
+        if any(self.statuses.get(other.id, 424) != 424 and not is_success(self.statuses[other.id]) for other in unit):
+            return True
+        needs = {name for other in unit for name in other.needs}
+        causes = [other.id for other in self.stage.steps if other.unit != step.unit and {other.id, other.unit} & needs]
+        return any(id in self.statuses and not is_success(self.statuses[id]) for id in causes)
 
 
 def fits(expected: str, status: int) -> bool:
@@ -183,7 +195,9 @@ def wrong_text(step: Step, expected: str, status: int) -> str:
     if step.promise == "order":
         return f"{step.id} is answered {status}, as if {'it or ' if step.needs else ''}what needs it had not waited"
     if step.promise == "reference":
-        return f"{step.id} is answered {status}, so its URL does not lead to what {step.needs[0]} has created"
+        return f"{step.id} is answered {status}, so its URL does not lead to the entity of {step.needs[0]}"
+    if step.promise == "etag":
+        return f"{step.id} is answered {status}, so its condition has not the ETag that {step.needs[0]} is answered"
     if expected == FAILS:
         return f"{step.id} is answered {status}, and alone it fails"
     return f"{step.id} is answered {status}, and nothing keeps it from success"
@@ -206,8 +220,9 @@ def is_success(status: Optional[int]) -> bool:
 
 
 def responses_of(answer: Answer) -> Optional[List[Dict[str, Any]]]:
-    """The responses in an answer, or None if it has no document of them."""
-    found = answer.value.get("responses") if answer.status == 200 and isinstance(answer.value, dict) else None
+    """The responses in an answer, whatever its status, or None if it has no document of them."""
+    value = answer.value
+    found = value.get("responses") if isinstance(value, dict) else None
     return found if isinstance(found, list) and all(isinstance(it, dict) for it in found) else None
 
 

@@ -1,13 +1,14 @@
 """Finds out by plain requests, and some batches, what the service has; a case that needs more does not apply."""
 
-from typing import Any, Callable, Dict, Optional
+from typing import Any, Callable, Dict, List, Optional
 from urllib.parse import urljoin, urlsplit
 
 from ._entities import Entities, Entity
 from ._judge import responses_of
 from ._service import Answer, Unanswered
-from ._stage import Stage
+from ._stage import QUERY, Stage
 from ._twin import etag_of
+from ._values import learn_values
 
 # What a service may lack, and the reason why a case does not apply then.
 LACKS = {
@@ -17,14 +18,27 @@ LACKS = {
     "patch": "alone, PATCH does not change an entity",
     "put": "alone, PUT does not change an entity",
     "etags": "the service has no ETags",
+    "condition": "alone, If-Match with the ETag of an entity does not hold",
+    "etag of new": "alone, a POST is answered without an ETag",
+    "etag of patch": "alone, a PATCH is answered without an ETag",
+    "known": "alone, a read with If-None-Match is not answered 304",
+    "decimal": "no other property takes a number with a fraction",
+    "integer": "no other property takes an integer above 2 ** 53",
+    "null": "no other property takes null in place of a value",
     "property": "alone, a property cannot be read by a URL of its own",
     "filter": "alone, $filter is not applied",
     "options": "alone, $select is not applied",
+    "query": "alone, a query option of the client's own is refused",
+    "$ to read": "the service takes no reference to a read",
+    "$ to patch": "the service takes no reference to a PATCH",
+    "$ to put": "the service takes no reference to a PUT",
     "absolute": "the service takes no absolute URLs in a batch",
     "rooted": "the service takes no URLs in a batch that begin with /",
 }
 # What a service may answer to a batch that it refuses.
 REFUSED = (*range(400, 500), 501)
+# Those of values that an entity may have.
+OF_VALUES = ("decimal", "integer", "null")
 # How many properties of the body are tried.
 MAX_TRIED = 8
 
@@ -32,6 +46,7 @@ MAX_TRIED = 8
 def learn(entities: Entities) -> None:
     """Learns all that cases need; raises Unusable if no entity can be made."""
     entities.learn_keys()
+    entities.require_reads()
     entities.clear()
     entities.before = entities.listed()
     entities.text = text_property(entities)
@@ -42,10 +57,14 @@ def learn(entities: Entities) -> None:
         "patch": changes(entities, "patch"),
         "put": changes(entities, "put"),
         **learn_reads(entities),
+        **learn_etags(entities),
         **learn_urls(entities),
     }
-    entities.lacks = {name: reason for name, reason in LACKS.items() if not has[name]}
+    entities.lacks = {name: reason for name, reason in LACKS.items() if not has.get(name, True)}
+    entities.values = learn_values(entities)
+    entities.lacks.update({name: LACKS[name] for name in OF_VALUES if name not in entities.values})
     entities.lacks.update(learn_features(entities))
+    entities.lacks.update(learn_references(entities))
     entities.appeared()
     entities.clear()
 
@@ -79,13 +98,33 @@ def learn_reads(entities: Entities) -> Dict[str, bool]:
     """Whether entities have ETags, and what of them can be read."""
     entity, ask, text = entities.make(), entities.service.ask, entities.text
     whole = ask("GET", entity.url)
+    entities.has_version = "odata-version" in whole.headers
     part = ask("GET", f"{entity.url}/{text}").value if text else None
     some = ask("GET", f"{entity.url}?$select={entities.key}")
     return {
         "etags": etag_of(whole.headers, whole.value) is not None,
         "property": isinstance(part, dict) and part.get("value") == entity.mark,
+        "query": ask("GET", f"{entity.url}{QUERY}").is_success,
         "filter": text is not None and is_filtered(entities, entity),
         "options": some.is_success and isinstance(some.value, dict) and bool(text) and text not in some.value,
+    }
+
+
+def learn_etags(entities: Entities) -> Dict[str, bool]:
+    """Whether requests that create, change and read are answered with ETags, which hold in conditions."""
+    entity, ask = entities.fresh(), entities.service.ask
+    created = entities.post(entity.body)
+    url = entity.url or (entities.url_of(entities.key_of(created)) if created.is_success else "")
+    entities.note(url)
+    changed = ask("PATCH", url, entities.change("patch", entities.new_mark()))
+    read = ask("GET", url)
+    tag = etag_of(read.headers, read.value)
+    known = ask("GET", url, headers={"If-None-Match": tag}) if tag else read
+    return {
+        "condition": tag is not None and ask("DELETE", url, headers={"If-Match": tag}).is_success,
+        "etag of new": created.is_success and etag_of(created.headers, created.value) is not None,
+        "etag of patch": changed.is_success and etag_of(changed.headers, changed.value) is not None,
+        "known": known.status == 304,
     }
 
 
@@ -122,11 +161,18 @@ def referring(stage: Stage) -> None:
     stage.act("2", "read", stage.create("1"), "$1", needs=["1"])
 
 
+def conditional(stage: Stage) -> None:
+    subject = stage.subject()
+    stage.act("1", "read", subject)
+    stage.act("2", "delete", subject, needs=["1"], headers={"If-Match": "$1"})
+
+
 # What writes the smallest batch that has a feature.
 FEATURES: Dict[str, Callable[[Stage], None]] = {
     "dependencies": needing,
     "groups": grouped,
     "references": referring,
+    "ETags by reference": conditional,
 }
 
 
@@ -146,7 +192,33 @@ def learn_features(entities: Entities) -> Dict[str, str]:
         status = refusal(answer)
         if status is not None:
             found[name] = f"the service refuses {name} with {status}"
+        elif name == "ETags by reference" and 501 in statuses_of(answer):
+            found[name] = "the service refuses a condition with $ and an id with 501"
     return found
+
+
+def learn_references(entities: Entities) -> Dict[str, str]:
+    """What references do not lead to, besides what is created. To what a request has read they have to, unless the
+    service refuses that; the standard leaves it open whether they lead to what one has changed."""
+    lacking = {}
+    for act in ("read", "patch", "put"):
+        if act in entities.lacks or "references" in entities.lacks:
+            lacking[f"$ to {act}"] = entities.lacks.get(act, LACKS[f"$ to {act}"])
+            continue
+        stage = Stage(entities)
+        subject = stage.subject()
+        stage.act("1", act, subject)
+        stage.act("2", "read", subject, "$1", needs=["1"])
+        responses = responses_of(entities.service.batch(stage.document(), True)) or []
+        statuses = [found.get("status") for found in responses if found.get("id") == "2"]
+        if statuses != [200] if act != "read" else not responses or 501 in statuses:
+            lacking[f"$ to {act}"] = LACKS[f"$ to {act}"]
+    return lacking
+
+
+def statuses_of(answer: Answer) -> List[Any]:
+    """The statuses of the responses in an answer."""
+    return [response.get("status") for response in responses_of(answer) or ()]
 
 
 def refusal(answer: Answer) -> Optional[str]:

@@ -2,7 +2,7 @@
 
 from typing import Any, Dict, Iterator, List, Set
 
-from ._entities import Entities, Listing
+from ._entities import BEHIND, Entities, Listing
 from ._judge import Check
 from ._promises import Case
 from ._stage import Stage
@@ -14,7 +14,8 @@ def marks_of(entities: Entities, stages: List[Stage]) -> Dict[Any, str]:
     for step in (it for stage in stages for it in stage.steps):
         body = step.request.get("body")
         mark = body.get(entities.text) if isinstance(body, dict) else None
-        if isinstance(mark, (str, int)):
+        # an empty text is no mark: several entities may have it
+        if mark and isinstance(mark, (str, int)):
             found[mark] = step.id
     return found
 
@@ -29,7 +30,12 @@ def left_over(case: Case, stages: List[Stage], listing: Listing, known: Set[str]
         urls.setdefault(mark if isinstance(mark, (str, int)) and mark in writers else None, []).append(url)
     promise = case.promise if case.promise in ("group", "failed", "untouched") else "once"
     for url in urls.pop(None, []):
-        if entities.service.address(url) not in known:
+        address = entities.service.address(url)
+        if address in known:
+            continue
+        if address in entities.removed and entities.unused is None:
+            yield Check(promise, f"{url} was removed by a plain request, and is there all the same: {BEHIND}")
+        else:
             yield Check(promise, f"{url} is there afterwards, and no response names it")
     for mark, found in urls.items():
         rule = f"{writers[mark]} is performed {len(found)} times: {', '.join(found)}"

@@ -22,7 +22,8 @@ PROMISES = (
     Promise("failed", "what depends on a failure is not performed, and is answered 424", "Protocol 11.7"),
     Promise("untouched", "a request that is answered 424 has changed nothing", "Protocol 11.7"),
     Promise("group", "a group is applied as a whole or not at all", "JSON 19.4"),
-    Promise("reference", "$ and an id lead to the entity that the request has created", "JSON 19.2"),
+    Promise("reference", "$ and an id lead to the entity that the request has created or returned", "JSON 19.2"),
+    Promise("etag", "$ and an id in a condition stand for the ETag that the request is answered", "JSON 19.3"),
     Promise("continue", "with continue-on-error the rest is performed after an error", "Protocol 8.2.8.3"),
     Promise("stop", "without continue-on-error nothing is performed after an error", "Protocol 8.2.8.3"),
 )

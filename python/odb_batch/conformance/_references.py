@@ -3,7 +3,7 @@
 from typing import Callable, Dict, List, Sequence
 
 from ._promises import Case
-from ._stage import ABSENT, Shown, Stage, Subject
+from ._stage import ABSENT, QUERY, Shown, Stage, Subject
 
 FOUR = ("a", "b", "c", "d")
 # Ids that are easily taken for each other.
@@ -54,6 +54,56 @@ def to_each(act: str) -> Callable[[Stage], None]:
             for id in FOUR:
                 needs = [f"{act}-{it}" for it in ("c", "b")]
                 refer(stage, f"look-{id}", "read", made[id], needs)
+
+    return write
+
+
+def encoded(stage: Stage) -> None:
+    """References with characters as escapes: $ and a letter (OData URL Conventions 4.01, section 2)."""
+    made = create_all(stage, ("one", "two"))
+    for k, (id, url) in enumerate((("two", "%24two"), ("one", "$o%6Ee"), ("two", "%24%74wo"))):
+        stage.act(f"get{k}", "read", made[id], url, needs=[id], promise="reference")
+
+
+def with_query(stage: Stage) -> None:
+    """References that continue with a query option of the client's own (OData URL Conventions 4.01, section 5.2)."""
+    made = create_all(stage, FOUR)
+    for id in ("c", "a"):
+        stage.act(f"get-{id}", "read", made[id], f"${id}{QUERY}", needs=[id], promise="reference")
+
+
+def to_read(stage: Stage) -> None:
+    """References to what is read: of two entities, and beside one that is created."""
+    subjects = {id: stage.subject() for id in ("a", "b")}
+    stage.create("new")
+    for id, subject in subjects.items():
+        stage.act(id, "read", subject)
+    for id in ("b", "a"):
+        after_all = ["new", "b" if id == "a" else "a"]
+        stage.act(f"get-{id}", "read", subjects[id], f"${id}", needs=[id, *after_all], promise="reference")
+    stage.act("drop-b", "delete", subjects["b"], "$b", needs=["b", "get-b", "get-a"], promise="reference")
+    stage.act("look-a", "read", subjects["a"], "$a", needs=["a", "drop-b"], promise="reference")
+
+
+def to_read_in_group(stage: Stage) -> None:
+    """A member of a group changes or removes what another reads."""
+    subject = stage.subject()
+    act = next((act for act in ("patch", "put") if act not in stage.entities.lacks), "delete")
+    stage.act("get", "read", subject, group="g")
+    stage.act("change", act, subject, "$get", group="g", needs=["get"], promise="reference")
+    stage.write("w", group="g")
+
+
+def to_changed(act: str) -> Callable[[Stage], None]:
+    """References to what another request changes."""
+
+    def write(stage: Stage) -> None:
+        subjects = {id: stage.subject() for id in ("a", "b")}
+        for id, subject in subjects.items():
+            stage.act(id, act, subject)
+        for id in ("b", "a"):
+            others = ["b" if id == "a" else "a"]
+            stage.act(f"get-{id}", "read", subjects[id], f"${id}", needs=[id, *others], promise="reference")
 
     return write
 
@@ -116,6 +166,7 @@ def at_once(stage: Stage) -> None:
         refer(stage, f"drop{k}", "delete", subject, [f"get{k}"])
 
 
+READ = ["$ to read"]
 CASES = (
     Case("reference-read", "reference", "a read of what a request has created", read),
     Case("reference-deleted", "reference", "a request deletes what another has created", deleted),
@@ -132,6 +183,12 @@ CASES = (
     Case("reference-signs", "reference", "ids with each of -._~", with_ids(SIGNS)),
     Case("reference-property", "reference", "a property after the id", to_property, needs=["property"]),
     Case("reference-option", "reference", "a query option after the id", with_option, needs=["options"]),
+    Case("reference-encoded", "reference", "references with escaped characters", encoded),
+    Case("reference-query", "reference", "a query option of its own after the id", with_query, needs=["query"]),
+    Case("reference-to-read", "reference", "requests on what another has read", to_read, needs=READ),
+    Case("reference-in-group-to-read", "reference", "a member changes what one reads", to_read_in_group, needs=READ),
+    Case("reference-to-patch", "reference", "reads of what a PATCH changes", to_changed("patch"), needs=["$ to patch"]),
+    Case("reference-to-put", "reference", "reads of what a PUT changes", to_changed("put"), needs=["$ to put"]),
     Case("reference-at-once", "reference", "four batches with the same ids at the same time", at_once, at_once=4),
 )
 

@@ -2,7 +2,7 @@
 
 import json
 import os
-from typing import Any, Dict, List, NamedTuple
+from typing import Any, Dict, List, NamedTuple, Sequence
 
 from ._promises import PROMISES, SECTIONS, Case
 from ._runner import Result
@@ -42,9 +42,9 @@ def table(results: List[Result]) -> str:
     return "\n".join(lines)
 
 
-def lines_of(results: List[Result], left: List[str], folder: str) -> List[str]:
+def lines_of(results: List[Result], left: List[str], folder: str, notes: Sequence[str] = ()) -> List[str]:
     """What is printed below the table."""
-    lines = []
+    lines = [f"note: {note}" for note in notes]
     reasons: Dict[str, List[str]] = {}
     for it in results:
         if it.reason is not None:
@@ -95,7 +95,7 @@ def write_breaks(results: List[Result], folder: str) -> None:
                     file.write(data)
 
 
-def document(service: str, results: List[Result], left: List[str]) -> Dict[str, Any]:
+def document(service: str, results: List[Result], left: List[str], notes: Sequence[str] = ()) -> Dict[str, Any]:
     """The results as a value of JSON."""
     names = {"not_applicable": "notApplicable"}
     found = counts(results)
@@ -113,6 +113,7 @@ def document(service: str, results: List[Result], left: List[str]) -> Dict[str, 
         ],
         "notApplicable": [{"case": it.case.name, "reason": it.reason} for it in results if it.reason is not None],
         "left": left,
+        "notes": list(notes),
     }
 
 

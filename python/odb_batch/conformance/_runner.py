@@ -107,6 +107,7 @@ class Runner:
         stages = [Stage(self.entities) for _ in range(case.at_once)]
         for stage in stages:
             case.write(stage)
+        self.entities.hold_keys()
         if len(stages[0].steps) > self.requests:
             return Result(case, [], f"its batch has more than {self.requests} requests")
         refused = sorted(stages[0].features() & self.entities.lacks.keys())

@@ -2,13 +2,13 @@
 
 import http.client
 import io
-import json
 import socket
 import time
 from typing import Any, Mapping, NamedTuple, Optional
 from urllib.parse import unquote, urljoin, urlsplit
 
 from ._interruption import Interrupted, Interruption
+from ._json import text_of, value_of
 
 MAX_ANSWER = 67_108_864
 # For how many seconds an answer may be waited for, and for how many it is if nobody says.
@@ -65,7 +65,7 @@ class Answer(NamedTuple):
     def value(self) -> Any:
         """The value of the body, or None if it is not JSON."""
         try:
-            return json.loads(self.text)
+            return value_of(self.text)
         except (ValueError, RecursionError):
             return None
 
@@ -97,7 +97,7 @@ class Service:
     def ask(self, method: str, url: str, value: Any = None, headers: Mapping[str, str] = {}) -> Answer:
         """Sends a request to a URL that is relative to the root; raises Unanswered if no answer can be read."""
         self.interruption.check()
-        data = value if isinstance(value, (bytes, type(None))) else json.dumps(value).encode()
+        data = value if isinstance(value, (bytes, type(None))) else text_of(value).encode()
         path = urlsplit(urljoin(self.root, url))
         target = path.path + (f"?{path.query}" if path.query else "")
         connection = self._connection()
@@ -128,20 +128,22 @@ class Service:
     def require_batches(self, entity_set: str) -> None:
         """Sends a batch of one request; raises Unusable if the service does not answer it as a batch."""
         answer = self.probe(f"{entity_set}?$top=1")
+        value = answer.value
+        if isinstance(value, dict) and isinstance(value.get("responses"), list):
+            return  # each case judges the status
         if answer.status in (*GONE, 405, 501):
             raise Unusable(f"{self.root} has no $batch: POST {self.root}$batch is answered {answer}")
         if answer.status in (406, 415):
             raise Unusable(f"{self.root} takes no batch in JSON: POST {self.root}$batch is answered {answer}")
         if answer.status != 200:
             raise Unusable(f"POST {self.root}$batch is answered {answer}")
-        if not isinstance(answer.value, dict) or not isinstance(answer.value.get("responses"), list):
-            kind = answer.headers.get("content-type", "no media type")
-            raise Unusable(f"POST {self.root}$batch is not answered with a batch in JSON, but with {kind}")
+        kind = answer.headers.get("content-type", "no media type")
+        raise Unusable(f"POST {self.root}$batch is not answered with a batch in JSON, but with {kind}")
 
     def probe(self, url: str) -> Answer:
         """Sends a batch of one read; one that is hung up on is sent once more."""
         request = {"id": "1", "method": "get", "url": url}
-        document = json.dumps({"requests": [request]}).encode()
+        document = text_of({"requests": [request]}).encode()
         try:
             return self.batch(document, True)
         except Unanswered as error:

@@ -1,10 +1,11 @@
 """A batch as it is written: its requests, what each is expected to be answered, and what shows that it was done."""
 
 import itertools
-import json
 from typing import Any, Dict, List, NamedTuple, Optional, Sequence, Set
+from urllib.parse import unquote
 
 from ._entities import Effect, Entities, Entity
+from ._json import text_of
 from ._twin import Twin
 
 # What is expected of a request: success; an error of its own; 424 for a dependency that failed; no success, in a
@@ -14,6 +15,8 @@ DONE, FAILS, SKIPPED, UNDONE, OPEN = "done", "fails", "skipped", "undone", "open
 METHODS = {"create": "post", "read": "get", "patch": "patch", "put": "put", "delete": "delete"}
 
 
+# A query option that says nothing to a service.
+QUERY = "?conformance=1"
 # The value of a property that a read must not return.
 ABSENT = object()
 
@@ -37,6 +40,7 @@ class Step(NamedTuple):
         request: As it is in the document.
         promise: What is broken if it is not answered as expected, in place of what its place in the batch says.
         fails: Whether it fails by itself.
+        status: The status that it has to be answered then, or None if any error will do.
         effect: What shows that it was performed, or None if nothing does.
         shows: What it returns, or None if that is not looked at.
         twin: The same request as it was answered alone, or None.
@@ -45,6 +49,7 @@ class Step(NamedTuple):
     request: Dict[str, Any]
     promise: Optional[str] = None
     fails: bool = False
+    status: Optional[int] = None
     effect: Optional[Effect] = None
     shows: Optional[Shown] = None
     twin: Optional[Twin] = None
@@ -88,25 +93,29 @@ class Stage:
 
     Attributes:
         writes: The ways to write that take turns.
+        is_ascii: Whether the batch has other characters as escapes.
     """
 
     def __init__(self, entities: Entities) -> None:
         self.entities = entities
         self.steps: List[Step] = []
         self.subjects: Dict[str, Subject] = {}
+        self.is_ascii = True
         ways = ("create", "delete", "patch", "put")
         self.writes = itertools.cycle([it for it in ways if it not in entities.lacks] or ["delete"])
 
     def document(self) -> bytes:
         """The batch, a request on each line."""
-        lines = ",\n  ".join(json.dumps(it.request) for it in self.steps)
+        lines = ",\n  ".join(text_of(step.request, self.is_ascii) for step in self.steps)
         return f'{{"requests": [\n  {lines}\n]}}\n'.encode()
 
     def features(self) -> Set[str]:
         """What the batch has that a service may refuse."""
         found = {"dependencies" for it in self.steps if it.needs}
         found |= {"groups" for it in self.steps if it.group}
-        return found | {"references" for it in self.steps if it.request["url"].startswith("$")}
+        found |= {"references" for step in self.steps if unquote(step.request["url"]).startswith("$")}
+        values = (value for step in self.steps for value in step.request.get("headers", {}).values())
+        return found | {"ETags by reference" for value in values if value.startswith("$")}
 
     # The requests
 
@@ -151,7 +160,8 @@ class Stage:
             shows = None if fails else self._shown(subject)
             self.add(id, "get", by or entity.url, fails=fails, shows=shows, **where)
             return
-        body, effect = None, Effect(entity.url, False, subject.mark if not entity.url else None)
+        is_known = not entity.url or subject.mark == entity.mark
+        body, effect = None, Effect(entity.url, False, subject.mark if is_known else None)
         if act != "delete":
             mark = entity.mark if act == "create" else self.entities.new_mark()
             body = entity.body if act == "create" else self.entities.change(act, mark)

@@ -1,7 +1,6 @@
 """Judges whether a service keeps what OData promises of batches in JSON. See docs/conformance.md."""
 
 import argparse
-import json
 import re
 import sys
 from typing import Any, Dict, List, Sequence
@@ -10,11 +9,13 @@ from . import _report
 from ._cases import MOST_REQUESTS, REQUESTS, cases_like
 from ._entities import Entities
 from ._interruption import Interrupted, Interruption
+from ._json import value_of
 from ._promises import Case
 from ._runner import Runner
 from ._service import MOST_SECONDS, NO_ROOT, SECONDS, Service, Unusable, is_root
 
 PROGRAM = "python3 -m odb_batch conformance"
+BODY_HELP = "a body that creates an entity; the key is added. One with a property of each type judges more"
 # Exit statuses; wrong arguments end with 2.
 BROKEN, UNUSABLE = 1, 3
 
@@ -29,7 +30,7 @@ def url_of(text: str) -> str:
 def body_of(text: str) -> Dict[str, Any]:
     """The body of an entity."""
     try:
-        value = json.loads(text)
+        value = value_of(text)
     except (ValueError, RecursionError):
         value = None
     if not isinstance(value, dict):
@@ -68,7 +69,7 @@ def parser() -> argparse.ArgumentParser:
     found.add_argument("url", metavar="URL", type=url_of, nargs="?", help="the root of the service, above its $batch")
     found.add_argument("--set", metavar="NAME", type=name_of, help="an entity set in which entities may be made")
     found.add_argument("--key", metavar="NAME", type=name_of, help="the key property of its entities")
-    found.add_argument("--body", metavar="JSON", type=body_of, help="a body that creates an entity; the key is added")
+    found.add_argument("--body", metavar="JSON", type=body_of, help=BODY_HELP)
     found.add_argument("--header", metavar="H: V", type=header_of, action="append", default=[], help="of all requests")
     found.add_argument("--requests", metavar="N", type=number_of, default=REQUESTS, help="how many a batch may have; 100")
     found.add_argument("--timeout", metavar="S", type=seconds_of, default=SECONDS, help="seconds for an answer; 20")
@@ -101,9 +102,10 @@ def run(options: argparse.Namespace, cases: List[Case], interruption: Interrupti
         return UNUSABLE
     progress(0, "", 0)
     if options.json:
-        print(_report.json_text(_report.document(service.root, results, entities.left)))
+        print(_report.json_text(_report.document(service.root, results, entities.left, entities.notes)))
     else:
-        print(_report.table(results), *_report.lines_of(results, entities.left, options.breaks), sep="\n")
+        lines = _report.lines_of(results, entities.left, options.breaks, entities.notes)
+        print(_report.table(results), *lines, sep="\n")
     try:
         _report.write_breaks(results, options.breaks)
     except OSError as error:

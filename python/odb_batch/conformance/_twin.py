@@ -6,22 +6,43 @@ does, is not compared, but for whether it is there.
 """
 
 import re
-from typing import Any, Callable, Dict, Iterator, List, Mapping, NamedTuple, Optional, Sequence, Tuple
+from typing import Any, Callable, Dict, Iterator, List, Mapping, NamedTuple, Optional, Sequence, Tuple, Union
 from urllib.parse import quote, urlsplit
 
 from ._entities import Entities, Entity
+from ._json import text_of
 from ._service import Answer
 
 Parts = Dict[str, Any]
 
-HEADERS = {"location": "Location", "etag": "ETag", "preference-applied": "Preference-Applied"}
+HEADERS = {
+    "location": "Location",
+    "odata-entityid": "OData-EntityId",
+    "etag": "ETag",
+    "preference-applied": "Preference-Applied",
+    "odata-version": "OData-Version",
+}
+# Those whose value is a URL, which may be relative.
+OF_URLS = ("location", "odata-entityid")
 # Control information whose value is a URL, which may be relative.
 LINKS = re.compile(r".*@(odata\.)?(id|editLink|readLink|nextLink)")
 CONTEXT = re.compile(r".*@(odata\.)?context")
-# What is compared only if both have it: a batch may have relative URLs.
+# What is compared only if the batch has it: its URLs may be relative.
 HOST = "the host of its Location"
+# What is compared only if the request alone has it: a batch may say more.
+VERSION = "OData-Version"
+USUAL_PORTS = {"http": ":80", "https": ":443"}
 ETAGS = ("@odata.etag", "@etag")
 MISSING = "missing"
+
+
+class Literal(NamedTuple):
+    """What JSON writes for a value that is not a text: 5 is not 5.0, and neither is "5"."""
+
+    text: str
+
+    def __str__(self) -> str:
+        return self.text
 
 
 class Twin(NamedTuple):
@@ -30,11 +51,13 @@ class Twin(NamedTuple):
     Attributes:
         entity: What the request of the batch is about.
         marks: What it writes to the text property.
+        is_read: Whether it changes nothing, so that nobody has to look afterwards.
         alone: Returns the parts of two requests alone, and sends the second of them.
     """
 
     entity: Entity
     marks: Sequence[Any]
+    is_read: bool
     alone: Callable[[], Sequence[Parts]]
 
 
@@ -42,6 +65,16 @@ def etag_of(headers: Mapping[str, str], value: Any) -> Optional[str]:
     """The ETag of an entity, by a header or in its representation."""
     shown = value if isinstance(value, dict) else {}
     return headers.get("etag") or next((shown[name] for name in ETAGS if name in shown), None)
+
+
+def host_of(url: str) -> str:
+    """The host of a URL, with a port that is not the usual one; empty if the URL is relative."""
+    try:
+        parts = urlsplit(url)
+    except ValueError:
+        return "none"
+    host = parts.netloc.lower().rpartition("@")[2]
+    return host[: -len(USUAL_PORTS[parts.scheme])] if host.endswith(USUAL_PORTS.get(parts.scheme, "/")) else host
 
 
 def media_type(headers: Mapping[str, str]) -> str:
@@ -56,28 +89,26 @@ class Taking:
         entities: The entities.
         entity: What the request is about.
         marks: What it writes to the text property.
+        is_read: Whether it changes nothing, so that nobody has to look afterwards.
     """
 
-    def __init__(self, entities: Entities, entity: Entity, marks: Sequence[Any]) -> None:
-        self.entities, self.entity = entities, entity
+    def __init__(self, entities: Entities, entity: Entity, marks: Sequence[Any], is_read: bool) -> None:
+        self.entities, self.entity, self.is_read = entities, entity, is_read
         self.names = [(it, "MARK") for it in (entity.mark, *marks) if it is not None]
 
     def parts(self, status: int, headers: Mapping[str, str], value: Any) -> Parts:
         """The parts of an answer, and of the entity afterwards."""
         url = self._know_entity(status, headers, value)
         found: Parts = {"the status": status}
-        for name, shown in HEADERS.items():
-            if name in headers:
-                found[shown] = self._plain(self._path(headers[name]) if name == "location" else headers[name])
-        if urlsplit(headers.get("location", "")).netloc:
-            found[HOST] = urlsplit(headers["location"]).netloc
+        if status < 500:
+            found.update(self._of_headers(headers))
         if value is not None and status < 500:
             found["Content-Type"] = media_type(headers)
             if "json" not in found["Content-Type"]:
                 found["the body"] = "not JSON"
             else:
                 found.update(self._body(value) if status < 400 else error_parts(value))
-        if url:
+        if url and not self.is_read:
             after = self.entities.service.ask("GET", url)
             found["afterwards the status"] = after.status
             if after.is_success:
@@ -85,6 +116,16 @@ class Taking:
                 tag = etag_of(headers, value) if status < 300 else None
                 if tag is not None:
                     found["whether its ETag is the current one"] = tag == etag_of(after.headers, after.value)
+        return found
+
+    def _of_headers(self, headers: Mapping[str, str]) -> Parts:
+        """The parts of headers."""
+        found: Parts = {}
+        for name, shown in HEADERS.items():
+            if name in headers:
+                found[shown] = self._plain(self._path(headers[name]) if name in OF_URLS else headers[name])
+        if host := host_of(headers.get("location", "")):
+            found[HOST] = host
         return found
 
     def _know_entity(self, status: int, headers: Mapping[str, str], value: Any) -> str:
@@ -112,12 +153,13 @@ class Taking:
             return value.partition("#")[2]
         return self._path(value) if isinstance(value, str) and LINKS.fullmatch(name) else value
 
-    def _plain(self, value: Any) -> Any:
+    def _plain(self, value: Any) -> Union[str, Literal]:
         """A value with the entity's keys and marks replaced."""
+        if not isinstance(value, str):
+            names = (name for text, name in self.names if type(value) is int and value == text)
+            return Literal(next(names, text_of(value)))
         for text, name in self.names:
-            if not isinstance(value, str):
-                value = name if value == text and not isinstance(value, bool) else value
-            elif isinstance(text, int):
+            if isinstance(text, int):
                 value = re.sub(rf"(?<![0-9]){text}(?![0-9])", name, value)
             else:
                 value = value.replace(text, name).replace(quote(text), name)
@@ -132,7 +174,7 @@ class Taking:
             items = ((str(at), it) for at, it in enumerate(value))
             joint = "/"
         else:
-            return {path: self._plain(value) if value not in ({}, []) else str(value)}
+            return {path: self._plain(value)}
         found: Parts = {path: type(value).__name__}
         for name, it in items:
             found.update(self._body(self._member(name, it), f"{path}{joint}{name}"))
@@ -150,7 +192,11 @@ def error_parts(value: Any) -> Parts:
 def parts_alone(taking: Taking, answer: Answer) -> Parts:
     """The parts of a request that was sent alone."""
     # a text that is not JSON is compared by its media type alone
-    return taking.parts(answer.status, answer.headers, (answer.value or "") if answer.text else None)
+    value = answer.value
+    found = taking.parts(answer.status, answer.headers, ("" if value is None else value) if answer.text else None)
+    if "location" in answer.headers:
+        found.setdefault(HOST, host_of(taking.entities.service.root))
+    return found
 
 
 def parts_in_batch(taking: Taking, response: Dict[str, Any]) -> Parts:
@@ -167,7 +213,7 @@ def differences(alone: Sequence[Parts], batch: Parts) -> List[str]:
     for name in dict.fromkeys([*first, *batch]):
         expected, value = first.get(name, MISSING), batch.get(name, MISSING)
         is_fixed = all(it.get(name, MISSING) == expected for it in others)
-        is_open = name == HOST and MISSING in (expected, value)
+        is_open = (name == HOST and value == MISSING) or (name == VERSION and expected == MISSING)
         if expected != value and not is_open and (is_fixed or MISSING in (expected, value)):
             found.append(f"{name} is {shortened(value)}, and alone {shortened(expected)}")
     return found

@@ -102,6 +102,80 @@ DEFECTS = (
     Defect("changes_by_reference_lost", "reference-each-*", "reference alone"),
     Defect("references_without_rest", "reference-property reference-option", "reference"),
     Defect("shared_references", "reference-at-once", "reference", False),
+    Defect("encoded_references_as_they_are", "reference-encoded", "reference"),
+    Defect("references_to_new_alone", "reference-*to-read", "reference"),
+    Defect("references_to_reads_nowhere", "reference-*to-read", "reference"),
+    # the status and the headers of a batch
+    Defect("answered_207", "one-* chain-fails-*", "answered"),
+    Defect("answered_as_the_first_error", "one-* chain-fails-*", "answered"),
+    Defect("no_version_of_batches", "one-*", "answered"),
+    # headers
+    Defect("other_host", "alone-post values-blanks", "alone"),
+    Defect("other_port", "alone-post", "alone"),
+    Defect("no_versions", "alone-get alone-patch", "alone"),
+    Defect("other_versions", "alone-get", "alone"),
+    Defect("no_accept", "headers-accept", "alone"),
+    Defect("accept_sticks", "headers-accept", "alone"),
+    Defect("no_max_version", "headers-version", "alone"),
+    # values of bodies
+    Defect("blanks_lost", "values-blanks", "alone"),
+    Defect("blanks_of_answers_lost", "values-blanks", "alone"),
+    Defect("texts_of_255", "values-long", "alone"),
+    Defect("texts_of_4096", "values-long", "alone"),
+    Defect("texts_of_65535", "values-long", "alone"),
+    Defect("bodies_of_64_kib", "values-long", "alone"),
+    Defect("sixteen_bits", "values-beyond", "alone"),
+    Defect("sixteen_bits_of_answers", "values-beyond", "alone"),
+    Defect("latin_1", "values-utf-8", "alone"),
+    Defect("no_empty_texts", "values-empty", "alone"),
+    Defect("no_nulls", "values-null", "alone"),
+    Defect("nulls_as_texts", "values-null", "alone"),
+    Defect("numbers_as_floats", "values-numbers", "alone"),
+    Defect("numbers_of_answers_as_floats", "values-numbers", "alone"),
+    Defect("no_zeros_at_the_end", "values-numbers", "alone"),
+    Defect("whole_numbers_as_floats", "values-integer", "alone"),
+    Defect("numbers_as_texts", "values-integer", "alone"),
+    # conditions
+    Defect("tags_as_written", "etag-*", "etag", False),
+    Defect("tags_dropped", "etag-*", "alone etag group"),
+    Defect("tags_of_none_match_dropped", "etag-*", "etag"),
+    Defect("tags_as_any", "etag-*", "alone etag group"),
+    Defect("first_tag", "etag-of-each", "etag"),
+    Defect("last_tag", "etag-of-each", "etag"),
+    Defect("tags_of_members_dropped", "etag-*", "alone etag group"),
+    Defect("conditions_stick", "headers-conditions", "alone"),
+    Defect("conditions_of_all_or_none", "headers-conditions", "alone"),
+    Defect("first_of_several_tags", "headers-conditions", "alone"),
+    # what members of a group are answered
+    Defect("no_bodies_of_members", "members-each", "alone"),
+    Defect("no_headers_of_members", "members-each", "alone"),
+    Defect("members_are_200", "members-each", "alone"),
+    Defect("answers_of_members_turned", "members-alike", "alone"),
+    Defect("bodies_of_first_group", "members-of-two", "alone"),
+    Defect("errors_of_members_without_bodies", "members-error", "alone"),
+    # one URL more than once
+    Defect("reads_are_kept", "again-*", "order"),
+    Defect("reads_again_are_304", "again-*", "alone order", False),
+    Defect("deletes_are_kept", "again-*", "order"),
+    Defect("changes_are_kept", "again-*", "alone", False),
+    # what follows an error
+    Defect("stops_by_404_alone", "stop-*", "stop"),
+    Defect("no_stop_by_412", "stop-*", "stop"),
+    Defect("no_stop_by_400", "stop-*", "stop"),
+    Defect("no_stop_by_reads", "stop-*", "stop"),
+    Defect("no_stop_by_patches", "stop-*", "stop"),
+    Defect("reads_go_on", "stop-*", "stop"),
+    Defect("creates_go_on", "stop-*", "stop"),
+    Defect("deletes_go_on", "stop-then-*", "stop"),
+    Defect("patches_go_on", "stop-*", "stop"),
+    Defect("puts_go_on", "stop-*", "stop"),
+    Defect("groups_go_on", "stop-then-*", "stop"),
+    # groups that fail, and others
+    Defect("first_delete_stays", "group-fails-*", "group"),
+    Defect("first_patch_stays", "group-fails-*", "group"),
+    Defect("first_put_stays", "group-fails-*", "group"),
+    Defect("groups_fail_together", "groups-beside-*", "alone group failed"),
+    Defect("groups_before_a_failure_lost", "groups-beside-*", "group"),
 )
 # Of each variant, which breaks nothing, a promise of which nothing is judged, and a reason; None if all is judged.
 VARIANTS = {
@@ -117,8 +191,26 @@ VARIANTS = {
     "fixed_titles": (None, "no property of the body takes any text or number"),
     "no_etags": (None, "the service has no ETags"),
     "properties": (None, None),
+    "reused_keys": (None, "the service makes the keys itself"),
+    "slow": (None, "alone, $select is not applied"),
+    "from_the_last": (None, "alone, $select is not applied"),
+    "dressed": (None, "alone, $select is not applied"),
     None: (None, "alone, $select is not applied"),
 }
+
+# What responses may look like, besides as alone; `dressed` above is several of these at once.
+LOOKS = (
+    "absolute_locations",
+    "annotated",
+    "bodies_of_424",
+    "headers_in_other_case",
+    "more_headers",
+    "null_groups",
+    "relative_locations",
+    "responses_reversed",
+)
+# The cases in which these could raise an alarm.
+LOOKED_AT = "one-* alone-* members-* reference-* etag-* group-fails-missing-* chain-fails-* stop-then-reads"
 
 pytestmark = pytest.mark.slow
 
@@ -181,3 +273,16 @@ def test_without_a_defect_every_promise_is_kept(variant):
             assert it["kept"] > 0
         elif it["name"] == promise:
             assert it["notApplicable"] > 0
+
+
+@pytest.mark.parametrize("look", LOOKS)
+def test_what_responses_may_look_like(look):
+    status, value, files = judged(look, LOOKED_AT)
+    assert (status, value["breaks"], value["left"], files) == (0, [], [], {})
+
+
+def test_a_service_that_gives_keys_again_is_named():
+    _, value, _ = judged("reused_keys", "one-*")
+    assert value["notes"] == [
+        "Books gives the key of an entity that is removed again; what is missing has keys that it does not give"
+    ]

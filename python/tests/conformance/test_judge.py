@@ -75,7 +75,7 @@ def by_unittest(folder):
 def test_cases_have_names_in_the_order_of_the_tool():
     names = conformance_cases()
     assert names == [line.split()[0] for line in tool("--list").out.splitlines()]
-    assert len(names) == len(set(names)) == 150
+    assert len(names) == len(set(names)) == 208
     assert conformance_cases("group-fails-*-[14]")[:2] == ["group-fails-missing-1", "group-fails-missing-4"]
 
 
@@ -204,6 +204,26 @@ def test_what_a_server_says_of_a_failure_is_not_compared(monkeypatch):
         judge(root + "/library/", "alone-patch-list", **BOOKS)
 
 
+@pytest.mark.parametrize("late", [1, 4])
+def test_a_service_that_commits_after_its_answer_is_named(late, monkeypatch):
+    """What is created cannot be read at once: the first entity, or one of the next ones."""
+
+    def app(environ, start_response):
+        if environ["REQUEST_METHOD"] == "POST" and environ["PATH_INFO"].endswith("/Books"):
+            created.append(None)
+        elif environ["REQUEST_METHOD"] == "GET" and len(created) == late:
+            created.append(None)
+            start_response("404 Not Found", [("Content-Length", "0")])
+            return [b""]
+        return library.app(environ, start_response)
+
+    created = []
+    with service() as (running, _), serving(app) as root:
+        monkeypatch.setenv("LIBRARY_PORT", str(running.port))
+        with pytest.raises(Unusable, match="was created, and cannot be read at once: does the service commit after"):
+            judge(root + "/library/", "chain", **BOOKS)
+
+
 def test_services_that_cannot_be_judged():
     with pytest.raises(Unusable, match="Connection refused"):
         judge("http://127.0.0.1:1/", "chain", **BOOKS)
@@ -240,4 +260,4 @@ def test_its_modules_shadow_nobodys(tmp_path):
             (tmp_path / name).write_text("raise SystemExit('shadowed')")
             (tmp_path / name.lstrip("_")).write_text("raise SystemExit('shadowed')")
     done = tool("--list", cwd=tmp_path)
-    assert (done.status, done.error, len(done.out.splitlines())) == (0, "", 150)
+    assert (done.status, done.error, len(done.out.splitlines())) == (0, "", 208)

@@ -5,7 +5,7 @@ from contextlib import contextmanager
 
 import store
 from odb_batch import Answer
-from patching import Execution, change_responses, is_success
+from patching import Execution, change_responses, is_success, request_of
 
 
 def half_group():
@@ -95,8 +95,8 @@ def last_failure_ignored():
     failures_ignored(lambda request, members: request.id == members[-1])
 
 
-def stays(method):
-    """Has what members of a failed group did by a method stay, as if its undoing were forgotten."""
+def stays(method, is_left=lambda execution, id: True):
+    """Has what members of a failed group did by a method stay, as if its undoing were forgotten: of some of them."""
     answer, respond = Execution.answer, Execution.respond
 
     def answering(self, request):
@@ -109,7 +109,8 @@ def stays(method):
         statuses = {it["id"]: it["status"] for it in json.loads(document)["responses"]}
         for id, (request, status) in getattr(self, "done", {}).items():
             is_undone = is_success(status) and not is_success(statuses[id])
-            if is_undone and request.method == method and not self.requests[id]["url"].startswith("$"):
+            is_found = request.method == method and not self.requests[id]["url"].startswith("$")
+            if is_undone and is_found and is_left(self, id):
                 self.send(request)
         return document
 
@@ -134,3 +135,50 @@ def puts_stay():
 def deletes_stay():
     """What a failed group deleted stays so."""
     stays("DELETE")
+
+
+def is_first(execution, id):
+    """Whether a request is the first of its group."""
+    return execution.members(execution.requests[id]["atomicityGroup"])[0] == id
+
+
+def first_delete_stays():
+    """What the first member of a failed group deleted stays so."""
+    stays("DELETE", is_first)
+
+
+def first_patch_stays():
+    """What the first member of a failed group changed by PATCH stays."""
+    stays("PATCH", is_first)
+
+
+def first_put_stays():
+    """What the first member of a failed group changed by PUT stays."""
+    stays("PUT", is_first)
+
+
+def groups_fail_together():
+    """If one group fails, all groups of the batch are answered 424."""
+
+    def change(responses, requests):
+        members = [it for it in responses if "atomicityGroup" in it]
+        if any(not is_success(it["status"]) for it in members):
+            [it.update(status=424) for it in members if is_success(it["status"])]
+
+    change_responses(change)
+
+
+def groups_before_a_failure_lost():
+    """A group whose response comes before that of a group that fails is undone, and answered 2xx."""
+    respond = Execution.respond
+
+    def responding(self):
+        document = respond(self)
+        responses = json.loads(document)["responses"]
+        failed = [at for at, it in enumerate(responses) if "atomicityGroup" in it and not is_success(it["status"])]
+        for it in responses[: failed[-1]] if failed else ():
+            if "atomicityGroup" in it and it["status"] == 201:
+                self.send(request_of(self, {"id": it["id"], "method": "delete", "url": it["headers"]["location"]}))
+        return document
+
+    Execution.respond = responding

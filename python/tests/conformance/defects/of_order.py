@@ -2,6 +2,7 @@
 
 import time
 
+from odb_batch import Answer
 from patching import Execution, change_needs
 
 
@@ -70,3 +71,48 @@ def groups_do_not_wait():
         return [it for it in needs if groups.get(it)]
 
     change_needs(lambda request: "atomicityGroup" in request, inside)
+
+
+def reads_are_kept():
+    """A URL that is read again in a batch is answered as before."""
+    keep_answers(lambda request: request.method == "GET")
+
+
+def deletes_are_kept():
+    """A URL that is deleted again in a batch is answered as before."""
+    keep_answers(lambda request: request.method == "DELETE")
+
+
+def changes_are_kept():
+    """A change that a batch has twice is performed once."""
+    keep_answers(lambda request: request.method in ("PATCH", "PUT"))
+
+
+def keep_answers(is_kept):
+    """Has some requests of a batch answered as the same request before."""
+    answer = Execution.answer
+
+    def answering(self, request):
+        self.kept = getattr(self, "kept", {})
+        key = request.method, request.url, request.body
+        if not is_kept(request) or key not in self.kept:
+            self.kept[key] = answer(self, request)
+        return self.kept[key]
+
+    Execution.answer = answering
+
+
+def reads_again_are_304():
+    """A URL that is read again in a batch is answered without its body."""
+    answer = Execution.answer
+
+    def answering(self, request):
+        self.read = getattr(self, "read", set())
+        found = answer(self, request)
+        if request.method == "GET" and found.is_success:
+            if request.url in self.read:
+                return Answer(304)
+            self.read.add(request.url)
+        return found
+
+    Execution.answer = answering

@@ -1,7 +1,7 @@
 """Defects in references."""
 
 import re
-from urllib.parse import urljoin
+from urllib.parse import unquote, urljoin
 
 from odb_batch import Answer
 from patching import Execution, change_document
@@ -107,3 +107,28 @@ def changes_by_reference_lost():
         return answer(self, request)
 
     Execution.answer = answering
+
+
+def encoded_references_as_they_are():
+    """A reference with escaped characters is taken as it is."""
+
+    def hide(requests):
+        for it in requests:
+            if "%" in it["url"].partition("/")[0] and unquote(it["url"]).startswith("$"):
+                it["url"] = "reference-" + it["url"].replace("%", "-")
+
+    change_document(hide)
+
+
+def references_to_new_alone():
+    """A reference leads to the entity that was created last, if its request has created none."""
+
+    def lead(execution, id):
+        return execution.locations.get(id) or ([*execution.locations.values(), f"/library/${id}"])[-1]
+
+    resolve(lead)
+
+
+def references_to_reads_nowhere():
+    """A reference to a read is answered 404."""
+    resolve(lambda execution, id: execution.locations.get(id, f"/library/${id}"))

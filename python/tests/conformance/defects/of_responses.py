@@ -5,7 +5,7 @@ import json
 import threading
 
 from odb_batch import Answer, Refusal
-from patching import Execution, change_answers, change_requests, change_responses, request_of
+from patching import Execution, change_answers, change_bodies, change_requests, change_responses, request_of
 
 
 def hangs_up():
@@ -202,17 +202,6 @@ def no_signs():
         return value.encode("ascii", "replace").decode() if isinstance(value, str) else value
 
     change_bodies(lambda request: True, plain)
-
-
-def change_bodies(is_changed, change):
-    """Has the bodies of some requests changed, as values."""
-
-    def changed(request):
-        if not request.body or not is_changed(request):
-            return request
-        return request._replace(body=json.dumps(change(json.loads(request.body))).encode())
-
-    change_requests(changed)
 
 
 def put_as_patch():

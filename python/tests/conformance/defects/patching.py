@@ -5,6 +5,7 @@ from urllib.parse import urljoin
 
 import odb_batch.wsgi
 from odb_batch import PreparedRequest, perform
+from odb_batch.conformance._json import text_of, value_of
 
 
 class Execution:
@@ -42,9 +43,9 @@ def change_document(change):
     prepare = Execution.__init__
 
     def with_change(self, document, *rest):
-        value = json.loads(document)
+        value = value_of(document)
         change(value["requests"])
-        prepare(self, json.dumps(value).encode(), *rest)
+        prepare(self, text_of(value).encode(), *rest)
 
     Execution.__init__ = with_change
 
@@ -80,14 +81,25 @@ def change_requests(change):
     Execution.answer = changed
 
 
+def change_bodies(is_changed, change):
+    """Has the bodies of some requests changed that are objects, as values."""
+
+    def changed(request):
+        if not request.body.startswith(b"{") or not is_changed(request):
+            return request
+        return request._replace(body=json.dumps(change(json.loads(request.body))).encode())
+
+    change_requests(changed)
+
+
 def change_responses(change):
     """Has the list of the responses of each batch changed, with the requests by their ids."""
     respond = Execution.respond
 
     def changed(self):
-        value = json.loads(respond(self))
+        value = value_of(respond(self))
         change(value["responses"], self.requests)
-        return json.dumps(value).encode()
+        return text_of(value).encode()
 
     Execution.respond = changed
 

@@ -4,13 +4,29 @@ Each defect is a function that patches parts of the service, or of how it perfor
 """
 
 import app
+import of_conditions
 import of_groups
+import of_headers
+import of_members
 import of_order
 import of_references
 import of_responses
+import of_stops
+import of_values
 import variants
 
-MODULES = (of_responses, of_order, of_groups, of_references, variants)
+MODULES = (
+    of_responses,
+    of_headers,
+    of_values,
+    of_conditions,
+    of_order,
+    of_stops,
+    of_groups,
+    of_members,
+    of_references,
+    variants,
+)
 
 
 def make_app(name, database, width):

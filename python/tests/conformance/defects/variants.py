@@ -5,14 +5,17 @@ import os
 import secrets
 import signal
 import time
+from urllib.parse import urljoin
 
 import app
 import entities
 import odb_batch._endpoint
+import store
 from odb_batch import Answer, Refusal
+from odb_batch.conformance._json import text_of, value_of
 from of_groups import half_group
 from of_responses import refuse_beside
-from patching import Execution, change_responses
+from patching import Execution, change_answers, change_document, change_responses
 
 
 def refuse(what, is_in):
@@ -171,3 +174,161 @@ def properties():
         return answer._replace(body={name or "value": answer.body[name or part]})
 
     app.perform = performing
+
+
+def reused_keys():
+    """The service makes the keys, and gives that of a deleted book again, as an INTEGER PRIMARY KEY of SQLite does."""
+    first, *rest = store.SCHEMA
+    numbered = (
+        it.replace("Id TEXT PRIMARY KEY NOT NULL", "Id INTEGER PRIMARY KEY")
+        .replace("Book TEXT", "Book INTEGER")
+        .replace("'dune', 'Dune'", "1, 'Dune'")
+        .replace("'emma', 'Emma'", "2, 'Emma'")
+        for it in first
+    )
+    store.SCHEMA = (tuple(numbered), *rest)
+    entities.SETS["Books"]["Id"] = {"$Type": "Edm.Int64"}
+
+
+def slow():
+    """Each request of a batch takes its time."""
+    answer = Execution.answer
+
+    def answering(self, request):
+        time.sleep(0.005)
+        return answer(self, request)
+
+    Execution.answer = answering
+
+
+def from_the_last():
+    """Requests that may be performed side by side are performed from the last to the first, one at a time."""
+
+    def turn(requests):
+        names = {name: it.get("atomicityGroup", it["id"]) for it in requests for name in (it["id"], unit_of(it))}
+        units, levels = {}, {}
+        for it in requests:
+            units.setdefault(unit_of(it), []).append(it)
+        for unit, members in units.items():
+            needs = {names[name] for it in members for name in it.get("dependsOn", ())} - {unit}
+            levels[unit] = 1 + max((levels[name] for name in needs), default=0)
+        order = sorted(reversed(list(units)), key=lambda unit: levels[unit])
+        requests[:] = [it for unit in order for it in units[unit]]
+
+    def unit_of(request):
+        return request.get("atomicityGroup", request["id"])
+
+    change_document(turn)
+    with_options(width=1)
+
+
+def with_options(**options):
+    """Has batches performed with some options."""
+    respond = Execution.respond
+
+    def responding(self):
+        self.options.update(options)
+        return respond(self)
+
+    Execution.respond = responding
+
+
+def responses_reversed():
+    """The last response comes first."""
+    change_responses(lambda responses, _: responses.reverse())
+
+
+def headers_in_other_case():
+    """Names of headers in responses are written as on the wire."""
+
+    def change(responses, _):
+        for it in responses:
+            it["headers"] = {name.title(): value for name, value in it.get("headers", {}).items()}
+
+    change_responses(change)
+
+
+def more_headers():
+    """Responses have all headers of their answers, and none is shorter than it was."""
+
+    def change(responses, _):
+        for it in responses:
+            length = str(len(text_of(it.get("body", ""))))
+            more = {"date": "Sun, 06 Nov 1994 08:49:37 GMT", "vary": "Accept", "content-length": length}
+            it["headers"] = {"x-request-id": it["id"], **more, **it.get("headers", {})}
+
+    change_responses(change)
+
+
+def absolute_locations():
+    """Locations in responses are absolute."""
+
+    def change(given, answer):
+        return with_location(answer, lambda location: urljoin(given["base"], location))
+
+    change_answers_with_base(change)
+
+
+def relative_locations():
+    """Locations in responses are relative to the root of the service."""
+    change_answers(lambda given, answer: with_location(answer, lambda location: location.rpartition("/")[2]))
+
+
+def with_location(answer, change):
+    location = answer.headers.get("location")
+    return answer._replace(headers={**answer.headers, "location": change(location)}) if location else answer
+
+
+def change_answers_with_base(change):
+    """Has answers changed, by the request with the URL that its batch is relative to."""
+    answer = Execution.answer
+
+    def answering(self, request):
+        return change({"base": self.options["base"]}, answer(self, request))
+
+    Execution.answer = answering
+
+
+def annotated():
+    """A response document has annotations, and its responses have, too."""
+    respond = Execution.respond
+
+    def responding(self):
+        value = value_of(respond(self))
+        for it in value["responses"]:
+            it["@conformance.seconds"] = 0.5
+        return text_of({"@context": "$metadata#Batch", **value, "responses@count": len(value["responses"])}).encode()
+
+    Execution.respond = responding
+
+
+def null_groups():
+    """A response without a group has null as its group, and one without a body has null as its body."""
+
+    def change(responses, _):
+        for it in responses:
+            it.update(atomicityGroup=it.get("atomicityGroup"), body=it.get("body"), headers=it.get("headers"))
+
+    change_responses(change)
+
+
+def bodies_of_424():
+    """What is answered 424 has an error in its body."""
+
+    def change(responses, _):
+        for it in responses:
+            if it["status"] == 424:
+                it["body"] = {"error": {"code": "FailedDependency", "message": "Something failed before"}}
+
+    change_responses(change)
+
+
+def dressed():
+    """All of these at once."""
+    absolute_locations()
+    bodies_of_424()
+    more_headers()
+    headers_in_other_case()
+    null_groups()
+    annotated()
+    responses_reversed()

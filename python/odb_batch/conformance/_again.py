@@ -1,0 +1,73 @@
+"""Cases in which a batch has one URL more than once."""
+
+from typing import List, Optional
+
+from ._alone import asked, with_twin
+from ._promises import Case
+from ._rows import ROWS_BY_NAME
+from ._stage import Shown, Stage
+
+
+def read_after_each(stage: Stage, group: Optional[str] = None) -> None:
+    """Reads of one entity, with a change between each two of them."""
+    subject = stage.subject()
+    acts = [act for act in ("patch", "put", "delete") if act not in stage.entities.lacks]
+    stage.act("r0", "read", subject, group=group, promise="order")
+    for k, act in enumerate(acts if group is None else acts[:-1]):
+        stage.act(act, act, subject, needs=[f"r{k}"], group=group, promise="order")
+        stage.act(f"r{k + 1}", "read", subject, needs=[act], group=group, promise="order")
+
+
+def in_group(stage: Stage) -> None:
+    read_after_each(stage, "g")
+
+
+def read_alike(stage: Stage) -> None:
+    """Reads of one entity, side by side and one after another, each beside the same read alone."""
+    first = asked(stage.entities, ROWS_BY_NAME["get"], "r0")
+    for k in range(4):
+        needs = {"dependsOn": ["r0"]} if k > 1 else {}
+        own = first._replace(step=first.step._replace(request={**first.step.request, "id": f"r{k}", **needs}))
+        stage.steps.append(with_twin(stage.entities, own, first, first))
+
+
+def list_after_delete(stage: Stage) -> None:
+    """A list of what has a mark, before it is removed and after."""
+    entities, subject = stage.entities, stage.subject()
+    url = entities.url_of_marked(subject.entity.mark)
+    stage.add("before", "get", url, promise="order")
+    stage.act("drop", "delete", subject, needs=["before"])
+    stage.add("after", "get", url, needs=["drop"], shows=Shown({"value": []}), promise="order")
+
+
+def delete_twice(stage: Stage) -> None:
+    subject = stage.subject()
+    stage.act("first", "delete", subject)
+    stage.act("second", "delete", subject, needs=["first"], promise="order")
+
+
+def change_twice(stage: Stage) -> None:
+    """The same change twice, with another one between, which the second undoes."""
+    subject = stage.subject()
+    stage.act("a", "patch", subject)
+    stage.act("b", "patch", subject, needs=["a"])
+    stage.act("c", "patch", subject, needs=["b"])
+    first, last = stage.steps[-3], stage.steps[-1]
+    body = first.request["body"]
+    assert last.effect is not None
+    mark = body[stage.entities.text]
+    stage.steps[-1] = last._replace(request={**last.request, "body": body}, effect=last.effect._replace(mark=mark))
+
+
+CASES = (
+    Case("again-read", "order", "reads of one entity, before and after each change of it", read_after_each),
+    Case("again-in-group", "order", "the same in a group", in_group, needs=["patch"]),
+    Case("again-alike", "alone", "reads of one entity that nothing changes", read_alike),
+    Case("again-list", "order", "a list before and after a delete", list_after_delete, needs=["text", "filter"]),
+    Case("again-delete", "order", "a delete of what is deleted", delete_twice, kind="missing"),
+    Case("again-change", "order", "a change, another one, and the first once more", change_twice, needs=["patch"]),
+)
+
+
+def again() -> List[Case]:
+    return list(CASES)

@@ -1,0 +1,162 @@
+"""Requests that are sent in a batch and alone: what each is about, and what it has."""
+
+from functools import partial
+from typing import Any, Callable, Dict, NamedTuple, Tuple
+
+from ._entities import Entities, Entity
+from ._json import Number
+from ._kinds import NO_TAG
+
+ODD = "ä \"\\/ € & '%41 <b>"
+MINIMAL, WHOLE = {"Prefer": "return=minimal"}, {"Prefer": "return=representation"}
+RIGHT, WRONG = {"If-Match": "{etag}"}, {"If-Match": NO_TAG}
+JSON = "application/json;odata.metadata="
+ONE_OF = {"If-Match": f"{NO_TAG}, {{etag}}"}
+
+# What is written around a mark: texts that get lost or cut on the way.
+TEXTS: Dict[str, Callable[[Any], str]] = {
+    "odd": lambda mark: f"{ODD}{mark}",
+    "blanks": lambda mark: f"  {mark}  ",
+    "beyond": lambda mark: f"\U0001f600 {mark} \U0001d4b3\u00e4",
+    "long 300": lambda mark: f"{mark}".ljust(300, "x"),
+    "long 5000": lambda mark: f"{mark}".ljust(5_000, "x"),
+    "long 70000": lambda mark: f"{mark}".ljust(70_000, "x"),
+}
+# Numbers that a float, or a number of JavaScript, does not keep as they are written.
+NUMBERS = {"zero": Number("9.990"), "exponent": Number("1.50E+2"), "digits": Number("12345678901234567890.1234567890")}
+
+
+class Row(NamedTuple):
+    """A request that is sent in a batch and alone.
+
+    Attributes:
+        name: The name of its case.
+        shows: What it is, in a few words.
+        method: Its method.
+        target: What its URL leads to, of TARGETS.
+        body: Its body, of BODIES.
+        headers: Its headers, in which {etag} is the ETag of the entity.
+        needs: What the service has to have.
+    """
+
+    name: str
+    shows: str
+    method: str
+    target: str
+    body: str = ""
+    headers: Dict[str, str] = {}
+    needs: Tuple[str, ...] = ()
+
+
+# Each makes an entity, or names one, that the request is about.
+TARGETS: Dict[str, Callable[[Entities], Entity]] = {
+    "there": lambda entities: entities.make(),
+    "missing": lambda entities: entities.missing(),
+    "new": lambda entities: entities.fresh(),
+    "found": lambda entities: entities.make(),
+    "filled": lambda entities: entities.make(dict([entities.values["null"]])),
+    "valued": lambda entities: entities.make(dict(entities.values.values()), TEXTS["beyond"]),
+    "no text": lambda entities: entities.make({}, lambda mark: ""),
+    "blank": lambda entities: entities.make({}, TEXTS["blanks"]),
+    "no set": lambda entities: Entity("ConformanceNoSuchSet", {}),
+}
+def with_text(text: Callable[[Any], str], entities: Entities, entity: Entity, mark: Any) -> Dict[str, Any]:
+    """The body of an entity with a text around its mark."""
+    return {**entity.body, entities.text or "": text(mark)}
+
+
+def with_number(number: Number, entities: Entities, entity: Entity, mark: Any) -> Dict[str, Any]:
+    """The body of an entity with a number with a fraction."""
+    return {**entity.body, entities.values["decimal"][0]: number}
+
+
+# Each returns a body; the second value is a mark that may be written by it.
+BODIES: Dict[str, Callable[[Entities, Entity, Any], Any]] = {
+    "": lambda entities, entity, mark: None,
+    "whole": lambda entities, entity, mark: entity.body,
+    **{name: partial(with_text, TEXTS[name]) for name in TEXTS},
+    **{name: partial(with_number, NUMBERS[name]) for name in NUMBERS},
+    "integer": lambda entities, entity, mark: {**entity.body, **dict([entities.values["integer"]])},
+    "no text": lambda entities, entity, mark: {entities.text: ""},
+    "null": lambda entities, entity, mark: {entities.values["null"][0]: None},
+    "mark": lambda entities, entity, mark: entities.change("patch", mark),
+    "odd mark": lambda entities, entity, mark: entities.change("patch", TEXTS["odd"](mark)),
+    "blanks mark": lambda entities, entity, mark: entities.change("patch", TEXTS["blanks"](mark)),
+    "other": lambda entities, entity, mark: entities.change("put", mark),
+    "empty": lambda entities, entity, mark: {},
+    "list": lambda entities, entity, mark: [],
+    "text": lambda entities, entity, mark: "text",
+    "unknown": lambda entities, entity, mark: {**entities.change("put", mark), "ConformanceNoSuchProperty": 1},
+    "bad value": lambda entities, entity, mark: {**entity.body, entities.text: {"conformance": [1]}},
+}
+
+ROWS = (
+    Row("get", "a read", "get", "there"),
+    Row("get-missing", "a read of what is missing", "get", "missing"),
+    Row("get-filtered", "a read with a query option", "get", "found", needs=("text", "filter")),
+    Row("get-no-set", "a read of a set that does not exist", "get", "no set"),
+    Row("post", "a POST", "post", "new", "whole"),
+    Row("post-minimal", "a POST that prefers no body", "post", "new", "whole", MINIMAL),
+    Row("post-whole", "a POST that prefers a body", "post", "new", "whole", WHOLE),
+    Row("post-odd", "a POST of letters that are not ASCII", "post", "new", "odd", needs=("text",)),
+    Row("post-taken", "a POST of a key that is taken", "post", "there", "whole", needs=("named",)),
+    Row("post-list", "a POST of an array", "post", "new", "list"),
+    Row("post-text", "a POST of a text", "post", "new", "text", {"Content-Type": "text/plain"}),
+    Row("post-unknown", "a POST of a property that does not exist", "post", "new", "unknown"),
+    Row("post-bad-value", "a POST of a value of the wrong type", "post", "new", "bad value", needs=("text",)),
+    Row("post-no-set", "a POST to a set that does not exist", "post", "no set", "empty"),
+    Row("patch", "a PATCH", "patch", "there", "mark", needs=("patch",)),
+    Row("patch-minimal", "a PATCH that prefers no body", "patch", "there", "mark", MINIMAL, ("patch",)),
+    Row("patch-whole", "a PATCH that prefers a body", "patch", "there", "mark", WHOLE, ("patch",)),
+    Row("patch-odd", "a PATCH with letters that are not ASCII", "patch", "there", "odd mark", needs=("patch",)),
+    Row("patch-missing", "a PATCH of what is missing", "patch", "missing", "mark", needs=("patch",)),
+    Row("patch-empty", "a PATCH of nothing", "patch", "there", "empty", needs=("patch",)),
+    Row("patch-list", "a PATCH with an array", "patch", "there", "list", needs=("patch",)),
+    Row("patch-unknown", "a PATCH of a property that does not exist", "patch", "there", "unknown", needs=("patch",)),
+    Row("put", "a PUT", "put", "there", "other", needs=("put",)),
+    Row("put-whole", "a PUT that prefers a body", "put", "there", "other", WHOLE, ("put",)),
+    Row("put-missing", "a PUT of what is missing", "put", "missing", "other", needs=("put",)),
+    Row("put-empty", "a PUT of nothing", "put", "there", "empty", needs=("put",)),
+    Row("put-mark", "a PUT of one property", "put", "there", "mark", needs=("put",)),
+    Row("delete", "a delete", "delete", "there"),
+    Row("delete-missing", "a delete of what is missing", "delete", "missing"),
+    Row("get-known", "a read of what is known", "get", "there", "", {"If-None-Match": "{etag}"}, ("etags",)),
+    Row("get-if-match", "a read with the right ETag", "get", "there", "", RIGHT, ("etags",)),
+    Row("patch-match", "a PATCH with the right ETag", "patch", "there", "mark", RIGHT, ("etags", "patch")),
+    Row("patch-stale", "a PATCH with a wrong ETag", "patch", "there", "mark", WRONG, ("etags", "patch")),
+    Row("put-match", "a PUT with the right ETag", "put", "there", "other", RIGHT, ("etags", "put")),
+    Row("put-stale", "a PUT with a wrong ETag", "put", "there", "other", WRONG, ("etags", "put")),
+    Row("put-new", "a PUT of what is to be new", "put", "there", "other", {"If-None-Match": "*"}, ("etags", "put")),
+    Row("delete-match", "a delete with the right ETag", "delete", "there", "", RIGHT, ("etags",)),
+    Row("delete-stale", "a delete with a wrong ETag", "delete", "there", "", WRONG, ("etags",)),
+    Row("delete-any", "a delete with any ETag", "delete", "there", "", {"If-Match": "*"}, ("etags",)),
+)
+# Those of which several are in one batch.
+PARTS = (
+    Row("patch-one-of", "a PATCH with the right ETag in a list", "patch", "there", "mark", ONE_OF, ("etags", "patch")),
+    Row("get-stale", "a read with a wrong ETag", "get", "there", "", WRONG, ("etags",)),
+    Row("post-blanks", "a POST of a text with blanks at its ends", "post", "new", "blanks", needs=("text",)),
+    Row("patch-blanks", "a PATCH of such a text", "patch", "there", "blanks mark", needs=("patch",)),
+    Row("get-blanks", "a read of such a text", "get", "blank", needs=("text",)),
+    Row("post-beyond", "a POST of characters beyond U+FFFF", "post", "new", "beyond", needs=("text",)),
+    Row("get-beyond", "a read of such characters", "get", "valued", needs=("text",)),
+    Row("post-long-300", "a POST of a text of 300 letters", "post", "new", "long 300", needs=("text",)),
+    Row("post-long-5000", "a POST of a text of 5,000 letters", "post", "new", "long 5000", needs=("text",)),
+    Row("post-long-70000", "a POST of a text of 70,000 letters", "post", "new", "long 70000", needs=("text",)),
+    Row("patch-no-text", "a PATCH of a text that is empty", "patch", "there", "no text", needs=("patch",)),
+    Row("get-no-text", "a read of such a text", "get", "no text", needs=("text",)),
+    Row("patch-null", "a PATCH with null", "patch", "filled", "null", needs=("null",)),
+    *(
+        Row(f"post-{name}", f"a POST of {number}", "post", "new", name, needs=("decimal",))
+        for name, number in NUMBERS.items()
+    ),
+    Row("post-integer", "a POST of an integer above 2 ** 53", "post", "new", "integer", needs=("integer",)),
+    Row("get-numbers", "a read of numbers", "get", "valued", needs=("decimal",)),
+    Row("get-version-4", "a read that takes OData 4.0", "get", "there", "", {"OData-MaxVersion": "4.0"}),
+    Row("get-version-3", "a read that takes OData 3.0", "get", "there", "", {"OData-MaxVersion": "3.0"}),
+    Row("get-accept-plain", "a read that takes plain text", "get", "there", "", {"Accept": "text/plain"}),
+    Row("get-accept-none", "a read without metadata", "get", "there", "", {"Accept": f"{JSON}none"}),
+    Row("get-accept-full", "a read with all metadata", "get", "there", "", {"Accept": f"{JSON}full"}),
+    Row("post-accept-plain", "a POST that takes plain text", "post", "new", "whole", {"Accept": "text/plain"}),
+)
+ROWS_BY_NAME = {row.name: row for row in (*ROWS, *PARTS)}

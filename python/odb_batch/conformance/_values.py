@@ -1,0 +1,68 @@
+"""Values of properties that a batch may lose or change on the way, and what takes them."""
+
+from typing import Any, Dict, List, Optional, Tuple
+
+from ._alone import together
+from ._entities import Entities, Entity
+from ._json import Number
+from ._promises import Case
+
+# What is tried for a property: a value for each kind.
+TRIED = {"decimal": Number("9.990"), "integer": 2**53 + 1, "string": "conformance"}
+# How many properties are tried.
+MAX_TRIED = 8
+
+
+def learn_values(entities: Entities) -> Dict[str, Tuple[str, Any]]:
+    """Finds properties, besides that of the marks, that take a fraction, a long integer, a string, and null."""
+    found: Dict[str, Tuple[str, Any]] = {}
+    if "patch" in entities.lacks:
+        return found
+    entity = entities.make()
+    for name in other_properties(entities, entity):
+        kind = next((kind for kind, value in TRIED.items() if takes(entities, entity, name, value)), None)
+        if kind is None:
+            continue
+        found.setdefault(kind, (name, TRIED[kind]))
+        if "null" not in found and takes(entities, entity, name, None):
+            found["null"] = name, TRIED[kind]
+        if len(found) > len(TRIED):
+            break
+    return found
+
+
+def other_properties(entities: Entities, entity: Entity) -> List[str]:
+    """The names of properties that may take such values: those of the body, and those that the service shows."""
+    shown = {**entities.body, **(entities.read(entity.url) or {})}
+    simple = (str, int, float, type(None))
+    names = (name for name, value in shown.items() if "@" not in name and isinstance(value, simple))
+    return [name for name in names if name not in (entities.key, entities.text)][:MAX_TRIED]
+
+
+def takes(entities: Entities, entity: Entity, name: str, value: Any) -> bool:
+    """Whether a property of an entity can be changed to a value, by a plain PATCH."""
+    if not entities.service.ask("PATCH", entity.url, {name: value}).is_success:
+        return False
+    shown: Optional[Any] = (entities.read(entity.url) or {}).get(name, "")
+    return shown == value and isinstance(shown, bool) == isinstance(value, bool)
+
+
+TEXT = ["text"]
+BLANKS, BEYOND = ("post-blanks", "patch-blanks", "get-blanks"), ("post-beyond", "get-beyond")
+LONG, NUMBERS = ("post-long-300", "post-long-5000", "post-long-70000"), ("post-zero", "post-exponent", "post-digits")
+AS_THEY_ARE = together(["post-odd", "patch-odd", *BEYOND], is_ascii=False)
+
+CASES = (
+    Case("values-blanks", "alone", "texts with blanks at their ends", together(BLANKS), needs=TEXT),
+    Case("values-beyond", "alone", "characters beyond U+FFFF", together(BEYOND), needs=TEXT),
+    Case("values-utf-8", "alone", "characters that are not ASCII, without escapes", AS_THEY_ARE, needs=TEXT),
+    Case("values-long", "alone", "texts of 300, 5,000 and 70,000 letters", together(LONG), needs=TEXT),
+    Case("values-empty", "alone", "a text that is empty", together(["patch-no-text", "get-no-text"]), needs=TEXT),
+    Case("values-null", "alone", "null in place of a value", together(["patch-null"]), needs=["null"]),
+    Case("values-numbers", "alone", "numbers with a fraction", together([*NUMBERS, "get-numbers"]), needs=["decimal"]),
+    Case("values-integer", "alone", "an integer above 2 ** 53", together(["post-integer"]), needs=["integer"]),
+)
+
+
+def values() -> List[Case]:
+    return list(CASES)

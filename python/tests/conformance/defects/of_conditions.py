@@ -1,0 +1,114 @@
+"""Defects in conditions: in what $ and an id stand for there, and in which requests have one."""
+
+import json
+import re
+
+from patching import Execution, change_document, change_requests
+
+CONDITIONS = ("if-match", "if-none-match")
+# What stands for a reference, so that the library leaves it as it is.
+HIDDEN = re.compile(r'"tag-of-(.*)"')
+
+
+def stand(tag_of, names=CONDITIONS):
+    """Has references in conditions stand for another ETag: by an execution, in which `tags` has those of the answers, an
+    id, and the group of the request with the condition. None is no condition."""
+    prepare, answer = Execution.__init__, Execution.answer
+
+    def hide(requests):
+        for request in requests:
+            headers = request.get("headers", {})
+            hidden = {name: f'"tag-of-{value[1:]}"' for name, value in headers.items() if value.startswith("$")}
+            headers.update({name: value for name, value in hidden.items() if name.lower() in names})
+
+    def preparing(self, *rest):
+        self.tags = {}
+        prepare(self, *rest)
+
+    def answering(self, request):
+        hidden = {name: HIDDEN.fullmatch(value) for name, value in request.headers.items()}
+        changed = {name: tag_of(self, found[1], request.group) for name, found in hidden.items() if found}
+        headers = {name: value for name, value in {**request.headers, **changed}.items() if value is not None}
+        given = answer(self, request._replace(headers=headers))
+        self.tags.setdefault(request.id, given.headers.get("etag"))
+        return given
+
+    Execution.__init__, Execution.answer = preparing, answering
+    change_document(hide)
+
+
+def tags_as_written():
+    """$ and an id in a condition are taken as they are."""
+    stand(lambda execution, id, group: f"${id}")
+
+
+def tags_dropped():
+    """A condition with $ and an id is dropped."""
+    stand(lambda execution, id, group: None)
+
+
+def tags_of_none_match_dropped():
+    """If-None-Match with $ and an id is dropped."""
+    stand(lambda execution, id, group: None, ["if-none-match"])
+
+
+def tags_as_any():
+    """$ and an id in a condition stand for any ETag."""
+    stand(lambda execution, id, group: "*")
+
+
+def first_tag():
+    """$ and an id stand for the first ETag of the batch."""
+    stand(lambda execution, id, group: next(tag for tag in execution.tags.values() if tag))
+
+
+def last_tag():
+    """$ and an id stand for the last ETag of the batch."""
+    stand(lambda execution, id, group: [tag for tag in execution.tags.values() if tag][-1])
+
+
+def tags_of_members_dropped():
+    """In a group a condition with $ and an id is dropped, but not outside of one."""
+
+    stand(lambda execution, id, group: None if group else execution.tags[id])
+
+
+def conditions_stick():
+    """A request without a condition has that of an earlier one."""
+    last = {}
+
+    def change(request):
+        found = {name: value for name, value in request.headers.items() if name in CONDITIONS}
+        last.update({request.group: found} if found else {})
+        return request if found else request._replace(headers={**request.headers, **last.get(request.group, {})})
+
+    change_requests(change)
+
+
+def conditions_of_all_or_none():
+    """Conditions are dropped if a request of the batch has none."""
+    respond = Execution.respond
+
+    def has_condition(given):
+        return any(name.lower() in CONDITIONS for name in given.get("headers", {}))
+
+    def responding(self):
+        value = json.loads(self.document)
+        if not all(map(has_condition, value["requests"])):
+            for given in value["requests"]:
+                headers = given.get("headers", {})
+                given["headers"] = {name: it for name, it in headers.items() if name.lower() not in CONDITIONS}
+        self.document = json.dumps(value).encode()
+        return respond(self)
+
+    Execution.respond = responding
+
+
+def first_of_several_tags():
+    """Of a list of ETags the first counts."""
+
+    def change(request):
+        tags = {name: request.headers[name].partition(",")[0] for name in CONDITIONS if name in request.headers}
+        return request._replace(headers={**request.headers, **tags})
+
+    change_requests(change)

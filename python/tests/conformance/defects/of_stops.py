@@ -1,0 +1,103 @@
+"""Defects in how a batch ends with its first error."""
+
+import json
+
+from patching import Execution, is_success, request_of
+
+
+def stop_by(is_end):
+    """Has a batch without continue-on-error end with other errors."""
+    respond, answer = Execution.respond, Execution.answer
+
+    def responding(self):
+        self.has_ended = False
+        if self.options.get("mode") == "stop":
+            self.options.update(mode="continue", stop=lambda: self.has_ended)
+        return respond(self)
+
+    def answering(self, request):
+        found = answer(self, request)
+        self.has_ended = self.has_ended or is_end(request, found.status)
+        return found
+
+    Execution.respond, Execution.answer = responding, answering
+
+
+def stops_by_404_alone():
+    """A batch ends with an error only if something is missing."""
+    stop_by(lambda request, status: status == 404)
+
+
+def no_stop_by_412():
+    """A batch does not end with a precondition that does not hold."""
+    stop_by(lambda request, status: status >= 400 and status != 412)
+
+
+def no_stop_by_400():
+    """A batch does not end with a body that is wrong."""
+    stop_by(lambda request, status: status > 400)
+
+
+def no_stop_by_reads():
+    """A batch does not end with a read that fails."""
+    stop_by(lambda request, status: status >= 400 and request.method != "GET")
+
+
+def no_stop_by_patches():
+    """A batch does not end with a PATCH that fails."""
+    stop_by(lambda request, status: status >= 400 and request.method != "PATCH")
+
+
+def go_on(is_performed):
+    """Has some requests performed though the batch has ended before them."""
+    respond = Execution.respond
+
+    def responding(self):
+        document = respond(self)
+        if self.options.get("mode") != "stop":
+            return document
+        value = json.loads(document)
+        statuses = {it["id"]: it["status"] for it in value["responses"]}
+        groups = {}
+        for id, it in self.requests.items():
+            groups.setdefault(it.get("atomicityGroup"), []).append(id)
+        for it in value["responses"]:
+            given = self.requests[it["id"]]
+            needs = [id for name in given.get("dependsOn", ()) for id in groups.get(name, [name])]
+            is_free = all(is_success(statuses[id]) for id in needs) and not given["url"].startswith("$")
+            if it["status"] == 424 and is_free and is_performed(given):
+                answer = self.send(request_of(self, given))
+                it["status"] = statuses[it["id"]] = answer.status
+        return json.dumps(value).encode()
+
+    Execution.respond = responding
+
+
+def reads_go_on():
+    """Reads are performed after an error, too."""
+    go_on(lambda given: given["method"] == "get")
+
+
+def creates_go_on():
+    """What creates is performed after an error, too."""
+    go_on(lambda given: given["method"] == "post" and "atomicityGroup" not in given)
+
+
+def deletes_go_on():
+    """Deletes are performed after an error, too."""
+    go_on(lambda given: given["method"] == "delete")
+
+
+def patches_go_on():
+    """PATCHes are performed after an error, too."""
+    go_on(lambda given: given["method"] == "patch")
+
+
+def puts_go_on():
+    """PUTs are performed after an error, too."""
+    go_on(lambda given: given["method"] == "put")
+
+
+def groups_go_on():
+    """Groups are performed after an error, too."""
+    go_on(lambda given: "atomicityGroup" in given)

@@ -1,0 +1,141 @@
+"""Defects in the values of bodies, on their way to the service and back."""
+
+import json
+
+from odb_batch import Answer
+from patching import Execution, change_answers, change_bodies, change_requests
+
+
+def in_texts(change):
+    """Returns what changes all texts of a value."""
+
+    def changed(value):
+        if isinstance(value, dict):
+            return {name: changed(it) for name, it in value.items()}
+        return change(value) if isinstance(value, str) else value
+
+    return changed
+
+
+def of_texts(change):
+    """Has the texts of the bodies of requests changed."""
+    change_bodies(lambda request: True, in_texts(change))
+
+
+def change_bodies_of_answers(change, read=json.loads):
+    """Has the bodies of answers changed, as values."""
+
+    def changed(given, answer):
+        return answer._replace(body=json.dumps(change(read(answer.body))).encode()) if answer.body else answer
+
+    change_answers(changed)
+
+
+def blanks_lost():
+    """Texts lose the blanks at their ends."""
+    of_texts(str.strip)
+
+
+def blanks_of_answers_lost():
+    """Texts that are answered lose the blanks at their ends."""
+    change_bodies_of_answers(in_texts(str.strip))
+
+
+def texts_of_255():
+    """Texts are cut after 255 characters."""
+    of_texts(lambda text: text[:255])
+
+
+def texts_of_4096():
+    """Texts are cut after 4,096 characters."""
+    of_texts(lambda text: text[:4096])
+
+
+def texts_of_65535():
+    """Texts are cut after 65,535 characters."""
+    of_texts(lambda text: text[:65_535])
+
+
+def sixteen_bits():
+    """A character beyond U+FFFF becomes a question mark."""
+    of_texts(lambda text: "".join(it if it <= "\uffff" else "?" for it in text))
+
+
+def sixteen_bits_of_answers():
+    """A character beyond U+FFFF that is answered becomes a question mark."""
+    change_bodies_of_answers(in_texts(lambda text: "".join(it if it <= "\uffff" else "?" for it in text)))
+
+
+def latin_1():
+    """A batch is read as Latin-1."""
+    prepare = Execution.__init__
+
+    def preparing(self, document, *rest):
+        prepare(self, document.decode("latin-1").encode(), *rest)
+
+    Execution.__init__ = preparing
+
+
+def no_empty_texts():
+    """An empty text counts as none."""
+    change_bodies(lambda request: True, lambda body: {name: it for name, it in body.items() if it != ""})
+
+
+def no_nulls():
+    """What is null counts as missing."""
+    change_bodies(lambda request: True, lambda body: {name: it for name, it in body.items() if it is not None})
+
+
+def nulls_as_texts():
+    """null becomes an empty text."""
+    change_bodies(lambda request: True, lambda body: {name: "" if it is None else it for name, it in body.items()})
+
+
+def numbers_as_floats():
+    """Numbers with a fraction become floats."""
+    change_bodies(lambda request: b"." in request.body, lambda body: body)
+
+
+def numbers_of_answers_as_floats():
+    """Numbers with a fraction that are answered become floats."""
+    change_bodies_of_answers(lambda body: body)
+
+
+def no_zeros_at_the_end():
+    """Numbers lose the zeros at the end of their fraction, and no other digit."""
+
+    def change(request):
+        text = request.body.replace(b"9.990", b"9.99")
+        return request._replace(body=text)
+
+    change_requests(change)
+
+
+def whole_numbers_as_floats():
+    """Whole numbers become floats, as in JavaScript."""
+
+    def changed(body):
+        return {name: int(float(it)) if type(it) is int else it for name, it in body.items()}
+
+    change_bodies(lambda request: True, changed)
+
+
+def numbers_as_texts():
+    """Numbers become texts."""
+
+    def read(text):
+        return json.loads(text, parse_float=str, parse_int=str)
+
+    change_bodies_of_answers(lambda body: body, read)
+
+
+def bodies_of_64_kib():
+    """A request with more than 65,536 bytes is answered 413 in a batch."""
+    answer = Execution.answer
+
+    def answering(self, request):
+        if len(request.body) > 65_536:
+            return Answer(413, {}, {"error": {"code": "TooLong", "message": "Too long"}})
+        return answer(self, request)
+
+    Execution.answer = answering
