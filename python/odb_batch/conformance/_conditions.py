@@ -115,11 +115,11 @@ CASES = (
     Case("etag-of-old-read", "etag", "changes of what is not as it was", of_old_read, kind=STALE, needs=CHANGES),
     Case("etag-of-each", "etag", "the ETags of three entities", of_each, needs=NEEDS),
     Case("etag-of-new", "etag", "changes of what is created", of_new, needs=[*NEEDS, "etag of new"]),
-    Case("etag-of-change", "etag", "changes after a change", of_change, kind=STALE, needs=[*NEEDS, "etag of patch"]),
+    Case("etag-of-change", "etag", "changes after a change", of_change, kind=STALE, needs=[*CHANGES, "etag of patch"]),
     Case("etag-in-group", "etag", "the ETag of a member in the same group", in_group, needs=NEEDS),
     Case("etag-fails-group", "etag", "a member with an old ETag", fails_in_group, kind=STALE, needs=CHANGES),
     Case("etag-to-group", "etag", "the ETag of a member after its group", to_group, needs=NEEDS),
-    Case("etag-none-match", "etag", "reads of what is known", none_match, needs=[*NEEDS, "patch", "known"]),
+    Case("etag-none-match", "etag", "reads of what is known", none_match, needs=[*CHANGES, "known"]),
 )
 
 

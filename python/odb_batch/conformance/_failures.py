@@ -158,7 +158,7 @@ def failing_beside() -> List[Case]:
     for act, what in (("create", "POSTs"), ("delete", "deletes"), ("patch", "PATCHes"), ("put", "PUTs")):
         write, shows = partial(after_others, kind="missing", act=act), f"a group fails after three {what}"
         needs = [act] if act in ("patch", "put") else []
-        found.append(Case(f"group-fails-after-{act}", "group", shows, write, kind="missing", needs=needs))
+        found.append(Case(f"group-undone-{act}", "group", shows, write, kind="missing", needs=needs))
     for name, shows, places in BESIDE:
         write = partial(beside_groups, kind="missing", at=places)
         found.append(Case(f"groups-beside-{name}", "group", shows, write, kind="missing"))

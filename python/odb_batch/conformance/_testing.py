@@ -26,7 +26,7 @@ def judge(
     """Judges a service by one case, and removes the entities that it has made for it.
 
     A service is judged by one case at a time: nothing else may change the entity set meanwhile. The first case sends
-    some 50 requests besides, by which it learns what the service has. Later ones rely on that for the same URL;
+    some 100 requests besides, by which it learns what the service has. Later ones rely on that for the same URL;
     what :func:`serving` serves is learned anew.
 
     Args:
