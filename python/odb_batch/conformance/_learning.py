@@ -62,7 +62,8 @@ def learn(entities: Entities) -> None:
     }
     entities.lacks = {name: reason for name, reason in LACKS.items() if not has.get(name, True)}
     entities.values = learn_values(entities)
-    entities.lacks.update({name: LACKS[name] for name in OF_VALUES if name not in entities.values})
+    no_values = {name: entities.lacks.get("patch", LACKS[name]) for name in OF_VALUES if name not in entities.values}
+    entities.lacks.update(no_values)
     entities.lacks.update(learn_features(entities))
     entities.lacks.update(learn_references(entities))
     entities.appeared()

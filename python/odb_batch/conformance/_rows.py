@@ -4,7 +4,7 @@ from functools import partial
 from typing import Any, Callable, Dict, NamedTuple, Tuple
 
 from ._entities import Entities, Entity
-from ._json import Number
+from ._exact_json import Number
 from ._kinds import NO_TAG
 
 ODD = "ä \"\\/ € & '%41 <b>"

@@ -7,8 +7,8 @@ import time
 from typing import Any, Mapping, NamedTuple, Optional
 from urllib.parse import unquote, urljoin, urlsplit
 
+from ._exact_json import text_of, value_of
 from ._interruption import Interrupted, Interruption
-from ._json import text_of, value_of
 
 MAX_ANSWER = 67_108_864
 # For how many seconds an answer may be waited for, and for how many it is if nobody says.

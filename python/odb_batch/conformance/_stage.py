@@ -5,7 +5,7 @@ from typing import Any, Dict, List, NamedTuple, Optional, Sequence, Set
 from urllib.parse import unquote
 
 from ._entities import Effect, Entities, Entity
-from ._json import text_of
+from ._exact_json import text_of
 from ._twin import Twin
 
 # What is expected of a request: success; an error of its own; 424 for a dependency that failed; no success, in a

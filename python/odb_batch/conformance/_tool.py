@@ -8,8 +8,8 @@ from typing import Any, Dict, List, Sequence
 from . import _report
 from ._cases import MOST_REQUESTS, REQUESTS, cases_like
 from ._entities import Entities
+from ._exact_json import value_of
 from ._interruption import Interrupted, Interruption
-from ._json import value_of
 from ._promises import Case
 from ._runner import Runner
 from ._service import MOST_SECONDS, NO_ROOT, SECONDS, Service, Unusable, is_root

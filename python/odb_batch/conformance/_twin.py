@@ -10,7 +10,7 @@ from typing import Any, Callable, Dict, Iterator, List, Mapping, NamedTuple, Opt
 from urllib.parse import quote, urlsplit
 
 from ._entities import Entities, Entity
-from ._json import text_of
+from ._exact_json import text_of
 from ._service import Answer
 
 Parts = Dict[str, Any]

@@ -4,7 +4,7 @@ from typing import Any, Dict, List, Optional, Tuple
 
 from ._alone import together
 from ._entities import Entities, Entity
-from ._json import Number
+from ._exact_json import Number
 from ._promises import Case
 
 # What is tried for a property: a value for each kind.

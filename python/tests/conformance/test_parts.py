@@ -7,7 +7,7 @@ import pytest
 
 from odb_batch.conformance._entities import BEHIND, Entities, Entity
 from odb_batch.conformance._interruption import Interruption
-from odb_batch.conformance._json import Number, text_of, value_of
+from odb_batch.conformance._exact_json import Number, text_of, value_of
 from odb_batch.conformance._left_over import left_over
 from odb_batch.conformance._promises import Case
 from odb_batch.conformance._service import Answer, Service

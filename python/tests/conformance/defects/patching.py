@@ -5,7 +5,7 @@ from urllib.parse import urljoin
 
 import odb_batch.wsgi
 from odb_batch import PreparedRequest, perform
-from odb_batch.conformance._json import text_of, value_of
+from odb_batch.conformance._exact_json import text_of, value_of
 
 
 class Execution:

@@ -12,7 +12,7 @@ import entities
 import odb_batch._endpoint
 import store
 from odb_batch import Answer, Refusal
-from odb_batch.conformance._json import text_of, value_of
+from odb_batch.conformance._exact_json import text_of, value_of
 from of_groups import half_group
 from of_responses import refuse_beside
 from patching import Execution, change_answers, change_document, change_responses
