@@ -204,7 +204,7 @@ def too_long(size: int) -> Refusal:
 
 
 def refused(error: Exception) -> Answer:
-    """Returns the answer to a batch that is refused as a whole: that of a Refusal, or 400 with the message of a Fault."""
+    """Returns the answer to a batch that is refused: that of a Refusal, or 400 with the message of a Fault."""
     if isinstance(error, Refusal):
         return error.answer
     if not isinstance(error, Fault):
