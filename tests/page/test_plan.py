@@ -4,7 +4,7 @@ import json
 
 from support.page import show_thousand, write
 
-REQUESTS, MOST_CHANGES = 997, 100  # of the page by a key
+REQUESTS, MOST_CHANGES = 997, 100  # of a plan, and of the page by a key
 
 # How many changes of the page come of each key, with the nodes that it adds.
 CHANGES = """const nodes = (it) => 1 + (it.querySelectorAll?.('*').length ?? 0)
@@ -105,14 +105,12 @@ def test_the_plan_by_keys(page):
 
 
 def test_a_thousand_requests_stay_usable(page):
-    """A key changes the boxes that it lights up, and draws none anew: all of them at the last request, which needs the others.
-    bench/browsers.py measures how long that takes.
-    """
+    """A key changes the boxes that it lights up, and draws none anew. bench/browsers.py measures how long that takes."""
     show_thousand(page)
     assert len(page.value(BOXES)) == REQUESTS
-    *few, most = sorted(page.value(CHANGES))
-    print("changes of the page by each key:", few, most)
-    assert 0 < few[0] <= few[-1] < MOST_CHANGES and most < REQUESTS + MOST_CHANGES
+    changes = page.value(CHANGES)
+    print("changes of the page by each key:", changes)
+    assert 0 < min(changes) and max(changes) < MOST_CHANGES
 
 
 def test_ten_thousand_requests_are_shown_by_levels(page, tmp_path):

@@ -326,7 +326,7 @@ class TestErrorsOfParts:
         with pytest.raises(TypeError):
             gets("a").send(lambda document: answered)
 
-    @pytest.mark.parametrize("answered", [None, 200, b"", {}, iter([200, {}, b""])], ids=repr)
+    @pytest.mark.parametrize("answered", [None, 200, b"", {}, iter([200, {}, b""])], ids=["nothing", "number", "bytes", "object", "iterator"])
     def test_what_is_to_be_returned_is_said(self, answered):
         wanted = r"^post must return \(status, headers, body\), or a response of requests or httpx, not a \w+$"
         with pytest.raises(TypeError, match=wanted):
