@@ -143,7 +143,9 @@ class Entities:
         place = f"{self.service.root}{urls[0]}"
         for _ in range(LOOKS):
             time.sleep(PAUSE)
-            if any(self.service.ask("GET", url).is_success for url in urls):
+            late = next((url for url in urls if self.service.ask("GET", url).is_success), None)
+            if late is not None:
+                self._found(late, answer)
                 raise Unusable(f"{place} was created, and cannot be read at once: {BEHIND}")
         raise Unusable(f"{place} was created, and cannot be read")
 
@@ -154,11 +156,11 @@ class Entities:
         entity = self.make()
         if entity.key != key:
             return
-        self.notes.append(f"{self.set} gives the key of an entity that is removed again")
+        self.notes.append(f"new entities of {self.set} have the keys of removed ones")
         for new_key in keys_far_from(key):
             if self.service.ask("GET", self.url_of(new_key())).status in GONE:
                 self.unused = new_key
-                self.notes[-1] += "; what is missing has keys that it does not give"
+                self.notes[-1] += "; what has to be missing has keys far from these"
                 return
 
     def require_reads(self) -> None:

@@ -60,6 +60,8 @@ TARGETS: Dict[str, Callable[[Entities], Entity]] = {
     "blank": lambda entities: entities.make({}, TEXTS["blanks"]),
     "no set": lambda entities: Entity("ConformanceNoSuchSet", {}),
 }
+
+
 def with_text(text: Callable[[Any], str], entities: Entities, entity: Entity, mark: Any) -> Dict[str, Any]:
     """The body of an entity with a text around its mark."""
     return {**entity.body, entities.text or "": text(mark)}

@@ -284,5 +284,5 @@ def test_what_responses_may_look_like(look):
 def test_a_service_that_gives_keys_again_is_named():
     _, value, _ = judged("reused_keys", "one-*")
     assert value["notes"] == [
-        "Books gives the key of an entity that is removed again; what is missing has keys that it does not give"
+        "new entities of Books have the keys of removed ones; what has to be missing has keys far from these"
     ]
