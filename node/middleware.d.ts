@@ -46,7 +46,7 @@ export interface BatchOptions extends PerformanceOptions {
  * own; a write or a group is waited for. An answer with another number of bytes than its `Content-Length` is 502.
  *
  * What is refused is answered by an error object (OData JSON Format 4.01, section 21.1): 400 with the fault of the batch, 405,
- * 413, 415 with `Accept` or `Accept-Encoding`, 501 and 503. Throws a `TypeError` or a `RangeError` for an option that has none of
+ * 408 if its bytes do not come in half a minute, 413, 415 with `Accept` or `Accept-Encoding`, 501 and 503. Throws a `TypeError` or a `RangeError` for an option that has none of
  * its values.
  */
 export function batch(app: Handler, options?: BatchOptions): Middleware

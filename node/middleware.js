@@ -18,6 +18,7 @@ const OF_BATCH = [
   'path', 'root', 'allowed', 'maxSize', 'memory', 'limit', 'width', 'transaction', 'timeout', 'deadline', 'stop', 'log',
 ]
 const MOST_REQUESTS = 1000
+// For how long an answer is waited for, unless an option says so, and the bytes of a batch.
 const MOST_MILLISECONDS = 30000
 // How many bytes all batches may have together, unless two alone may have more.
 const USUAL_MEMORY = 268435456
@@ -95,23 +96,27 @@ class Client {
   }
 }
 
-/** The body of a request, as long as it has no more bytes than these, and there is room for them; the rest is not read. */
+/** The body of a request, as long as it has no more bytes than these, comes in time and has room; the rest is not read. */
 function readBody(req, maxSize, memory) {
-  return new Promise((resolve, reject) => {
+  let timer
+  const read = new Promise((resolve, reject) => {
     const parts = []
     let size = 0
-    const cut = () => reject(new Refusal(400, 'CutBody', 'The batch is not whole'))
-    req.on('data', (part) => {
-      parts.push(part)
-      size += part.length
-      const hasRoom = memory.take(part.length)
-      if (hasRoom && size <= maxSize) return
+    const refuse = (refusal) => {
       req.pause()
-      reject(size > maxSize ? tooLong(maxSize) : unread(busy()))
+      reject(unread(refusal))
+    }
+    timer = setTimeout(() => refuse(new Refusal(408, 'CutBody', 'The batch did not come in time')), MOST_MILLISECONDS)
+    req.on('data', (part) => {
+      size += part.length
+      if (size > maxSize) refuse(tooLong(maxSize))
+      else if (memory.take(part.length)) parts.push(part)
+      else refuse(busy())
     })
     req.on('end', () => resolve(Buffer.concat(parts)))
-    for (const event of ['error', 'close']) req.on(event, cut)
+    for (const event of ['error', 'close']) req.on(event, () => reject(new Refusal(400, 'CutBody', 'The batch is not whole')))
   })
+  return read.finally(() => clearTimeout(timer))
 }
 
 /** A refusal of a batch whose bytes are not all read, so that its connection ends. */
@@ -121,7 +126,7 @@ function unread(refusal) {
 }
 
 function tooLong(maxSize) {
-  return unread(new Refusal(413, 'TooLong', `A batch may have ${maxSize} bytes`))
+  return new Refusal(413, 'TooLong', `A batch may have ${maxSize} bytes`)
 }
 
 /** Refuses a batch in another coding, which a parser in front may take off. */
@@ -139,7 +144,7 @@ async function bodyOf(req, maxSize, memory) {
   }
   if (req.readableEnded) throw new Error('a parser has read the body of the batch: batch() has to come before it')
   requireIdentity(req.headers)
-  if (Number(req.headers['content-length']) > maxSize) throw tooLong(maxSize)
+  if (Number(req.headers['content-length']) > maxSize) throw unread(tooLong(maxSize))
   return readBody(req, maxSize, memory)
 }
 

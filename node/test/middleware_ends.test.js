@@ -10,7 +10,7 @@ const { batch: mounted } = require('../middleware.js')
 const { batch } = require('./performing.js')
 const { CONTINUES, MOUNTS, PATH, express, listening, serving } = require('./serving.js')
 
-const WAITS = 20000 // milliseconds that only a test that fails takes
+const WAITS = 120000 // milliseconds that only a test that fails takes
 
 /** A handler whose requests a test follows: `events` emits the name in the path with the request and the response. */
 function watched() {
@@ -35,11 +35,12 @@ function everywhere(name, options, use) {
   }
 }
 
-/** Sends a batch by a connection of its own, and returns that. */
-function sent(port, document, headers = ['Content-Type: application/json', 'Prefer: continue-on-error']) {
+/** Sends a batch by a connection of its own, which may announce more bytes than come, and returns that. */
+function sent(port, document, missing = 0) {
   const text = JSON.stringify(document)
   const socket = net.connect(port, '127.0.0.1')
-  socket.write([`POST ${PATH} HTTP/1.1`, 'Host: h', ...headers, `Content-Length: ${text.length}`, '', text].join('\r\n'))
+  const headers = ['Content-Type: application/json', 'Prefer: continue-on-error', `Content-Length: ${text.length + missing}`]
+  socket.write([`POST ${PATH} HTTP/1.1`, 'Host: h', ...headers, '', text].join('\r\n'))
   return socket
 }
 
@@ -103,6 +104,20 @@ everywhere('waits half a minute for an answer if nothing else is said', {}, asyn
     globalThis.setTimeout = given
   }
   assert(times.includes(30000))
+})
+
+everywhere('waits for the bytes of a batch no longer than half a minute', {}, async ({ begun, port }) => {
+  const { setTimeout: given } = globalThis
+  globalThis.setTimeout = (call, time, ...more) => given(call, time === 30000 ? 50 : time, ...more)
+  try {
+    const socket = sent(port, batch(['a', 'get', 'short']), 7)
+    const [answer] = await once(socket, 'data')
+    assert.match(answer.toString(), /^HTTP\/1.1 408 [^]*connection: close[^]*CutBody/i)
+    await once(socket, 'end')
+  } finally {
+    globalThis.setTimeout = given
+  }
+  assert.deepEqual(begun, [])
 })
 
 everywhere('starts nothing more once its client has left', {}, async ({ begun, errors, events, port }) => {
@@ -206,20 +221,22 @@ everywhere('has one bound of memory for all batches', { maxSize: 1000, memory: 1
 
 test('gives back the memory of batches that are refused, cut or left', { timeout: WAITS }, async () => {
   const { events, handler } = watched()
-  await serving('node:http', handler, { maxSize: 1000, memory: 1000 }, async ({ errors, port, post, responses }) => {
+  await serving('node:http', handler, { maxSize: 1000, memory: 1000 }, async ({ port, post }) => {
+    const large = batch(['a', 'put', 'short', { body: 'x'.repeat(900) }])
+    const isFree = async () => (await post(JSON.stringify(large))).status === 200
     assert.equal((await post('x'.repeat(900))).status, 400)
     assert.equal((await post('x'.repeat(1001))).status, 413)
-    const cut = sent(port, batch(['a', 'get', 'short']), ['Content-Type: application/json', 'Content-Length: 999'])
+    await until(isFree)
+    const cut = sent(port, large, 7)
     await once(cut, 'ready')
     cut.destroy()
+    await until(isFree)
     const reached = once(events, 'held')
     const left = sent(port, batch(['a', 'get', 'held'], ['b', 'put', 'short', { body: 'x'.repeat(500) }]))
     await reached
+    assert.equal(await isFree(), false)
     left.destroy()
-    await until(() => errors.length > 0)
-    const document = batch(['a', 'put', 'short', { body: 'x'.repeat(900) }])
-    await until(async () => (await post(JSON.stringify(document))).status === 200)
-    assert.equal((await responses(document)).a.status, 204)
+    await until(isFree)
   })
 })
 
