@@ -73,9 +73,9 @@ def test_the_log_says_that_no_connection_was_free(aiohttp, capsys):
     async def enter():
         upstreams = Upstreams(options, metrics)
         await upstreams.open()
-        async with upstreams.place(options.routes[0]):
+        async with upstreams.places(options.routes[0]):
             with pytest.raises(Refusal):
-                await upstreams.place(options.routes[0]).__aenter__()
+                await upstreams.places(options.routes[0]).__aenter__()
         await upstreams.close()
 
     asyncio.run(enter())

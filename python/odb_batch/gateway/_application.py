@@ -229,7 +229,9 @@ class Gateway:
             batch = await self._read(request, room)
             self._require_running()
             if self._journals is None or repeatable is None:
-                response = await performance.response(batch, None, lambda: _is_gone(request))
+                services, client = self._upstreams, request.protocol
+                stop = lambda: services.is_stopping or client.transport is None
+                response = await performance.response(batch, None, stop)
                 return performed(response, performance.mode)
             same = (request.path, str(self._options.forwards), headers.get("prefer", ""))
             parts = {"sender": digest(*map(str.encode, same)), "sent": repeatable.first_sent}
@@ -251,7 +253,8 @@ class Gateway:
         try:
             journal = await opened
             performance.tally.is_repeated = bool(journal.events)
-            answer = performed(await performance.response(batch, journal, lambda: False), performance.mode)
+            response = await performance.response(batch, journal, lambda: self._upstreams.is_stopping)
+            answer = performed(response, performance.mode)
             return answer._replace(headers={**answer.headers, "repeatability-result": "accepted"})
         except Fault:
             raise
@@ -292,7 +295,7 @@ async def _send(request: web.Request, response: web.Response) -> None:
 
 def _is_gone(request: web.Request) -> bool:
     """Whether the client of a request has gone."""
-    return request.transport is None or request.transport.is_closing()
+    return request.transport is None
 
 
 def _response(answer: Answer) -> web.Response:

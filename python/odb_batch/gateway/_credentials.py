@@ -1,6 +1,6 @@
 """Which service gets the headers by which it knows a client, and which headers are the gateway's own."""
 
-from typing import Dict, FrozenSet, Iterable, Mapping, Sequence, Tuple
+from typing import Dict, FrozenSet, Iterable, Sequence, Tuple
 
 from .._messages import header_dict
 from ._routes import Route
@@ -63,7 +63,10 @@ class Credentials:
             own = {name for name, prefix in sent if prefix == route.prefix}
             self._withheld[route.prefix] = names - own if sent or self.are_held_back else frozenset()
 
-    def headers_for(self, routes: Iterable[Route], headers: Mapping[str, str]) -> Dict[str, str]:
+    def headers_for(self, routes: Iterable[Route], headers: Dict[str, str]) -> Dict[str, str]:
         """Returns headers without those that the service of some routes does not get."""
-        withheld: FrozenSet[str] = frozenset().union(*(self._withheld[route.prefix] for route in routes))
-        return {name: value for name, value in headers.items() if name not in withheld}
+        for route in routes:
+            withheld = self._withheld[route.prefix]
+            if not withheld.isdisjoint(headers):
+                headers = {name: value for name, value in headers.items() if name not in withheld}
+        return headers

@@ -83,13 +83,13 @@ class Performance:
         self.mode = outer.mode
         self.tally = Tally(number)
 
-    async def response(self, batch: bytes, journal: Optional[Journal], is_gone: Callable[[], bool]) -> bytes:
+    async def response(self, batch: bytes, journal: Optional[Journal], stop: Callable[[], bool]) -> bytes:
         """Returns the response document; raises as `perform_async` does.
 
         Args:
             batch: The batch.
             journal: Its journal, if it may be sent again.
-            is_gone: Whether the client has gone. Then nothing more starts, unless the batch may be sent again.
+            stop: Whether nothing more is to start.
         """
         return await perform_async(
             batch,
@@ -99,7 +99,7 @@ class Performance:
             base=self._outer.base,
             roots=self._outer.roots,
             limit=self._options.limit,
-            stop=lambda: self._upstreams.is_stopping or (journal is None and is_gone()),
+            stop=stop,
             deadline=self._options.deadline,
             gate=self._place,
             groups=self._send_group if self._options.forwards else None,
@@ -111,11 +111,11 @@ class Performance:
         try:
             if isinstance(outgoing, PreparedGroup):
                 first = next(request for request in outgoing.requests if request.reference is None)
-                return self._upstreams.place(self._routes.target(first.url)[0])
+                return self._upstreams.places(self._routes.target(first.url)[0])
             target = self._targets[outgoing.id] = self._routes.target(outgoing.url)
         except Refusal:
             return contextlib.AsyncExitStack()
-        return self._upstreams.place(target[0])
+        return self._upstreams.places(target[0])
 
     async def _send(self, request: PreparedRequest) -> Answer:
         """Sends a request to the service of its route."""
@@ -139,9 +139,9 @@ class Performance:
 
     def _shown(self, sent: str, answer: Answer) -> Answer:
         """An answer with the URLs in its headers as clients see them."""
-        found = {name: it for name, it in answer.headers.items() if name in _PLACES}
-        seen = {name: self._routes.public(self._seen, sent, place) for name, place in found.items()}
-        return answer._replace(headers={**answer.headers, **seen}) if seen else answer
+        headers = answer.headers
+        seen = {name: self._routes.public(self._seen, sent, headers[name]) for name in _PLACES if name in headers}
+        return answer._replace(headers={**headers, **seen}) if seen else answer
 
     async def _exchanged(self, id: str, request: Outgoing) -> Answer:
         """Sends a request, and counts and logs it."""

@@ -1,6 +1,7 @@
 """Sends requests to services, over connections that are kept."""
 
 import asyncio
+import functools
 import time
 from typing import Any, Callable, Dict, NamedTuple
 
@@ -35,21 +36,19 @@ class Outgoing(NamedTuple):
     body: bytes
 
 
-class _Place:
-    """A place, and a line of the log if none was free in time."""
+class _Places(Places):
+    """The places of a service, with a line of the log if none is free in time."""
 
-    def __init__(self, places: Places, say: Callable[[], None]) -> None:
-        self._places, self._say = places, say
+    def __init__(self, options: Options, say: Callable[[], None]) -> None:
+        super().__init__(options.connections, options.timeout)
+        self._say = say
 
     async def __aenter__(self) -> None:
         try:
-            await self._places.__aenter__()
+            await super().__aenter__()
         except Refusal:
             self._say()
             raise
-
-    async def __aexit__(self, *ended: Any) -> None:
-        await self._places.__aexit__(*ended)
 
 
 class Upstreams:
@@ -62,14 +61,18 @@ class Upstreams:
     def __init__(self, options: Options, metrics: Metrics) -> None:
         self._options, self._metrics = options, metrics
         self._reasons = Reasons(options.log != "none")
-        self._places: Dict[str, Places] = {}
+        self._places: Dict[Route, _Places] = {}
         self.is_stopping = self._is_given_up = False
 
     async def open(self) -> None:
         """Makes what belongs to the running loop."""
-        for service in dict.fromkeys(route.origin for route in self._options.routes):
-            self._places[service] = Places(self._options.connections, self._options.timeout)
-            self._metrics.watch_queue(service, self._places[service])
+        found: Dict[str, _Places] = {}
+        for route in self._options.routes:
+            service = route.origin
+            if service not in found:
+                found[service] = _Places(self._options, functools.partial(self._note_busy, service))
+                self._metrics.watch_queue(service, found[service])
+            self._places[route] = found[service]
         self._connector = aiohttp.TCPConnector(limit=0, keepalive_timeout=self._options.keep_alive)
         tracing = aiohttp.TraceConfig()
         tracing.on_request_headers_sent.append(_sent_once)
@@ -101,14 +104,14 @@ class Upstreams:
         self._is_given_up = True
         await self._connector.close()
 
-    def place(self, route: Route) -> _Place:
+    def places(self, route: Route) -> Places:
         """Returns what bounds how many requests are on their way to the service of a route: each has a place before it
         is sent, and is 503 ``Busy`` after the time-out of waiting."""
-        return _Place(self._places[route.origin], lambda: self._note_busy(route))
+        return self._places[route]
 
-    def _note_busy(self, route: Route) -> None:
+    def _note_busy(self, service: str) -> None:
         self._metrics.fault("Busy")
-        self.say(route.upstream, "Busy", "connections")
+        self.say(service, "Busy", "connections")
 
     def say(self, url: str, code: str, reason: str, detail: object = "") -> None:
         """Says in the log why there is no answer from a URL."""
