@@ -191,8 +191,8 @@ class Engine {
   #served({ bytes, text }, mode) {
     const verdict = this.#match(bytes, { mode })
     if (!verdict.accepted) return verdict
-    const strict = this.#match(bytes, { mode, strict: true })
-    const impossible = strict.accepted ? undefined : { line: strict.text, explanation: strict.faults[0].explanation }
+    const { faults: [fault], text: line } = this.#match(bytes, { mode, strict: true })
+    const impossible = fault && { line, explanation: fault.explanation }
     return { ...verdict, impossible, ...answersOf(this.#requests, elementsOf(text, 'responses'), mode) }
   }
 
