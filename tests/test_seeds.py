@@ -19,7 +19,7 @@ import pytest
 from support import contents, crowds
 from support.contents import KINDS
 from support.program import TESTS
-from support.seeds import GROUPS, IDS, LOW_BITS, SLOW, TAG_BITS, TRIES, content_of
+from support.seeds import GROUPS, IDS, LOW_BITS, PLAIN_RUNS, SLOW, TAG_BITS, TRIES, content_of
 
 pytestmark = [pytest.mark.slow, pytest.mark.needs("cc")]
 
@@ -90,7 +90,7 @@ def given(tmp_path_factory):
 def plain(program, given, tmp_path_factory):
     """The processor time of each command on random names."""
     crowd = Crowd(program, tmp_path_factory.mktemp("random"), crowds.random_names(IDS + GROUPS))
-    return {it: min(crowd.seconds(it, given[0]) for _ in range(TRIES)) for it in COMMANDS}
+    return {it: min(crowd.seconds(it, given[0]) for _ in range(PLAIN_RUNS)) for it in COMMANDS}
 
 
 @pytest.mark.parametrize("name", SEEDS)

@@ -65,6 +65,7 @@ class TestStrategies:
         batch, code, position = drawn
         assert fault_of(check, batch) == (code, f"/requests/{position}")
 
+    @pytest.mark.slow
     def test_each_fault_is_drawn(self):
         assert set(CHANGES) == {code for code in EXPLANATIONS if "F10" <= code < "F50"}
         assert {code for _, code, _ in drawn(faulty_batches(max_requests=4), 500)} == set(CHANGES)
@@ -89,6 +90,7 @@ class TestStrategies:
     def test_what_has_a_reserved_url_is_not_referred_to(self, url, ids):
         assert covered([{"id": "a", "url": url}], {"dependsOn": ["a"]}) == ids
 
+    @pytest.mark.slow
     def test_each_part_is_drawn(self):
         requests = [it for batch in drawn(batches(), 150) for it in batch["requests"]]
         texts = [json.dumps(it).lower() for it in requests]
@@ -101,6 +103,7 @@ class TestStrategies:
             "requests": [{"id": "a", "method": "get", "url": "Books"}]
         }
 
+    @pytest.mark.slow
     @pytest.mark.parametrize("has, count", [
         (lambda batch: any(it.get("body") for it in batch), 1),
         (lambda batch: len({it.get("atomicityGroup") for it in batch} - {None}) > 1, 2),

@@ -75,9 +75,19 @@ class Calls:
         return spent
 
     def least(self, seed):
-        """The least time of each call in some tries."""
-        tries = [self.timed(seed) for _ in range(seeds.TRIES)]
-        return {name: min(it[name] for it in tries) for name in tries[0]}
+        """The least time of each call in some runs."""
+        runs = [self.timed(seed) for _ in range(seeds.PLAIN_RUNS)]
+        return {name: min(it[name] for it in runs) for name in runs[0]}
+
+    def slow(self, plain, seed, tries):
+        """The calls that are slow with a seed in each of some tries, beside those on random names."""
+        found = list(plain)
+        for _ in range(tries):
+            spent = self.timed(seed)
+            found = [name for name in found if spent[name] > seeds.SLOW * plain[name]]
+            if not found:
+                break
+        return found
 
 
 @pytest.fixture
@@ -92,5 +102,5 @@ def test_each_call_takes_its_seed(library_of_package, tmp_path):
     names = crowds.colliding_names(tmp_path, NAMES, LOW_BITS, seeds.TAG_BITS, drawn)
     plain = Calls(library_of_package, crowds.random_names(NAMES)).least(drawn)
     crowd = Calls(library_of_package, names)
-    slow = lambda seed: [name for name, spent in crowd.least(seed).items() if spent > seeds.SLOW * plain[name]]
-    assert (slow(drawn), slow(drawn ^ 1), slow(0)) == (list(plain), [], [])
+    assert crowd.slow(plain, drawn, 1) == list(plain)
+    assert [crowd.slow(plain, seed, seeds.TRIES) for seed in (drawn ^ 1, 0)] == [[], []]

@@ -13,9 +13,12 @@ GROUPS = IDS // crowds.MEMBERS
 LOW_BITS, TAG_BITS = 8, 7
 LOOKED_UP = 20
 
-# How many times as long as on random names is slow, and in how many runs a command has to be slow that may not be.
+# How many times the processor time on random names is slow. One that is slow takes five times as much, and one that is not a
+# sixth of it. On a busy machine that has to be so in one of some tries.
 SLOW = 6
-TRIES = 2
+TRIES = 8
+# Of how many runs on random names the least counts.
+PLAIN_RUNS = 3
 
 
 def content_of(names):

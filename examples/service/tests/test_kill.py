@@ -10,7 +10,7 @@ import pytest
 from common import Process, new_book, request, rows, until
 
 KILLS, CLIENTS, MEMBERS = 20, 4, 5
-MOST_ANSWERS = 60  # of the clients together before a kill
+MOST_ANSWERS = 30  # of the clients together before a kill
 
 
 class Load:

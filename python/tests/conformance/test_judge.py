@@ -116,6 +116,7 @@ def test_a_case_that_is_broken():
         assert len(json.loads(response)["responses"]) == 6
 
 
+@pytest.mark.slow
 def test_long_batches_are_shown_in_part():
     with service("half_of_long_groups") as (running, _), pytest.raises(AssertionError) as found:
         judge(running.url, "group-many-last", **BOOKS)
@@ -123,6 +124,7 @@ def test_long_batches_are_shown_in_part():
 
 
 # What a service refuses is known also where no other case came before.
+@pytest.mark.slow
 @pytest.mark.parametrize("variant, feature, glob", [
     ("refuses_groups", "groups", "group-wai*"),
     ("refuses_references", "references", "reference-[rd]*"),
@@ -135,6 +137,7 @@ def test_what_a_service_refuses(variant, feature, glob):
             assert str(found.value) == f"the service refuses {feature} with 501 {feature.title()} are not supported"
 
 
+@pytest.mark.slow
 def test_a_refusal_of_some_groups_is_a_break(monkeypatch):
     """A service that takes groups may not refuse those that depend on something."""
 
@@ -153,6 +156,7 @@ def test_a_refusal_of_some_groups_is_a_break(monkeypatch):
             judge(root + "/library/", "group-after", **BOOKS)
 
 
+@pytest.mark.slow
 def test_a_service_without_query_options(monkeypatch):
     def app(environ, start_response):
         return library.app({**environ, "QUERY_STRING": ""}, start_response)
@@ -163,6 +167,7 @@ def test_a_service_without_query_options(monkeypatch):
             judge(root + "/library/", "alone-get-filtered", **BOOKS)
 
 
+@pytest.mark.slow
 @pytest.mark.parametrize("late, is_kept", [(2, True), (3, False)])
 def test_an_error_may_come_late(late, is_kept, monkeypatch):
     """A service that goes on after some errors, as if they came last, and stops after the next."""
@@ -183,6 +188,7 @@ def test_an_error_may_come_late(late, is_kept, monkeypatch):
     assert len(batches) == 3
 
 
+@pytest.mark.slow
 def test_what_a_server_says_of_a_failure_is_not_compared(monkeypatch):
     """A request that fails with 500 has the page of the server alone, and an error object in the batch."""
 
@@ -204,6 +210,7 @@ def test_what_a_server_says_of_a_failure_is_not_compared(monkeypatch):
         judge(root + "/library/", "alone-patch-list", **BOOKS)
 
 
+@pytest.mark.slow
 @pytest.mark.parametrize("late", [1, 4])
 def test_a_service_that_commits_after_its_answer_is_named(late, monkeypatch):
     """What is created cannot be read at once: the first entity, or one of the next ones."""
