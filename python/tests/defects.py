@@ -5,6 +5,7 @@ Of each: the module, its text, what takes the place of that, the module of the t
 
 PERFORM, PERFORM_ORDER, PERFORM_REQUESTS = "test_perform", "test_perform_order", "test_perform_requests"
 MIDDLEWARE, WSGI_ASGI, TESTING = "test_middleware", "test_wsgi_asgi", "test_testing"
+ENDS, PLACES, ROOMS = "test_ends", "test_places", "test_rooms"
 BUILDING, SENDING, REST = "client/test_building", "client/test_sending", "client/test_rest"
 
 DEFECTS = {
@@ -20,20 +21,26 @@ DEFECTS = {
         PERFORM, "swallows_all",
     ),
     "no-gate": ("asgi", "gate=self._gate()", "gate=None", WSGI_ASGI, "at_once"),
-    "a-gate-of-one-loop": ("asgi", "if loop not in self._gates:", "if not self._gates:", WSGI_ASGI, "at_once"),
+    "a-gate-of-one-loop": ("asgi", "if loop not in self._places:", "if not self._places:", WSGI_ASGI, "at_once"),
+    "a-client-that-stays": ("asgi", "self.has_gone = True", "pass", ENDS, "nothing_more_starts"),
+    "any-transaction": ("asgi", "if inspection.isgeneratorfunction(function) or", "if False and", ENDS, "refused_at_the_start"),
+    "memory-until-the-end": ("_room", "self._room.give(self._size)", "pass", ROOMS, "takes_nothing"),
+    "a-stop-before-the-place-alone": ("_work", "self._ask_to_stop()\n        # One", "# One", PLACES, "waits_for_a_place"),
+    "a-start-before-its-place": ("_work", "return unit\n        return None", "self._note(Start(ids[0])); return unit\n        return None", PLACES, "has_not_started"),
+    "a-place-that-is-lost": ("_places", "self._leave()  # the place", "pass  # the place", PLACES, "none_is_lost"),
     "a-disconnect-after-the-body": (
         "asgi", "await self._completed.wait()\n", "pass\n", WSGI_ASGI, "receive_blocks",
     ),
-    "a-success-without-its-commit": ("asgi", " or exchange.answer().is_success", "", WSGI_ASGI, "after_a_success"),
+    "a-success-without-its-commit": ("asgi", " or exchange.is_success", "", WSGI_ASGI, "after_a_success"),
     "a-cut-answer-is-one": ("asgi", "if not self._begun or not self.is_complete:", "if not self._begun:", WSGI_ASGI, "answers_half"),
     "an-answer-ends-a-request": (
         "asgi", "await self._middleware.app(scope, exchange.receive, exchange.send)",
         "asyncio.ensure_future(self._middleware.app(scope, exchange.receive, exchange.send))\n"
-        "            while not exchange.is_complete:\n                await asyncio.sleep(0)",
+        "                while not exchange.is_complete:\n                    await asyncio.sleep(0)",
         WSGI_ASGI, "when_the_application_returns",
     ),
     "dots-in-paths": ("_urls", '".." not in segments and ', "", MIDDLEWARE, "lead_out"),
-    "any-host": ("_urls", "it[:2] == (scheme, netloc) and ", "", PERFORM_REQUESTS, "outside_of_the_base"),
+    "any-host": ("_urls", "it[:2] == (scheme, host) and ", "", PERFORM_REQUESTS, "outside_of_the_base"),
     "queries-in-references": ("_urls", 'parts.path.rstrip("/"), "", ""', 'parts.path.rstrip("/"), parts.query, ""', PERFORM_REQUESTS, "location"),
     "urls-in-a-body-without-its-context": (
         "_answers", '_first(entity, ("@context", "@odata.context"))', "None", PERFORM_REQUESTS, "created_or_returned",
@@ -41,7 +48,7 @@ DEFECTS = {
     "any-status": ("_answers", "if 200 <= status <= 599 else 502", "", PERFORM, "an_answer_that_is_none"),
     "a-late-stop": ("_work", "except Refused:\n                continue", "except KeyError:\n                continue", PERFORM, "while_a_unit_begins"),
     "no-stop": ("_work", "and not self._is_stopped and self._stop():", "and False:", PERFORM, "a_stop_answers"),
-    "broken-json-ends-all": ("_work", "except Fault:", "except KeyError:", PERFORM_REQUESTS, "of_answers"),
+    "broken-json-ends-all": ("_work", "except Fault:\n            headers", "except KeyError:\n            headers", PERFORM_REQUESTS, "of_answers"),
     "a-place-that-stays-free": ("_perform_async", "self._begin()\n        except", "self._out or self._begin()\n        except", PERFORM_ORDER, "place"),
     "any-number-of-requests": ("_work", "if len(given) > limit:", "if False:", PERFORM, "that_is_refused"),
     "a-cancelled-batch-goes-on": ("_perform_async", "return self.is_cancelled or _is_cancelling()", "return False", PERFORM_ORDER, "cancellation"),
@@ -50,8 +57,8 @@ DEFECTS = {
     "an-interruption-goes-on": ("_perform", "work.stop()\n            #", "#", PERFORM, "nothing_more_start"),
     "a-pool-blocks": ("_perform", " if not future.cancel()", "", PERFORM_ORDER, "is_shut_down"),
     "another-context": ("_perform", "copy_context().run\n", "lambda it, *more: it(*more)\n", PERFORM_ORDER, "context_of_the_caller"),
-    "long-answers": ("_endpoint", "len(answer.body) <= self._left", "True", MIDDLEWARE, "too_long_together"),
-    "any-header": ("_endpoint", "if name not in self._allowed:", "if False:", MIDDLEWARE, "of_a_request"),
+    "long-answers": ("_room", "if count > self._left:", "if False:", MIDDLEWARE, "too_long_together"),
+    "any-header": ("_endpoint", "if name not in self._allowed and", "if False and", MIDDLEWARE, "of_a_request"),
     "a-preference-lost": ("_endpoint", '", ".join([value, *self._prefer]) if name == "prefer" else value', "value", MIDDLEWARE, "inherited"),
     "batches-in-batches": ("wsgi", 'if environ["PATH_INFO"] == self._middleware.path:', "if False:", MIDDLEWARE, "batch_in_a_batch"),
     "no-dependencies-of-references": (
