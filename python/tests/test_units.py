@@ -110,6 +110,20 @@ class SentAsOne(unittest.TestCase):
             with self.assertRaises(KeyError):
                 live.start_unit("lend")
 
+    def test_are_refused_after_a_failure_or_at_the_width(self):
+        with Run(BATCH) as live:
+            live.start("book")
+            live.report("book", 500)
+            with self.assertRaises(Refused) as refused:
+                live.start_unit("list")
+            self.assertEqual((refused.exception.code, refused.exception.name), ("S3", "UnitFailed"))
+        with Run({"requests": [dict(request, dependsOn=[]) for request in BATCH["requests"]]}, width=1) as live:
+            live.start("mark")
+            with self.assertRaises(Refused) as refused:
+                live.start_unit("book")
+            self.assertEqual((refused.exception.code, refused.exception.name), ("S5", "WidthReached"))
+            self.assertEqual((live.running, live.next_unit()), (("mark",), None))
+
 
 class States(unittest.TestCase):
     def test_follow_the_run(self):
