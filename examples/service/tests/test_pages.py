@@ -93,5 +93,5 @@ def test_the_transaction_of_the_page_commits_and_rolls_back(tmp_path):
 
 
 def test_the_line_of_the_page_is_in_the_source():
-    _, line = excerpts()
+    *_, line = excerpts()
     assert line in page("examples", "service", "app.py")
