@@ -1,6 +1,6 @@
 // The entry `odb-batch/middleware`.
 
-import type { PerformanceOptions } from './perform'
+import type { PerformanceOptions, PreparedRequest } from './perform'
 
 /** A handler of `node:http`, as an app of Express is one, or what `app.callback()` of Koa returns. */
 export type Handler = (request: any, response: any) => unknown
@@ -22,6 +22,11 @@ export interface BatchOptions extends PerformanceOptions {
    */
   allowed?: readonly string[]
   /**
+   * Sees each request before it is dispatched, with its whole URL and all its headers, and may throw a `Refusal`, which is its
+   * answer then. What it changes has no effect.
+   */
+  inspect?: (request: Omit<PreparedRequest, 'signal'>) => void | PromiseLike<void>
+  /**
    * How many bytes a batch may have, and its answers together; 16,777,216 is the default. An answer takes its bytes as it is
    * written. If they are too many, a GET is ended at once and answered 507; another request keeps its status and loses its body.
    */
@@ -33,7 +38,10 @@ export interface BatchOptions extends PerformanceOptions {
   memory?: number
   /** How many requests a batch may have; 1,000 is the default. */
   limit?: number
-  /** For how many milliseconds an answer is waited for, then its connection is closed and it is 504; 30,000 is the default. */
+  /**
+   * For how many milliseconds an answer is waited for, then its connection is closed and it is 504; 30,000 is the default. A client
+   * that for as long reads nothing of the response to its batch is cut off.
+   */
   timeout?: number
 }
 

@@ -15,7 +15,7 @@ const { Room, busy, isRead, withoutBody } = require('./room.js')
 const { unquoted } = require('./urls.js')
 
 const OF_BATCH = [
-  'path', 'root', 'allowed', 'maxSize', 'memory', 'limit', 'width', 'transaction', 'timeout', 'deadline', 'stop', 'log',
+  'path', 'root', 'allowed', 'inspect', 'maxSize', 'memory', 'limit', 'width', 'transaction', 'timeout', 'deadline', 'stop', 'log',
 ]
 const MOST_REQUESTS = 1000
 // For how long an answer is waited for, unless an option says so, and the bytes of a batch.
@@ -33,29 +33,32 @@ function requireBytes({ maxSize, memory }) {
 
 /** The options with their defaults, or a TypeError. */
 function settingsOfBatch(options) {
-  const { path = '/$batch', root = folderOf(path), allowed = [], maxSize = MOST_BYTES, ...others } = options
+  const { path = '/$batch', root = folderOf(path), allowed = [], inspect, maxSize = MOST_BYTES, ...others } = options
   const { memory = Math.max(USUAL_MEMORY, 2 * maxSize), limit = MOST_REQUESTS, timeout = MOST_MILLISECONDS, ...rest } = others
   for (const [name, it] of Object.entries({ path, root })) {
     if (!String(it).startsWith('/')) throw new TypeError(`the ${name} must begin with /, not ${String(it)}`)
   }
   if (!root.endsWith('/')) throw new TypeError(`the root must end with /, not ${root}`)
+  if (!['undefined', 'function'].includes(typeof inspect)) throw new TypeError(`inspect must be a function, not ${String(inspect)}`)
   requireBytes({ maxSize, memory })
   const performed = settingsOf({ ...rest, limit, timeout })
-  return { path, root, own: new OwnHeaders(allowed, performed.log), maxSize, memory: new Room(memory), performed }
+  return { path, root, own: new OwnHeaders(allowed, performed.log), inspect, maxSize, memory: new Room(memory), performed }
 }
 
 /** The client of a batch. Once it has left nothing more is started for it, and what only reads ends at once. */
 class Client {
   #res
   #stop
+  #patience
   #reads = new Set()
   #isAnswered = false
   #isClosed
   hasLeft
 
-  constructor(res, stop) {
+  constructor(res, { stop, timeout }) {
     this.#res = res
     this.#stop = stop
+    this.#patience = timeout
     this.#isClosed = this.hasLeft = res.destroyed === true
     res.on('close', () => this.#leave())
   }
@@ -80,6 +83,8 @@ class Client {
     this.#isAnswered = true
     this.#res.writeHead(status, { 'odata-version': '4.01', ...headers, 'content-length': body.length })
     this.#res.end(body)
+    // Else one that reads nothing would keep the memory of its batch. Bytes that are taken begin the time anew.
+    this.#res.setTimeout?.(this.#patience, () => this.#res.destroy())
   }
 
   /** Calls a function once the answer is sent, or the client has left. */
@@ -166,14 +171,16 @@ function answererOf(app) {
 }
 
 /** The answer to a request that carries a batch. */
-async function answerOf(answered, req, client, memory, { path, root, own, maxSize, performed }) {
+async function answerOf(answered, req, client, memory, { path, root, own, inspect, maxSize, performed }) {
   const outer = new Outer(req, path, own)
   const { mode, base } = outer
   const document = await bodyOf(req, maxSize, memory)
   const room = new Room(maxSize, memory)
   const send = (request, wait) => {
     const answer = async () => {
-      const found = await answered(req.socket, outer.inner(request), room, wait)
+      const inner = outer.inner(request)
+      if (inspect !== undefined) await inspect({ ...request, headers: { ...inner.headers } })
+      const found = await answered(req.socket, inner, room, wait)
       const { shortage } = found
       if (shortage !== undefined) performed.log(shortage, `the request ${request.id}, whose answer loses its body`)
       return found
@@ -201,7 +208,7 @@ function batch(app, options = {}) {
   return function answerBatch(req, res, next = () => app(req, res)) {
     const [path] = (req.originalUrl ?? req.url).split('?', 1)
     if (unquoted(path) !== settings.path) return next()
-    const client = new Client(res, settings.performed.stop)
+    const client = new Client(res, settings.performed)
     const memory = new Room(Infinity, settings.memory) // of this batch, to be given back as a whole
     answerOf(answered, req, client, memory, settings)
       .catch((error) => failedOf(error, log))

@@ -9,6 +9,7 @@ const { once } = require('node:events')
 const { IncomingMessage, ServerResponse } = require('node:http')
 const { Readable } = require('node:stream')
 const { test } = require('node:test')
+const { Refusal } = require('..')
 const { batch: mounted } = require('../middleware.js')
 const { batch } = require('./performing.js')
 const { CONTINUES, JSON_TYPE, MOUNTS, PATH, express, listening, serving } = require('./serving.js')
@@ -277,6 +278,26 @@ everywhere('says once in the log which header is not allowed', {}, async ({ erro
   assert.deepEqual(said, [[refused('x-tenant'), 'the request r0'], [refused('x-other'), 'the request r2']])
 })
 
+const seen = []
+
+/** Notes what it sees, and refuses what is below `secret`. */
+async function inspect({ id, method, url, headers, body, group }) {
+  seen.push([id, method, new URL(url).pathname, headers.authorization, headers['x-request-id'], body?.toString(), group])
+  if (decodeURIComponent(new URL(url).pathname).includes('/secret')) throw new Refusal(403, 'Denied', 'not in a batch')
+}
+
+everywhere('has a function see each request before it is dispatched, which may refuse it', { inspect }, async ({ responses }) => {
+  seen.length = 0
+  const own = { headers: { 'X-Request-ID': '7' }, body: { p: 1 } }
+  const document = batch(['a', 'post', 'echo', own], ['b', 'get', '%73ecret/x'], ['c', 'get', 'echo', { headers: { 'X-No': '1' } }])
+  const found = await responses(document, { ...CONTINUES, authorization: 'Bearer 1' })
+  assert.deepEqual(statusesOf(found), { a: 200, b: 403, c: 400 })
+  assert.deepEqual(seen, [
+    ['a', 'POST', '/odata/echo', 'Bearer 1', '7', '{"p":1}', null],
+    ['b', 'GET', '/odata/%73ecret/x', 'Bearer 1', undefined, undefined, null],
+  ])
+})
+
 everywhere('keeps requests below the root', { root: '/odata/' }, async ({ origin, responses }) => {
   const inside = ['status?is=204', '/odata/status?is=204', `${origin}/odata/status?is=204`, './status?is=204']
   const outside = ['/status', '../status', '%2e%2e/status', 'http://169.254.169.254/', '//other/odata/status']
@@ -448,7 +469,7 @@ test('refuses options that have none of their values', () => {
   assert.throws(() => mounted({}), TypeError)
   const paths = [{ path: 'odata' }, { root: '/odata' }, { root: 'odata/' }]
   const numbers = [{ maxSize: -1 }, { memory: 7.5 }, { memory: 7, maxSize: 8 }, { timeout: 0 }, { deadline: -1 }, { limit: -1 }]
-  const wrong = [...paths, ...numbers, { maxsize: 7 }, { mode: 'stop' }, { transaction: 7 }]
+  const wrong = [...paths, ...numbers, { maxsize: 7 }, { mode: 'stop' }, { transaction: 7 }, { inspect: 7 }]
   for (const options of wrong) {
     assert.throws(() => mounted(handler, options), TypeError)
   }

@@ -120,6 +120,18 @@ everywhere('waits for the bytes of a batch no longer than half a minute', {}, as
   assert.deepEqual(begun, [])
 })
 
+const LARGE = { maxSize: 16000000, memory: 16000000, timeout: 1000 }
+
+everywhere('cuts off a client that reads nothing of its answer', LARGE, async ({ events, port, post }) => {
+  events.on('long', (req, res) => res.writeHead(200, { 'Content-Type': 'text/plain' }).end(Buffer.alloc(15000000, 'x')))
+  const reached = once(events, 'long')
+  sent(port, batch(['a', 'get', 'long'])).on('error', () => {})
+  const [req] = await reached
+  await once(req.socket.outer, 'close')
+  const document = JSON.stringify(batch(['a', 'put', 'short', { body: 'x'.repeat(2000000) }]))
+  await until(async () => (await post(document)).status === 200)
+})
+
 everywhere('starts nothing more once its client has left', {}, async ({ begun, errors, events, port }) => {
   const closed = []
   const reached = once(events, 'held')

@@ -20,8 +20,9 @@ const options: PerformOptions = { mode: 'stop', width: 2, transaction, base: 'ht
 export const responses: Promise<Bytes>[] = [byFetch, atOnce, refusing].map((send) => perform('{"requests":[]}', send, options))
 
 const settings: BatchOptions = { path: '/$batch', root: '/', allowed: ['X-Tenant'], maxSize: 1, memory: 2, deadline: 9, limit: 1, width: 8, timeout: 5, transaction }
+const inspecting: BatchOptions = { inspect: ({ url, headers }) => { if (url === headers['x']) throw new Refusal(403, 'Denied', 'no') } }
 const handler = (request: { url?: string }, response: { end(): void }) => response.end()
-export const listener: (request: { url?: string }, response: { end(): void }) => void = batch(handler, settings)
+export const listener: (request: { url?: string }, response: { end(): void }) => void = batch(handler, { ...settings, ...inspecting })
 export const injected = batch({ inject: async () => ({ statusCode: 200, headers: {}, rawPayload: new Uint8Array() }) })
 
 // @ts-expect-error
