@@ -141,6 +141,17 @@ def test_a_batch_that_may_be_repeated_is_finished_without_its_client(slow, front
     assert service.paths == ["/odata/slow", "/odata/a", "/odata/b"]
 
 
+def test_a_batch_that_does_not_come_is_not_waited_for_for_ever(upstream, front, monkeypatch):
+    from odb_batch.gateway import _application
+
+    monkeypatch.setattr(_application, "_READ_SECONDS", 0.2)
+    it = front("--upstream", upstream().url)
+    with socket.create_connection(("127.0.0.1", it.port), SECONDS) as client:
+        head = b"POST /odata/$batch HTTP/1.1\r\nHost: a\r\nContent-Type: application/json\r\nContent-Length: 9\r\n\r\n"
+        client.sendall(head + b"{")
+        assert client.makefile("rb").readline().split()[1] == b"408"
+
+
 # The end
 
 

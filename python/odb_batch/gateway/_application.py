@@ -148,11 +148,15 @@ class Gateway:
         # A response that is not sent yet is still in memory.
         with Room(self._options.max_size, self._budget) as room:
             response = _response(await self._answer_batch(request, room))
+            # A timer costs less than a task, which waiting by a function of asyncio has.
+            timer = asyncio.get_running_loop().call_later(_WRITE_SECONDS, _abort, request)
             try:
-                await asyncio.wait_for(_send(request, response), _WRITE_SECONDS)
-            except (ConnectionError, asyncio.TimeoutError):
-                if request.transport is not None:
-                    request.transport.abort()
+                await response.prepare(request)
+                await response.write_eof()
+            except ConnectionError:
+                pass
+            finally:
+                timer.cancel()
         return response
 
     async def _answer_batch(self, request: web.Request, room: Room) -> Answer:
@@ -267,14 +271,18 @@ class Gateway:
 
     async def _read(self, request: web.Request, room: Room) -> bytes:
         """Reads a batch, whose bytes are reserved as they come."""
+        late = asyncio.TimeoutError()
+        timer = asyncio.get_running_loop().call_later(_READ_SECONDS, request.content.set_exception, late)
         try:
-            return await asyncio.wait_for(_document(request, room, self._options.max_size), _READ_SECONDS)
+            return await _document(request, room, self._options.max_size)
         except Refusal:
             raise
         except asyncio.TimeoutError:
             raise Refusal(408, "CutBody", "The batch did not come in time") from None
         except Exception:
             raise Refusal(400, "CutBody", "The batch cannot be read to its end") from None
+        finally:
+            timer.cancel()
 
 
 async def _document(request: web.Request, room: Room, most: int) -> bytes:
@@ -288,9 +296,10 @@ async def _document(request: web.Request, room: Room, most: int) -> bytes:
     return bytes(found)
 
 
-async def _send(request: web.Request, response: web.Response) -> None:
-    await response.prepare(request)
-    await response.write_eof()
+def _abort(request: web.Request) -> None:
+    """Ends the connection of a client that does not read its response."""
+    if request.transport is not None:
+        request.transport.abort()
 
 
 def _is_gone(request: web.Request) -> bool:

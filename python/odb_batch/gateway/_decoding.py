@@ -27,8 +27,11 @@ def _text(value: str) -> str:
 def headers_of(pairs: Iterable[Tuple[str, str]]) -> Dict[str, str]:
     """Returns the headers of an answer by their names in lower case. One that names a resource or a version is dropped
     if it comes several times with different values: a request that refers to it would go somewhere else."""
-    read = [(name, value if value.isascii() else _text(value)) for name, value in pairs]
+    read = list(pairs)
     found = header_dict(read)
+    if not "".join(found.values()).isascii():
+        read = [(name, _text(value)) for name, value in read]
+        found = header_dict(read)
     if len(found) < len(read):
         for name in _SINGLE & found.keys():
             values = {value for other, value in read if other.lower() == name}

@@ -189,9 +189,10 @@ async def _read(answer: aiohttp.ClientResponse, reading: Reading) -> None:
     coding = answer.headers.get("Content-Encoding", "").strip().lower()
     is_coded = coding not in ("", "identity") and answer.status not in (204, 304)
     decoder = Decoder(coding) if is_coded else None
-    while part := await answer.content.read(_PART):
-        parts = [part] if decoder is None else decoder.parts(part)
-        if not all(map(reading.add, parts)):
+    content = answer.content
+    while not content.at_eof():
+        part = await content.read(_PART)
+        if not (reading.add(part) if decoder is None else all(map(reading.add, decoder.parts(part)))):
             return
     if decoder is not None:
         decoder.require_end()
