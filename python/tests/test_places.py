@@ -261,6 +261,9 @@ class TestPlaces:
                         await asyncio.wait([waiting])
                 waiting.cancel()
                 await asyncio.wait([waiting])
-                await asyncio.wait_for(hold(), LONG)
+                free = asyncio.ensure_future(hold())
+                for _ in range(5):
+                    await asyncio.sleep(0)
+                assert free.done()
 
         asyncio.run(main())
