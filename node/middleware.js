@@ -68,6 +68,12 @@ class Client {
     return this.hasLeft || this.#stop?.aborted === true
   }
 
+  /** Throws unless a request may still be sent that was kept waiting. */
+  requireWanted({ reason }) {
+    if (reason !== undefined) throw reason
+    if (this.aborted) throw new Refusal(424, 'Stopped', 'The batch had stopped before the request was sent')
+  }
+
   /** Calls a function that waits for the answer to a request. */
   async waiting(wait, call) {
     this.#reads.add(wait)
@@ -179,7 +185,10 @@ async function answerOf(answered, req, client, memory, { path, root, own, inspec
   const send = (request, wait) => {
     const answer = async () => {
       const inner = outer.inner(request)
-      if (inspect !== undefined) await inspect({ ...request, headers: { ...inner.headers } })
+      if (inspect !== undefined) {
+        await inspect({ ...request, headers: { ...inner.headers } })
+        client.requireWanted(wait)
+      }
       const found = await answered(req.socket, inner, room, wait)
       const { shortage } = found
       if (shortage !== undefined) performed.log(shortage, `the request ${request.id}, whose answer loses its body`)

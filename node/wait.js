@@ -5,20 +5,21 @@
 /** The wait for one answer. Its signal is made for who asks for it: to make one takes longer than a request in memory. */
 class Wait {
   #controller
-  #reason
+  /** Why the wait is over, or undefined. */
+  reason
   /** Is called with the reason when the wait is over before an answer came. */
   onEnd
 
   get signal() {
     if (this.#controller === undefined) {
       this.#controller = new AbortController()
-      if (this.#reason !== undefined) this.#controller.abort(this.#reason)
+      if (this.reason !== undefined) this.#controller.abort(this.reason)
     }
     return this.#controller.signal
   }
 
   end(reason) {
-    this.#reason = reason
+    this.reason = reason
     this.#controller?.abort(reason)
     this.onEnd?.(reason)
   }

@@ -298,6 +298,24 @@ everywhere('has a function see each request before it is dispatched, which may r
   ])
 })
 
+test('sends nothing that was inspected for too long, or until the batch was stopped', async () => {
+  closed.length = 0
+  const document = batch(['a', 'get', 'closing'], ['b', 'get', 'closing'])
+  const controller = new AbortController()
+  const stopping = { stop: controller.signal, inspect: async () => controller.abort() }
+  await serving('node:http', handler, stopping, async ({ responses }) => {
+    assert.deepEqual(statusesOf(await responses(document)), { a: 424, b: 424 })
+  })
+  const waits = []
+  const slow = { timeout: 50, inspect: () => new Promise((resolve) => waits.push(resolve)) }
+  await serving('node:http', handler, slow, async ({ responses }) => {
+    assert.deepEqual(statusesOf(await responses(document)), { a: 504, b: 504 })
+    for (const resolve of waits) resolve()
+    await new Promise(setImmediate)
+  })
+  assert.deepEqual(closed, [])
+})
+
 everywhere('keeps requests below the root', { root: '/odata/' }, async ({ origin, responses }) => {
   const inside = ['status?is=204', '/odata/status?is=204', `${origin}/odata/status?is=204`, './status?is=204']
   const outside = ['/status', '../status', '%2e%2e/status', 'http://169.254.169.254/', '//other/odata/status']
