@@ -1,5 +1,6 @@
 """The small services under load: conformance in every set-up, groups that hold a lock, and SIGKILL."""
 
+import asyncio
 import http.client
 import random
 import secrets
@@ -10,7 +11,8 @@ from concurrent.futures import ThreadPoolExecutor
 
 import pytest
 
-from support.servers import JSON, SECONDS, conformance, until, with_gunicorn
+from odb_batch.asgi import BatchMiddleware
+from support.servers import JSON, SECONDS, conformance, skip_without, until, with_gunicorn
 
 # An application, how it is served if otherwise, and its environment.
 SETUPS = {
@@ -50,10 +52,18 @@ def writes(key, singles, members):
     return [new(f"s{k}") for k in range(singles)] + [{**new(f"g{k}"), "atomicityGroup": "g"} for k in range(members)]
 
 
-def test_a_group_in_a_pool_of_threads_is_not_starved(serve):
-    """All threads would wait for the lock that a group holds, whose next request waits for a thread: after ten seconds some
-    are answered 500.
-    """
+def test_more_threads_answer_than_requests_are_out():
+    """Else all threads might wait for the lock that a group holds, whose next request waits for a thread."""
+    skip_without("anyio")
+    from anyio.to_thread import current_default_thread_limiter
+
+    async def threads():
+        return current_default_thread_limiter().total_tokens
+
+    assert BatchMiddleware(None).at_once < asyncio.run(threads())
+
+
+def test_groups_beside_many_requests_in_a_pool_of_threads(serve):
     server = serve("fastapi_app")
     with ThreadPoolExecutor(8) as clients:
         found = list(clients.map(lambda k: server.statuses(*writes(secrets.token_hex(4), 16, 4)), range(8)))
