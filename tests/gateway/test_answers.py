@@ -7,11 +7,12 @@ import json
 import random
 import re
 import socket
+import subprocess
 import zlib
 
 import pytest
 
-from support.servers import CONTINUE
+from support.servers import CONTINUE, SECONDS
 
 BODY = b'{"a":9.990}'
 
@@ -169,12 +170,26 @@ def test_the_log_says_why_there_is_no_answer(upstream, running, kind, code, reas
     assert len(more) < 3
 
 
-def test_a_wrong_certificate_is_named(aiohttp):
+@pytest.mark.needs("openssl")
+def test_a_wrong_certificate_is_named(loop, running, tmp_path):
+    """Nothing is sent to a service that cannot show who it is."""
+    import asyncio
     import ssl
 
-    from odb_batch.gateway._reasons import reason_of
+    key, certificate, seen = str(tmp_path / "key"), str(tmp_path / "certificate"), []
+    words = ["openssl", "req", "-x509", "-newkey", "rsa:2048", "-nodes", "-keyout", key, "-out", certificate]
+    subprocess.run([*words, "-subj", "/CN=localhost"], check=True, capture_output=True, timeout=SECONDS)
+    context = ssl.SSLContext(ssl.PROTOCOL_TLS_SERVER)
+    context.load_cert_chain(certificate, key)
 
-    assert reason_of(ssl.SSLCertVerificationError(1, "self-signed certificate")) == "certificate"
+    async def note(reader, writer):
+        seen.append(await reader.read())
+
+    server = loop.run(asyncio.start_server(note, "127.0.0.1", 0, ssl=context))
+    it = running("--upstream", f"https://localhost:{server.sockets[0].getsockname()[1]}")
+    assert it.statuses({"method": "post", "url": "x"}) == [503]
+    server.close()
+    assert " code=Unreachable reason=certificate " in it.stop(15)[1] and seen == []
 
 
 def test_reasons_are_said_once_a_second(aiohttp, monkeypatch, capsys):
