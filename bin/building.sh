@@ -202,7 +202,7 @@ bring_up_to_date() {
     fi
     need make flock
     local started=$SECONDS
-    say "proving and building $top and the crates below it, once: TIMES"
+    say "proving and building $top and the crates below it, once; later only what has changed"
     prove_crates || exit
     say "proved and built after $(((SECONDS - started + 30) / 60)) min"
 }

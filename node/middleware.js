@@ -147,6 +147,14 @@ function requireIdentity({ 'content-encoding': coding = 'identity' }) {
   throw unread(new Refusal(415, 'BadEncoding', 'A batch may not have a Content-Encoding', { headers }))
 }
 
+/** Refuses a batch that its client may send again (OASIS Repeatable Requests Version 1.0): none is kept here. */
+function requireOnce(given) {
+  if (!Object.keys(given).some((name) => name.startsWith('repeatability-'))) return
+  const headers = { 'repeatability-result': 'rejected' }
+  const message = 'Batches are not kept here, so they cannot be repeated'
+  throw unread(new Refusal(501, 'NotRepeatable', message, { headers }))
+}
+
 /** The bytes of a batch, as a request carries it, or as a parser in front has left it. */
 async function bodyOf(req, maxSize, memory) {
   if (Buffer.isBuffer(req.body) || typeof req.body === 'string') {
@@ -180,6 +188,7 @@ function answererOf(app) {
 async function answerOf(answered, req, client, memory, { path, root, own, inspect, maxSize, performed }) {
   const outer = new Outer(req, path, own)
   const { mode, base } = outer
+  requireOnce(req.headers)
   const document = await bodyOf(req, maxSize, memory)
   const room = new Room(maxSize, memory)
   const send = (request, wait) => {

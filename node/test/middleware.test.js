@@ -229,7 +229,7 @@ everywhere('hands requests to the handler with what they inherit', {}, async ({ 
   const outer = {
     ...JSON_TYPE, authorization: 'Bearer 1', cookie: 'c=1', traceparent: '00', accept: 'application/json', 'if-match': '"1"',
     'x-http-method-override': 'DELETE', 'x-method-override': 'DELETE',
-    prefer: 'continue-on-error, odata.maxpagesize=5', 'content-language': 'de', 'repeatability-request-id': 'r',
+    prefer: 'continue-on-error, odata.maxpagesize=5', 'content-language': 'de',
     'user-agent': 'outer',
   }
   const { a } = await responses(document, outer)

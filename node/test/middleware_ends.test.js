@@ -252,6 +252,15 @@ test('gives back the memory of batches that are refused, cut or left', { timeout
   })
 })
 
+test('refuses a batch that may be sent again', { timeout: WAITS }, async () => {
+  const { handler } = watched()
+  await serving('node:http', handler, {}, async ({ post }) => {
+    const answer = await post(JSON.stringify(batch(['a', 'get', 'short'])), { ...CONTINUES, 'repeatability-request-id': 'x' })
+    assert.deepEqual([answer.status, answer.headers.get('repeatability-result')], [501, 'rejected'])
+    assert.equal((await answer.json()).error.code, 'NotRepeatable')
+  })
+})
+
 test('refuses a batch in another coding, unless a parser has taken it off', { timeout: WAITS }, async () => {
   const { gzipSync } = require('node:zlib')
   const document = JSON.stringify(batch(['a', 'get', 'short']))

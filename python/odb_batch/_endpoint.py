@@ -179,6 +179,13 @@ def require_identity(headers: Mapping[str, str]) -> None:
         raise Refusal(415, "BadEncoding", "A batch may not have a Content-Encoding", accept_encoding="identity")
 
 
+def require_once(headers: Mapping[str, str]) -> None:
+    """Raises Refusal if a client may send a batch again (OASIS Repeatable Requests Version 1.0): no middleware keeps one."""
+    if any(name.startswith("repeatability-") for name in headers):
+        message = "Batches are not kept here, so they cannot be repeated"
+        raise Refusal(501, "NotRepeatable", message, repeatability_result="rejected")
+
+
 def _is_inherited(name: str) -> bool:
     return name not in _NOT_INHERITED and not name.startswith(_NOT_INHERITED_PREFIXES)
 

@@ -15,7 +15,18 @@ from urllib.parse import quote, unquote, urlsplit
 from ._answers import LOG
 from ._clocks import uncancel, within
 from ._commands import policy
-from ._endpoint import Outer, folder_of, message_of, names_of, performed, refused, root_of, seconds_of, too_long
+from ._endpoint import (
+    Outer,
+    folder_of,
+    message_of,
+    names_of,
+    performed,
+    refused,
+    require_once,
+    root_of,
+    seconds_of,
+    too_long,
+)
 from ._faults import Fault
 from ._messages import Answer, PreparedRequest, Refusal, header_dict
 from ._perform_async import TransactionAsync, perform_async
@@ -122,6 +133,7 @@ class BatchMiddleware:
         folder, root = prefix + folder_of(self.path), prefix + self.root
         scheme, host = scope.get("scheme", "http"), headers.get("host", "")
         outer = Outer(scope["method"], scheme, host, folder, root, headers, self.allowed)
+        require_once(headers)
         try:
             batch = await within(_READ_SECONDS, self._read(receive, room))
         except asyncio.TimeoutError:

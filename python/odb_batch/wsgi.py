@@ -14,7 +14,18 @@ from typing import Any, Callable, Dict, Iterable, Iterator, Optional, Tuple
 from urllib.parse import unquote_to_bytes, urlsplit
 
 from ._commands import policy
-from ._endpoint import Outer, folder_of, message_of, names_of, performed, refused, root_of, seconds_of, too_long
+from ._endpoint import (
+    Outer,
+    folder_of,
+    message_of,
+    names_of,
+    performed,
+    refused,
+    require_once,
+    root_of,
+    seconds_of,
+    too_long,
+)
 from ._faults import Fault
 from ._messages import Answer, PreparedRequest, Refusal, header_dict
 from ._perform import Transaction, perform
@@ -156,7 +167,9 @@ class BatchMiddleware:
         prefix = _decoded(environ.get("SCRIPT_NAME", ""))
         folder, root = prefix + folder_of(self.path), prefix + self.root
         scheme, host = environ.get("wsgi.url_scheme", "http"), headers.get("host") or _server_of(environ)
-        return Outer(environ["REQUEST_METHOD"], scheme, host, folder, root, headers, self.allowed)
+        outer = Outer(environ["REQUEST_METHOD"], scheme, host, folder, root, headers, self.allowed)
+        require_once(headers)
+        return outer
 
     def _read(self, environ: _Environ, room: Room) -> bytes:
         """Reads the batch."""

@@ -154,7 +154,7 @@ class TestHeaders:
         **CONTINUE, "Authorization": "Bearer 1", "Cookie": "session=2", "X-Forwarded-For": "9.9.9.9", "If-Match": '"batch"',
         "Idempotency-Key": "of the batch", "Accept": "application/json", "Accept-Language": "de", "Traceparent": "00-1",
         "Prefer": "continue-on-error, return=minimal", "Accept-Encoding": "gzip", "Transfer-Encoding": "chunked", "Range": "bytes=0-1",
-        "X-HTTP-Method-Override": "DELETE", "Content-MD5": "1", "Repeatability-Request-ID": "1", "Signature": "1", "OData-MaxVersion": "4.0",
+        "X-HTTP-Method-Override": "DELETE", "Content-MD5": "1", "Signature": "1", "OData-MaxVersion": "4.0",
     }  # fmt: skip
 
     def test_are_inherited(self, service):
@@ -313,6 +313,14 @@ class TestCompressedBatches:
         )
         assert found == status
         assert status == 200 or json.loads(text)["error"]["code"] == "BadEncoding" and headers["accept-encoding"] == "identity"
+
+
+class TestRepeatableBatches:
+    @pytest.mark.parametrize("name", ["Repeatability-Request-ID", "Repeatability-First-Sent"])
+    def test_are_refused(self, service, name):
+        status, headers, text = service.ask("POST", "/odata/$batch", {**CONTINUE, name: "a"}, b'{"requests":[]}')
+        assert (status, json.loads(text)["error"]["code"]) == (501, "NotRepeatable")
+        assert headers["repeatability-result"] == "rejected"
 
 
 class TestGroups:
