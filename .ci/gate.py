@@ -11,7 +11,6 @@ import os
 import shutil
 import subprocess
 import sys
-import tempfile
 import time
 from concurrent.futures import ThreadPoolExecutor
 from dataclasses import dataclass
@@ -100,12 +99,12 @@ class Part:
     printed: str
 
 
-def run(title, words, shown="at the end", folder=None):
-    """Runs a part in a folder, and shows what it prints: as it comes, at the end, or only if it fails."""
+def run(title, words, shown="at the end"):
+    """Runs a part, and shows what it prints: as it comes, at the end, or only if it fails."""
     print(f"{title}: begun", flush=True)
     lines = []
     how = {"stdin": subprocess.DEVNULL, "stdout": subprocess.PIPE, "stderr": subprocess.STDOUT, "errors": "replace"}
-    process = subprocess.Popen(words, cwd=folder, text=True, **how)
+    process = subprocess.Popen(words, text=True, **how)
     for line in process.stdout:
         lines.append(line)
         if shown == "as it comes":
@@ -116,19 +115,6 @@ def run(title, words, shown="at the end", folder=None):
     is_shown = shown == "at the end" or part.failed and shown == "if it fails"
     print(f"{title}: {'FAILED' if part.failed else 'passed'}\n{part.printed if is_shown else ''}", end="", flush=True)
     return part
-
-
-def prove_ahead():
-    """Has rt prove all crates and tests in a copy that has no must-fail edits.
-
-    rt gives a proof all processors that nothing else takes, and edits take them. What is proved here is kept, so the `rt ci`
-    that decides takes it, and tries the edits on all processors.
-    """
-    with tempfile.TemporaryDirectory() as folder:
-        for name in ("crates.txt", "HANDLES"):
-            shutil.copy(name, folder)
-        shutil.copytree("crates", os.path.join(folder, "crates"), ignore=shutil.ignore_patterns("must-fail", "out"))
-        return run("the proofs ahead of rt ci", ["rt", "ci"], "as it comes", folder)
 
 
 def tool_of(words):
@@ -152,7 +138,7 @@ def build(parts):
 def main():
     os.chdir(ROOT)
     python, begun = python_of_tests(), time.monotonic()
-    parts = [prove_ahead(), run("rt ci", ["rt", "ci"], "as it comes")]
+    parts = [run("rt ci", ["rt", "ci"], "as it comes")]
     with ThreadPoolExecutor(os.cpu_count()) as pool:
         parts += [part for ended in pool.map(build, BUILDS) for part in ended]
         parts += pool.map(lambda each: run(each[0], [python, *each[1]]), COMPARISONS)
@@ -163,7 +149,7 @@ def main():
         print(f"  {part.title:48}{part.seconds / 60:7.1f}")
     print(f"  {'all':48}{sum(part.seconds for part in parts) / 60:7.1f}")
     print(f"minutes by the clock:{(time.monotonic() - begun) / 60:36.1f}")
-    print("rt ci:", *parts[1].printed.splitlines()[-3:], sep="\n")
+    print("rt ci:", *parts[0].printed.splitlines()[-3:], sep="\n")
     if sys.argv[1:]:
         print(not_installed(sys.argv[1:]))
     failed = [part.title for part in parts if part.failed]
