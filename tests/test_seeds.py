@@ -7,7 +7,7 @@ Each command, also over a log of one line, is run
 - on names for the drawn seed while the system gives it the bytes of that seed: it must be slow, or
   it does not hash from what it has drawn.
 
-What is printed is compared too.
+Slow is what takes twice the instructions of random names, which valgrind counts. What is printed is compared too.
 """
 
 import os
@@ -18,10 +18,11 @@ import pytest
 
 from support import contents, crowds
 from support.contents import KINDS
+from support.instructions import instructions
 from support.program import TESTS
-from support.seeds import GROUPS, IDS, LOW_BITS, PLAIN_RUNS, SLOW, TAG_BITS, TRIES, content_of
+from support.seeds import GROUPS, IDS, LOW_BITS, SLOW, TAG_BITS, content_of
 
-pytestmark = [pytest.mark.slow, pytest.mark.needs("cc")]
+pytestmark = [pytest.mark.slow, pytest.mark.needs("cc", "valgrind")]
 
 DRAWN = secrets.randbits(64)
 SEEDS = {"no seed": (), "seed 0": (0,), "seed 1": (1,), "seed 7": (7,), "a drawn seed": (DRAWN,)}
@@ -29,15 +30,11 @@ COMMANDS = (*KINDS, "plan --dot", *(f"{command} --lines" for command in KINDS))
 
 
 def sources(folder):
-    """The words before the program by which it is given random bytes, none, or those of the drawn seed."""
+    """What the environment has where the program is given random bytes, none, or those of the drawn seed."""
     library = folder / "entropy.so"
     subprocess.run(["cc", "-shared", "-fPIC", "-O2", "-o", library, os.path.join(TESTS, "seeds", "entropy.c")], check=True)
-    loaded = f"LD_PRELOAD={library}"
-    return (
-        ("env", "-u", "LD_PRELOAD"),
-        ("env", "-u", "ENTROPY", loaded),
-        ("env", loaded, f"ENTROPY={DRAWN}"),
-    )
+    none = {"LD_PRELOAD": str(library)}
+    return {}, none, {**none, "ENTROPY": str(DRAWN)}
 
 
 def documents_of(command, texts):
@@ -61,24 +58,16 @@ class Crowd:
             paths[-1].write_text(document, encoding="utf-8")
         return [*command.split(), *paths]
 
-    def seconds(self, command, source):
-        """The processor time of a command whose random bytes come from the source, and which answers right."""
-        printed = self.folder / "printed"
-        with open(printed, "wb") as file:
-            words = [*source, self.program, *self.words(command)]
-            started = subprocess.Popen(words, stdin=subprocess.DEVNULL, stdout=file, stderr=subprocess.STDOUT)
-            _, status, usage = os.wait4(started.pid, 0)
-            started.returncode = os.waitstatus_to_exitcode(status)
-        text = printed.read_bytes().decode(errors="replace")
-        assert started.returncode == 0, f"{command}: status {started.returncode}, {text[:200]}"
-        is_right = text == self.content.wanted(command)
+    def counted(self, command, source):
+        """The instructions of a command whose random bytes come from the source, and which answers right."""
+        count, printed = instructions(self.folder, self.program, *self.words(command), env=source)
+        is_right = printed == self.content.wanted(command)
         assert is_right, f"{command}: a wrong answer"
-        return usage.ru_utime + usage.ru_stime
+        return count
 
-    def slow(self, plain, source, tries):
-        """The commands that are slow in each of some tries, beside those on random names."""
-        is_slow = lambda it: all(self.seconds(it, source) > SLOW * plain[it] for _ in range(tries))
-        return [it for it in COMMANDS if is_slow(it)]
+    def slow(self, plain, source):
+        """The commands that are slow, beside those on random names."""
+        return [it for it in COMMANDS if self.counted(it, source) > SLOW * plain[it]]
 
 
 @pytest.fixture(scope="module")
@@ -88,16 +77,16 @@ def given(tmp_path_factory):
 
 @pytest.fixture(scope="module")
 def plain(program, given, tmp_path_factory):
-    """The processor time of each command on random names."""
+    """The instructions of each command on random names."""
     crowd = Crowd(program, tmp_path_factory.mktemp("random"), crowds.random_names(IDS + GROUPS))
-    return {it: min(crowd.seconds(it, given[0]) for _ in range(PLAIN_RUNS)) for it in COMMANDS}
+    return {it: crowd.counted(it, given[0]) for it in COMMANDS}
 
 
 @pytest.mark.parametrize("name", SEEDS)
 def test_names(program, given, plain, tmp_path, name):
     names = crowds.colliding_names(tmp_path, IDS + GROUPS, LOW_BITS, TAG_BITS, *SEEDS[name])
     crowd, (usual, none, same) = Crowd(program, tmp_path, names), given
-    assert crowd.slow(plain, usual, TRIES) == []
-    assert crowd.slow(plain, none, TRIES) == []
+    assert crowd.slow(plain, usual) == []
+    assert crowd.slow(plain, none) == []
     if name == "a drawn seed":
-        assert crowd.slow(plain, same, 1) == list(COMMANDS)
+        assert crowd.slow(plain, same) == list(COMMANDS)

@@ -5,19 +5,16 @@ slow with this seed, in each call that takes one; and not with another seed, nor
 compared too, and also the response of a run that was opened so.
 """
 
-import ctypes
+import json
+import os
 import secrets
-import time
+import sys
 
 import pytest
 
 from support import contents, crowds, seeds
+from support.instructions import instructions_of_each
 
-# Half of the names that the program is given, in a table with half as many groups.
-LOW_BITS = seeds.LOW_BITS - 1
-NAMES = (seeds.IDS + seeds.GROUPS) // 2
-
-ROOM = 4_000_000
 POLICY = (0, 10_000)
 LINES, STOP, STRICT = 0, 1, 1
 NOTHING_LEFT = '{"requests":[]}\n'  # of a batch whose requests have all succeeded
@@ -26,81 +23,49 @@ NOTHING_LEFT = '{"requests":[]}\n'  # of a batch whose requests have all succeed
 COMMANDS = [("check", ()), ("plan", ()), ("canon", ()), ("match", ()), ("run", POLICY)]
 COMMANDS += [("replay", (*POLICY, order, 0)) for order in range(3)]
 
-pytestmark = pytest.mark.slow
+# Each function with a seed: the kinds of its documents, its numbers, and the command that prints what it writes.
+CALLS = [
+    (name, contents.KINDS[command], numbers, command)
+    for command, options in COMMANDS
+    for name, numbers in ((f"odb_{command}", options), (f"odb_{command}_as", (*options, LINES)))
+]
+CALLS += [
+    ("odb_check_all", ("batch",), (), "check"),
+    ("odb_check_all_as", ("batch",), (LINES,), "check"),
+    ("odb_match_with", contents.KINDS["match"], (STOP, STRICT, LINES), "match"),
+    ("odb_rest", contents.KINDS["match"], (STOP, LINES), None),
+    ("odb_requests", ("batch",), (), None),
+    ("odb_run_open", ("batch", "events"), POLICY, "run"),
+]
+WRITTEN = {"odb_rest": NOTHING_LEFT, "odb_requests": ""}
+COUNTED = sorted({name for name, *_ in CALLS})
+
+pytestmark = [pytest.mark.slow, pytest.mark.needs("cc", "valgrind")]
 
 
-class Calls:
-    """The calls on a batch and what a run of it gave."""
-
-    def __init__(self, library, names):
-        self.library, self.content = library, seeds.content_of(names)
-        self.texts = {kind: text.encode() for kind, text in contents.documents_of(self.content).items()}
-
-    def seconds(self, name, documents, options):
-        """The processor time of a call, which has to be done, and to write what the command prints."""
-        begun = time.process_time()
-        status, text = self.library.call(name, documents, options, ROOM)
-        spent = time.process_time() - begun
-        assert status == self.library.DONE, name
-        wanted = NOTHING_LEFT if name == "odb_rest" else self.content.wanted(name.split("_")[1])
-        assert text.decode() == wanted or name == "odb_run_open", name
-        return spent
-
-    def seconds_of_requests(self):
-        """The processor time of the call for what is to be sent, which has to be done, and to give each request."""
-        begun = time.process_time()
-        status, _, found = self.library.call_requests(self.texts["batch"], ROOM, len(self.content.requests))
-        spent = time.process_time() - begun
-        assert (status, len(found)) == (self.library.DONE, len(self.content.requests))
-        return spent
-
-    def timed(self, seed):
-        """The processor time of each call with a seed, by its name."""
-        self.library._SEED, spent, handle = seed, {}, self.library.Handle()
-        for command, options in COMMANDS:
-            documents = tuple(self.texts[kind] for kind in contents.KINDS[command])
-            for name, numbers in ((f"odb_{command}", options), (f"odb_{command}_as", (*options, LINES))):
-                spent[f"{name}{numbers}"] = self.seconds(name, documents, numbers)
-        batch = (self.texts["batch"],)
-        spent["odb_check_all"] = self.seconds("odb_check_all", batch, ())
-        spent["odb_check_all_as"] = self.seconds("odb_check_all_as", batch, (LINES,))
-        documents = tuple(self.texts[kind] for kind in contents.KINDS["match"])
-        spent["odb_match_with"] = self.seconds("odb_match_with", documents, (STOP, STRICT, LINES))
-        spent["odb_rest"] = self.seconds("odb_rest", documents, (STOP, LINES))
-        spent["odb_requests"] = self.seconds_of_requests()
-        documents, place = (self.texts["batch"], self.texts["events"]), ctypes.byref(handle)
-        spent["odb_run_open"] = self.seconds("odb_run_open", documents, (*POLICY, place))
-        self.seconds("odb_run_response", (), (place,))
-        self.library.close_run(handle)
-        return spent
-
-    def least(self, seed):
-        """The least time of each call in some runs."""
-        runs = [self.timed(seed) for _ in range(seeds.PLAIN_RUNS)]
-        return {name: min(it[name] for it in runs) for name in runs[0]}
-
-    def slow(self, plain, seed, tries):
-        """The calls that are slow with a seed in each of some tries, beside those on random names."""
-        found = list(plain)
-        for _ in range(tries):
-            spent = self.timed(seed)
-            found = [name for name in found if spent[name] > seeds.SLOW * plain[name]]
-            if not found:
-                break
-        return found
+def counted(folder, environment, names, seed):
+    """The instructions of each call on a batch with these names and what a run of it gave, which answers right."""
+    content = seeds.content_of(names)
+    texts = contents.documents_of(content)
+    calls = [(name, [texts[it] for it in kinds], numbers, len(content.requests)) for name, kinds, numbers, _ in CALLS]
+    (folder / "calls").write_text(json.dumps(calls), encoding="utf-8")
+    script = os.path.join(os.path.dirname(os.path.abspath(__file__)), "seeded.py")
+    words = [sys.executable, script, folder / "calls", seed]
+    counts, printed = instructions_of_each(folder, COUNTED, *words, env=environment)
+    wanted = [WRITTEN[name] if name in WRITTEN else content.wanted(command) for name, _, _, command in CALLS]
+    assert json.loads(printed) == wanted
+    assert len(counts) == len(CALLS)
+    return counts
 
 
-@pytest.fixture
-def library_of_package(package, monkeypatch):
-    """The part of the package that calls the library; its seed is put back."""
-    monkeypatch.setattr(package._library, "_SEED", package._library._SEED)
-    return package._library
+def slow(found, plain):
+    return [name for (name, *_), count, usual in zip(CALLS, found, plain) if count > seeds.SLOW * usual]
 
 
-def test_each_call_takes_its_seed(library_of_package, tmp_path):
+def test_each_call_takes_its_seed(environment, tmp_path):
     drawn = secrets.randbits(64)
-    names = crowds.colliding_names(tmp_path, NAMES, LOW_BITS, seeds.TAG_BITS, drawn)
-    plain = Calls(library_of_package, crowds.random_names(NAMES)).least(drawn)
-    crowd = Calls(library_of_package, names)
-    assert crowd.slow(plain, drawn, 1) == list(plain)
-    assert [crowd.slow(plain, seed, seeds.TRIES) for seed in (drawn ^ 1, 0)] == [[], []]
+    names = crowds.colliding_names(tmp_path, seeds.IDS + seeds.GROUPS, seeds.LOW_BITS, seeds.TAG_BITS, drawn)
+    of_seed = lambda names, seed: counted(tmp_path, environment, names, str(seed))
+    plain = of_seed(crowds.random_names(seeds.IDS + seeds.GROUPS), drawn)
+    assert slow(of_seed(names, drawn), plain) == [name for name, *_ in CALLS]
+    assert [slow(of_seed(names, seed), plain) for seed in (drawn ^ 1, 0)] == [[], []]

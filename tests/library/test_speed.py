@@ -16,6 +16,7 @@ import pytest
 from support import rules
 from support.commands import run
 from support.in_process import MOST_REQUESTS, SIZES, compile_c, document_of, live_documents
+from support.instructions import counts_of, instructions
 from support.program import ROOT
 
 FEW_REQUESTS = 1_000
@@ -24,9 +25,6 @@ DROP = r"odb_(?:command|engine)::serde_json\S*Value\+Destruct::drop"
 # What the library is made of, with the names of its functions.
 NAMED = os.path.join(ROOT, "crates", "odb_ffi", "out", "odb_batch.o")
 READING = ("serde_json::value::Value::from_slice", "odb_doc::batch::Batch::read", DROP)
-
-# With these the C library fills and copies without `rep`, of which valgrind counts each byte as an instruction.
-PLAIN = {"GLIBC_TUNABLES": ":".join(f"glibc.cpu.x86_rep_{it}_threshold={2**40}" for it in ("stosb", "movsb"))}
 
 
 @pytest.fixture
@@ -50,18 +48,6 @@ def test_a_live_run_gives_the_response_of_its_replay(compiled, program, tmp_path
     assert run(compiled("live_speed"), paths[0]) == run(program, "replay", *paths)
 
 
-def counts_of(folder, *words):
-    """The path of what callgrind counts of a command."""
-    counts = folder / "counts"
-    run("valgrind", "--tool=callgrind", f"--callgrind-out-file={counts}", *words, env={**os.environ, **PLAIN})
-    return counts
-
-
-def instructions(folder, *words):
-    """The instructions of a command."""
-    return int(re.search(r"(?m)^totals: (\d+)$", counts_of(folder, *words).read_text(encoding="utf-8"))[1])
-
-
 def counted(listing, name):
     """The instructions of a function, with those that it calls."""
     found = re.findall(rf"(?m)^ *([\d,]+) \([ \d.]+%\)\s+\S*?:{name} \[", listing)
@@ -80,7 +66,7 @@ def test_a_check_costs_little_more_than_reading_the_batch(compiled, tmp_path):
     if not os.path.exists(NAMED):
         pytest.skip(f"{NAMED} is not built")
     (tmp_path / "batch").write_bytes(document_of(1_000))
-    counts = counts_of(tmp_path, compiled("speed", NAMED), tmp_path / "batch", "0")
+    counts, _ = counts_of(tmp_path, compiled("speed", NAMED), tmp_path / "batch", "0")
     listing = run("callgrind_annotate", "--inclusive=yes", "--threshold=100", counts)
     assert_within(counted(listing, "odb_check"), sum(counted(listing, name) for name in READING), MOST_OF_CHECK)
 
@@ -90,6 +76,6 @@ def test_a_check_costs_little_more_than_reading_the_batch(compiled, tmp_path):
 def test_a_live_run_costs_at_most_two_replays(compiled, program, tmp_path):
     binary = compiled("live_speed")
     few, many = (live_documents(tmp_path, count) for count in (FEW_REQUESTS, 2 * FEW_REQUESTS))
-    added = lambda of_many, of_few: instructions(tmp_path, *of_many) - instructions(tmp_path, *of_few)
+    added = lambda of_many, of_few: instructions(tmp_path, *of_many)[0] - instructions(tmp_path, *of_few)[0]
     of_run = added([binary, many[0]], [binary, few[0]])
     assert_within(of_run, added([program, "replay", *many], [program, "replay", *few]), MOST_OF_RUN)

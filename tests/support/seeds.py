@@ -1,24 +1,20 @@
-"""Batches whose names crowd a table of one seed, and how much longer a command on them takes.
+"""Batches whose names crowd a table of one seed, and how many more instructions a command on them takes.
 
 All names of such a batch share bits of their hashes in tables that start from the seed, so that a look-up compares a
-name with every other one. A command whose tables have the seed then takes some thirty times as long as on random
-names, and any other about as long.
+name with every other one. A command whose tables have the seed then takes some ten times the instructions that it takes on random
+names, and any other as many.
 """
 
 from . import contents, crowds
 
 # As many as a table with 2 ^ LOW_BITS groups holds, 9 in each; their tags are the high bits.
-IDS = 2_304
+IDS = 576
 GROUPS = IDS // crowds.MEMBERS
-LOW_BITS, TAG_BITS = 8, 7
+LOW_BITS, TAG_BITS = 6, 7
 LOOKED_UP = 20
 
-# How many times the processor time on random names is slow. One that is slow takes five times as much, and one that is not a
-# sixth of it. On a busy machine that has to be so in one of some tries.
-SLOW = 6
-TRIES = 8
-# Of how many runs on random names the least counts.
-PLAIN_RUNS = 3
+# How many times the instructions on random names are slow.
+SLOW = 2
 
 
 def content_of(names):

@@ -1,0 +1,42 @@
+"""Makes calls of the library one after another, with one seed: test_seeds.py counts the instructions of each.
+
+  seeded.py CALLS SEED
+
+CALLS is a file in JSON: a list of calls, each with the name of a function, its documents, its numbers and how many requests its
+batch has. What the calls write is printed as a list in JSON.
+"""
+
+import ctypes
+import json
+import sys
+
+from odb_batch import _library as library
+
+ROOM = 4_000_000
+
+
+def answer(name, documents, numbers, requests):
+    """What a call writes, which has to be done; of odb_run_open the response of the run."""
+    if name == "odb_requests":
+        status, _, found = library.call_requests(*documents, ROOM, requests)
+        assert (status, len(found)) == (library.DONE, requests), name
+        return ""
+    handle = library.Handle()
+    place = (ctypes.byref(handle),) if name == "odb_run_open" else ()
+    status, text = library.call(name, documents, (*numbers, *place), ROOM)
+    assert status == library.DONE, name
+    if place:
+        status, text = library.call("odb_run_response", (), place, ROOM)
+        assert status == library.DONE, name
+        library.close_run(handle)
+    return text.decode()
+
+
+def main(path, seed):
+    library._SEED = int(seed)
+    with open(path, encoding="utf-8") as file:
+        calls = json.load(file)
+    print(json.dumps([answer(name, [it.encode() for it in documents], *more) for name, documents, *more in calls]))
+
+
+main(*sys.argv[1:])
