@@ -27,9 +27,9 @@ def instructions(folder, *words, env=None):
     return total(counts), printed
 
 
-def instructions_of_each(folder, names, *words, env=None):
-    """The instructions of each call of these functions in a command, in the order of the calls, and what it prints."""
-    options = [f"--{what}={name}" for name in names for what in ("toggle-collect", "dump-after")]
+def instructions_of_foreign_calls(folder, *words, env=None):
+    """The instructions of each call that a command in Python makes of C by ctypes, in order, and what the command prints."""
+    options = ("--toggle-collect=ffi_call", "--dump-after=ffi_call")
     counts, printed = counts_of(folder, *words, env=env, options=options)
     parts = sorted(folder.glob(f"{counts.name}.*"), key=lambda it: int(it.suffix[1:]))
     found = [total(it) for it in parts]

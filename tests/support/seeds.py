@@ -1,16 +1,16 @@
 """Batches whose names crowd a table of one seed, and how many more instructions a command on them takes.
 
 All names of such a batch share bits of their hashes in tables that start from the seed, so that a look-up compares a
-name with every other one. A command whose tables have the seed then takes some ten times the instructions that it takes on random
+name with every other one. A command whose tables have the seed then takes some seven times the instructions that it takes on random
 names, and any other as many.
 """
 
 from . import contents, crowds
 
 # As many as a table with 2 ^ LOW_BITS groups holds, 9 in each; their tags are the high bits.
-IDS = 576
+IDS = 288
 GROUPS = IDS // crowds.MEMBERS
-LOW_BITS, TAG_BITS = 6, 7
+LOW_BITS, TAG_BITS = 5, 7
 LOOKED_UP = 20
 
 # How many times the instructions on random names are slow.
