@@ -41,7 +41,7 @@ use Rattle.odb_doc.proofs.DistinctLemmas.{IsDistinct-listed}
 use Rattle.odb_doc.proofs.ElementLemmas.{list_of-items_of}
 use Rattle.odb_doc.proofs.OneHeaders.{one_headers}
 use Rattle.odb_doc.proofs.RepeatLemmas.{distinct_same}
-use Rattle.odb_doc.proofs.RuleLemmas.{HoldsHeaders-apart}
+use Rattle.odb_doc.proofs.ApartLemmas.{HoldsHeaders-apart}
 
 -- ---- the values at the members of a request's value
 

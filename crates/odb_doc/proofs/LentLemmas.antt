@@ -1,5 +1,5 @@
 -- Headers lent from an object, once they are in order of their names.
-use Rattle.std.proofs.Common.{◌≡◌, ◌∙◌, ◌+◌, ◌<◌, ◌≤◌, ℕ, Bool, true, false, cond, None, Some, IsSome, Option, List, [], ◌∷◌, ◌++◌, string_bytes, length, drop, get_or, map, bytes_eq, codes, refl, ap, sym, subst, arith, IsPermutation}
+use Rattle.std.proofs.Common.{◌≡◌, ◌∙◌, ◌+◌, ◌<◌, ◌≤◌, ℕ, Bool, true, false, cond, None, Some, Option, List, [], ◌∷◌, ◌++◌, string_bytes, length, drop, get_or, map, bytes_eq, codes, refl, ap, sym, subst, arith, IsPermutation}
 use Rattle.std.specs.declared.cmp.Ordering.{Ordering}
 use Rattle.std.specs.declared.cmp.Ordering.TheVariants.{Less, Equal, Greater}
 use Rattle.std.specs.Char.{to_ascii_lowercase}
@@ -19,16 +19,13 @@ use Rattle.std.proofs.lemmas.Map.Text.{is_eq-slice_cmp}
 use Rattle.serde_json.specs.Data.{Data}
 use Rattle.serde_json.specs.Find.{get}
 use Rattle.serde_json.specs.View.{members_view}
-use Rattle.odb_doc.specs.declared.broken.Broken.{Broken}
-use Rattle.odb_doc.specs.declared.broken.Broken.TheVariants as reasons
-use Rattle.odb_doc.specs.declared.fault.RequestRule.{RequestRule}
 use Rattle.odb_doc.specs.declared.fault.RequestRule.TheVariants as rules
-use Rattle.odb_doc.specs.BrokenRules.{BreaksNoneBefore, IsHeadersRule, IsLeastRequestRule, OnRule, OnlyIf}
+use Rattle.odb_doc.specs.batch.Shapes.{BreaksRequest}
 use Rattle.odb_doc.specs.HeaderMaps.{Entry, Lent, HasUnordered, by_name, written}
 use Rattle.odb_doc.specs.Headers.{Header, HoldsHeaders, IsInOrder, folded, header_names, lent_header, listed_headers, listed_in, text_members_in}
 use Rattle.odb_doc.specs.Members.{given, names_of}
 use Rattle.odb_doc.proofs.FoldedNames.{names_in-text_members_in, names_of-more}
-use Rattle.odb_doc.proofs.RuleLemmas.{before_twice, distinct-sorted, listed_not_bad}
+use Rattle.odb_doc.proofs.ApartLemmas.{distinct-sorted}
 use Rattle.odb_doc.proofs.RepeatLemmas.{less_from}
 
 -- ---- names in order
@@ -109,26 +106,11 @@ pub HoldsHeaders-none : (o : Option Data) (hs : List Lent) → given o ≡ None 
 unfolding IsStrictlySortedBy
 HoldsHeaders-none o hs absent none = rw none (record { listed = []; are = ap text_members_in absent; same = IsPermutation-refl []; ordered = tt })
 
--- the fault of two headers of one name
-pub twice_least : (d : Data) (hs : List Lent) (broken : Broken RequestRule) → listed_headers d ≡ Some (map written hs) → BreaksNoneBefore rules.BadHeaders d
-    → OnlyIf rules.HeaderTwice (¬ IsDistinct bytes_eq (keys_of (map lent_header hs))) broken → OnRule (IsLeastRequestRule d) broken
-twice_least d hs (reasons.Rule rule) are below twice =
+-- two headers of one name
+pub twice_broken : (d : Data) (hs : List Lent) → listed_headers d ≡ Some (map written hs) → ¬ IsDistinct bytes_eq (keys_of (map lent_header hs)) → BreaksRequest rules.HeaderTwice d
+twice_broken d hs are twice =
     let names : header_names d ≡ keys_of (map lent_header hs) = names_in-text_members_in (get (codes "headers") d) (map written hs) are ∙ ap keys_of (folded-written hs) in
-    let least : IsLeastRequestRule d rules.HeaderTwice = record {
-      broken = λ apart. twice.1 (subst (IsDistinct bytes_eq) names apart);
-      least = before_twice d below (listed_not_bad d (map written hs) are);
-    } in
-    subst (IsLeastRequestRule d) (sym twice.0) least
-twice_least d hs reasons.OutOfMemory are below twice = tt
-
--- the rule that two headers of one name break
-pub twice_rule : (d : Data) (hs : List Lent) (broken : Broken RequestRule) → listed_headers d ≡ Some (map written hs)
-    → OnlyIf rules.HeaderTwice (¬ IsDistinct bytes_eq (keys_of (map lent_header hs))) broken → OnRule (IsHeadersRule d) broken
-twice_rule d hs (reasons.Rule rule) are twice =
-    let names : header_names d ≡ keys_of (map lent_header hs) = names_in-text_members_in (get (codes "headers") d) (map written hs) are ∙ ap keys_of (folded-written hs) in
-    let why : IsHeadersRule d rules.HeaderTwice = (subst IsSome (sym are) refl, λ apart. twice.1 (subst (IsDistinct bytes_eq) names apart)) in
-    subst (IsHeadersRule d) (sym twice.0) why
-twice_rule d hs reasons.OutOfMemory are twice = tt
+    λ apart. twice (subst (IsDistinct bytes_eq) names apart)
 
 -- ---- texts compared byte by byte
 

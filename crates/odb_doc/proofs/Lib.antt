@@ -7,8 +7,10 @@ pub mod NameLemmas
 pub mod PartLemmas
 pub mod RepeatLemmas
 pub mod SetLemmas
+mod ApartLemmas
 mod ArrayLemmas
 pub mod BatchLemmas
+mod BodyLemmas
 mod CanonicalLemmas
 pub mod CanonicalReads
 pub mod CanonicalShapes
@@ -30,10 +32,10 @@ mod ReferenceLemmas
 pub mod ReadBackLemmas
 pub mod SafeLemmas
 mod RequestLemmas
-mod RuleLemmas
 pub mod ShapeFaultLemmas
 mod SomeBatchLemmas
 mod TextLemmas
 mod TypeLemmas
+mod UnbrokenLemmas
 mod WatchLemmas
 mod EventLemmas

@@ -7,6 +7,7 @@ use Rattle.std.proofs.lemmas.List.{length-append, get_or_append_left}
 use Rattle.std.proofs.lemmas.List.Elements.{Contains-push, Contains-push_cases, Contains-append_left, Contains-get_or}
 use Rattle.std.proofs.Math.Seq.{get_or-append_seam}
 use Rattle.odb_doc.specs.AllFaults.{IsBefore, ListsAll}
+use Rattle.odb_doc.specs.LeastRules.{IsLeast}
 use Rattle.odb_doc.specs.ListsBelow.{ListsBelow}
 
 -- ---- the order of places
@@ -130,3 +131,22 @@ pub number_at : {R : Type 0} (number : R → ℕ) (n : ℕ) (rules : List R) (k 
 number_at number n [] k d are less = absurd (omega (arith, less))
 number_at number n (rule ∷ rules) zero d are less = are.0 ∙ omega arith
 number_at number n (rule ∷ rules) (suc k) d are less = number_at number (n + 1) rules k d are.1 (omega (arith, less)) ∙ omega arith
+
+-- ---- the first broken rule, asked for by number
+
+-- no rule with a number below this one is broken
+abbrev pub NoneBelow : {R : Type 0} → (R → ℕ) → (R → Type 0) → ℕ → Type 0
+NoneBelow {R} number Breaks n = (other : R) → number other < n → ¬ Breaks other
+
+-- the next rule is not broken either
+pub none_more : {R : Type 0} (number : R → ℕ) (Breaks : R → Type 0) → ((a b : R) → number a ≡ number b → a ≡ b) → (n k : ℕ) (rule : R) → number rule ≡ n + k → ¬ Breaks rule
+    → NoneBelow number Breaks (n + k) → NoneBelow number Breaks (n + (k + 1))
+none_more number Breaks apart n k rule is unbroken none other less =
+    elim (cases_order (number other) (n + k)) [
+      | inl same ↦ λ broken. unbroken (subst Breaks (apart other rule (same ∙ sym is)) broken)
+      | inr order ↦ elim order [ inl below ↦ none other below | inr above ↦ absurd (omega (arith, less, above)) ]
+    ]
+
+-- the next rule is broken
+pub least_at : {R : Type 0} (number : R → ℕ) (Breaks : R → Type 0) (n : ℕ) (rule : R) → number rule ≡ n → Breaks rule → NoneBelow number Breaks n → IsLeast number Breaks rule
+least_at number Breaks n rule is broken none = record { broken = broken; least = λ other less. none other (subst (λ m. number other < m) is less) }

@@ -7,7 +7,8 @@ use Rattle.serde_json.specs.Data.{Data}
 use Rattle.odb_doc.specs.AllFaults.{IsBefore, ListsAll}
 use Rattle.odb_doc.specs.Faults.{document_number, request_number}
 use Rattle.odb_doc.specs.ListsBelow.{ListsBelow, IsRequestFault, IsWholeFault}
-use Rattle.odb_doc.specs.batch.LeastFault.{IsBatchObject, IsWellShaped, IsLeastFault}
+use Rattle.odb_doc.specs.BrokenRules.{IsLeastRequestRule, IsRequestObject}
+use Rattle.odb_doc.specs.batch.LeastFault.{IsBatchObject, IsLeastDocumentRule, IsLeastFault, IsWellShaped}
 use Rattle.odb_doc.specs.batch.ShapeFaults.{AreShapeFaults, IsShapeFault, shape_place}
 use Rattle.odb_doc.specs.batch.Shapes.{BreaksDocument, BreaksRequest, elements}
 use Rattle.odb_doc.specs.declared.fault.DocFault.{DocFault}
@@ -18,7 +19,7 @@ use Rattle.odb_doc.specs.declared.fault.RequestRule.{RequestRule}
 use Rattle.odb_doc.specs.declared.fault.RequestRule.TheVariants as request
 use Rattle.odb_doc.proofs.ElementLemmas.{Contains-head}
 use Rattle.odb_doc.proofs.FaultLemmas.{same_document_rule, same_request_rule}
-use Rattle.odb_doc.proofs.ListedLemmas.{contains_none, first_least, lists_all, lists_on, lists_push, lists_skip, number_at}
+use Rattle.odb_doc.proofs.ListedLemmas.{NoneBelow, contains_none, first_least, least_at, lists_all, lists_on, lists_push, lists_skip, none_more, number_at}
 
 -- ---- the document as a whole
 
@@ -59,6 +60,21 @@ pub document_passed : (d : Data) (k : ℕ) (listed more : List DocFault) → k <
 document_passed d k listed more less unbroken is lists =
     let next : 3 + (k + 1) ≡ (3 + k) + 1 = omega arith in
     rw (next, is) (document_skip d (3 + k) (document_rule k) listed (document_number_at k less) unbroken lists)
+
+-- the first rule that is broken
+pub document_before_all : (d : Data) → NoneBelow document_number (λ rule. BreaksDocument rule d) 3
+document_before_all d document.TooLong less broken = broken
+document_before_all d document.NotJson less broken = broken
+document_before_all d rule less broken = omega (arith, less)
+
+pub document_unbroken : (d : Data) (k : ℕ) → k < 4 → ¬ BreaksDocument (document_rule k) d → NoneBelow document_number (λ rule. BreaksDocument rule d) (3 + k) → NoneBelow document_number (λ rule. BreaksDocument rule d) (3 + (k + 1))
+document_unbroken d k less = none_more document_number (λ rule. BreaksDocument rule d) same_document_rule 3 k (document_rule k) (document_number_at k less)
+
+pub document_least : (d : Data) (k : ℕ) → k < 4 → BreaksDocument (document_rule k) d → NoneBelow document_number (λ rule. BreaksDocument rule d) (3 + k) → IsLeastDocumentRule d (document_rule k)
+document_least d k less = least_at document_number (λ rule. BreaksDocument rule d) (3 + k) (document_rule k) (document_number_at k less)
+
+pub document_none : (d : Data) → NoneBelow document_number (λ rule. BreaksDocument rule d) 7 → IsBatchObject d
+document_none d none rule = none rule (document_within rule)
 
 document_before : (d : Data) (other : DocFault) → IsWholeFault d other → IsBefore (shape_place other) (0, 7)
 document_before d (faults.Document rule) bad = inr (refl, document_within rule)
@@ -118,6 +134,22 @@ pub request_passed : (ds : List Data) (at k : ℕ) (d : Data) (listed more : Lis
 request_passed ds at k d listed more there less unbroken is lists =
     let next : 10 + (k + 1) ≡ (10 + k) + 1 = omega arith in
     rw (next, is) (request_skip ds at (10 + k) d (request_rule k) listed there (request_number_at k less) unbroken lists)
+
+-- the first rule that is broken
+request_from : (rule : RequestRule) → 10 ≤ request_number rule
+request_from rule = search rules
+
+pub request_before_all : (d : Data) → NoneBelow request_number (λ rule. BreaksRequest rule d) 10
+request_before_all d rule less broken = omega (arith, less, request_from rule)
+
+pub request_unbroken : (d : Data) (k : ℕ) → k < 14 → ¬ BreaksRequest (request_rule k) d → NoneBelow request_number (λ rule. BreaksRequest rule d) (10 + k) → NoneBelow request_number (λ rule. BreaksRequest rule d) (10 + (k + 1))
+request_unbroken d k less = none_more request_number (λ rule. BreaksRequest rule d) same_request_rule 10 k (request_rule k) (request_number_at k less)
+
+pub request_least : (d : Data) (k : ℕ) → k < 14 → BreaksRequest (request_rule k) d → NoneBelow request_number (λ rule. BreaksRequest rule d) (10 + k) → IsLeastRequestRule d (request_rule k)
+request_least d k less = least_at request_number (λ rule. BreaksRequest rule d) (10 + k) (request_rule k) (request_number_at k less)
+
+pub request_none : (d : Data) → NoneBelow request_number (λ rule. BreaksRequest rule d) 24 → IsRequestObject d
+request_none d none rule = none rule (request_within rule)
 
 request_before : (ds : List Data) (at : ℕ) (other : DocFault) → IsRequestFault ds other → IsBefore (shape_place other) (at + 1, 0) → IsBefore (shape_place other) (at, 24)
 request_before ds at (faults.Document rule) bad less = absurd bad

@@ -1,15 +1,12 @@
 //! A batch as it was read: its requests, in the order of the document.
 
-ghost use Rattle.std.specs.Prelude.{◌==◌, ◌≡◌, ◌≤◌, ◌<◌, ◌↔◌, IsTrue, string_bytes, length, map, vec_len, slice_get, Some, IfOk, IfErr, OnOk, OnErr};
-ghost use Rattle.std.specs.BTreeMap.{keys};
-ghost use Rattle.std.specs.List.{AllZip, list_any};
+ghost use Rattle.std.specs.Prelude.{◌==◌, ◌≡◌, ◌≤◌, ◌<◌, length, map, vec_len, slice_get, Some, IfOk, IfErr, OnOk, OnErr};
+ghost use Rattle.std.specs.List.{AllZip};
 ghost use Rattle.serde_json.specs.View.{view};
 ghost use Rattle.odb_doc.specs.declared.fault.DocFault.TheVariants as faults;
-ghost use Rattle.odb_doc.specs.batch.LeastFault.{IsWellShaped, IsLeastFault, IsBatchObject, IsFirstBroken, IsLeastDocumentRule, BreaksRequestAt};
-ghost use Rattle.odb_doc.specs.BrokenRules.{OnPlace, request_fault};
+ghost use Rattle.odb_doc.specs.batch.LeastFault.{IsWellShaped, IsLeastFault, IsBatchObject, IsFirstBroken, BreaksRequestAt};
+ghost use Rattle.odb_doc.specs.BrokenRules.{OnRequest, IsRequestObject, IsLeastRequestRule};
 ghost use Rattle.odb_doc.specs.LeastRules.{NoneBroken};
-ghost use Rattle.odb_doc.specs.Members.{HasUnknown, document_names};
-ghost use Rattle.odb_doc.specs.Members as spec;
 ghost use Rattle.odb_doc.specs.batch.Shapes.{elements};
 ghost use Rattle.odb_doc.specs.batch.Records.{ReadsAs, IsWellFormedRecord, IsBatchOf, record_of};
 
@@ -21,18 +18,16 @@ pub(crate) mod headers;
 mod line;
 pub(crate) mod media_type;
 mod members;
+mod object;
 mod reference;
 pub mod request;
 
+use crate::batch::asked::Asked;
+use crate::batch::object::{broken_rule, elements_in};
 use crate::batch::request::Request;
-use crate::broken::Broken;
-use crate::fault::{DocFault, DocumentRule, RequestRule};
-use crate::member::{array_at, is_annotation};
-use serde_json::{Map, Value};
+use crate::fault::DocFault;
+use serde_json::Value;
 use std::alloc::Global;
-
-/// The limit of F06.
-const MAX_REQUESTS: usize = 10_000;
 
 /// The requests of a batch document without a fault of shape, in the order of the document.
 #[derive(Debug, Drop)]
@@ -41,81 +36,32 @@ pub struct Batch<'a> {
     ghost small: { vec_len requests ≤ 10000 },
 }
 
-/// Returns whether the name is neither that of an annotation nor `requests`.
-#[tactic(auto, unfolding(crate::specs::Members::is_unknown))]
-fn is_unknown(name: &str) -> bool
-    ensures { result ≡ spec.is_unknown document_names name.now }
+/// Returns the first rule that the element at a position breaks, as the fault of its document.
+fn fault_of(alloc: Global, element: &Value, at: usize) -> DocFault
+    requires { ¬ IsRequestObject (view element.now) }
+    ensures { OnRequest (λ place rule. (place ≡ at) × IsLeastRequestRule (view element.now) rule) result }
 {
-    !is_annotation(name) && name != "requests"
-}
-
-fn has_unknown_among(members: &Map<String, Value>) -> bool
-    ensures { result ≡ list_any (λ name. spec.is_unknown document_names (string_bytes name))
-        (keys members.now) }
-{
-    members.keys().any(|name| is_unknown(name.as_str()))
-}
-
-/// Returns whether a member of the document is neither an annotation nor `requests`.
-fn has_unknown(document: &Value) -> bool
-    ensures { IsTrue result ↔ HasUnknown document_names (view document.now) }
-{
-    match document.as_object() {
-        Some(members) => has_unknown_among(members),
-        None => false,
+    match Asked::of(element).broken_rule(alloc) {
+        Ok(Some(rule)) => DocFault::Request { at, rule },
+        Ok(None) => unreachable!(),
+        Err(_) => DocFault::OutOfMemory,
     }
 }
 
-/// Returns the elements of `requests`, or the first rule that the document as a whole breaks.
-fn elements_of(document: &Value) -> Result<&[Value], DocumentRule>
-    ensures whole { OnOk result (IsBatchObject (view document.now)) }
-    ensures elements { IfOk result (λ found. elements (view document.now) ≡ map view found.now) }
-    ensures len { IfOk result (λ found. length found.now ≤ 10000) }
-    ensures least { IfErr result (IsLeastDocumentRule (view document.now)) }
-{
-    if !document.is_object() {
-        return Err(DocumentRule::NotObject);
-    }
-    let Some(elements) = array_at(document, "requests") else {
-        return Err(DocumentRule::NoRequests);
-    };
-    if has_unknown(document) {
-        return Err(DocumentRule::UnknownMember);
-    }
-    if elements.len() > MAX_REQUESTS {
-        return Err(DocumentRule::TooMany);
-    }
-    Ok(elements)
-}
-
-impl From<Broken<(usize, RequestRule)>> for DocFault {
-    ghost from_gives = { λ broken fault. fault ≡ request_fault broken };
-
-    fn from(broken: Broken<(usize, RequestRule)>) -> Self {
-        match broken {
-            Broken::Rule((at, rule)) => DocFault::Request { at, rule },
-            Broken::OutOfMemory => DocFault::OutOfMemory,
-        }
-    }
-}
-
-/// Returns the requests of the elements, or the first rule that one of them breaks.
-fn requests_from<'a>(
-    alloc: Global,
-    elements: &'a [Value],
-) -> Result<Vec<Request<'a>>, Broken<(usize, RequestRule)>>
+/// Returns the requests of the elements, or the first fault of one of them.
+fn requests_from<'a>(alloc: Global, elements: &'a [Value]) -> Result<Vec<Request<'a>>, DocFault>
     ensures unbroken { OnOk result (NoneBroken (BreaksRequestAt (map view elements.now))) }
     ensures says { IfOk result (λ found. AllZip ReadsAs (map view elements.now)
         (map record_of found.items)) }
     ensures len { IfOk result (λ found. length found.items ≡ length elements.now) }
-    ensures first { IfErr result (OnPlace (IsFirstBroken (map view elements.now))) }
+    ensures first { IfErr result (OnRequest (IsFirstBroken (map view elements.now))) }
     ensures some { OnErr result (0 < length elements.now) }
 {
     let mut requests = Vec::with_capacity(alloc, elements.len())?;
     for (at, element) in elements.iter().enumerate() {
-        match Request::read(alloc, element) {
-            Ok(request) => requests.push(request)?,
-            Err(broken) => return Err(broken.at(at)),
+        match Request::read(alloc, element)? {
+            Some(request) => requests.push(request)?,
+            None => return Err(fault_of(alloc, element, at)),
         }
     }
     Ok(requests)
@@ -147,8 +93,10 @@ impl<'a> Batch<'a> {
         ensures memory { IfErr result (λ fault. fault ≡ faults.OutOfMemory
             → IsBatchObject (view document.now) × (0 < length (elements (view document.now)))) }
     {
-        let elements = elements_of(document)?;
-        let requests = requests_from(alloc, elements)?;
+        if let Some(rule) = broken_rule(document) {
+            return Err(DocFault::Document(rule));
+        }
+        let requests = requests_from(alloc, elements_in(document))?;
         Ok(Batch { requests })
     }
 

@@ -1,10 +1,9 @@
 //! Why a list could not be read: a rule that an element breaks, with its position, or out of memory.
 
 ghost use Rattle.std.specs.Prelude.{◌≡◌};
-ghost use Rattle.odb_doc.specs.declared.broken.Broken.TheVariants.{Rule, OutOfMemory};
+ghost use Rattle.odb_doc.specs.declared.broken.Broken.TheVariants.{OutOfMemory};
 ghost use Rattle.odb_doc.specs.BrokenRules.{broken_at};
 
-use crate::fault::RequestRule;
 use std::alloc::{AllocError, AllocFailed};
 
 /// Why something could not be read from an element.
@@ -25,14 +24,6 @@ impl<R: Copy> Broken<R> {
             Broken::Rule(rule) => Broken::Rule((at, rule)),
             Broken::OutOfMemory => Broken::OutOfMemory,
         }
-    }
-}
-
-impl From<RequestRule> for Broken<RequestRule> {
-    ghost from_gives = { λ rule broken. broken ≡ Rule rule };
-
-    fn from(rule: RequestRule) -> Self {
-        Broken::Rule(rule)
     }
 }
 

@@ -1,12 +1,12 @@
 //! The rules of a batch document, F01 to F23, and where one is broken.
 
 ghost use Rattle.std.specs.Prelude.{◌≡◌};
-ghost use Rattle.odb_doc.specs.declared.fault.DocFault.TheVariants.{Document};
+ghost use Rattle.odb_doc.specs.declared.fault.DocFault.TheVariants as faults;
 ghost use Rattle.odb_doc.specs.declared.fault.TextFault.TheVariants as texts;
 ghost use Rattle.odb_doc.specs.Faults.{document_row, text_row};
 
 use crate::refusal::{Fault, Refusal};
-use std::alloc::AllocError;
+use std::alloc::{AllocError, AllocFailed};
 use thiserror::Error;
 
 /// Where a fault is.
@@ -189,11 +189,19 @@ impl Fault for DocFault {
     }
 }
 
-impl From<DocumentRule> for DocFault {
-    ghost from_gives = { λ rule fault. fault ≡ Document rule };
+impl From<AllocError> for DocFault {
+    ghost from_gives = { λ _ fault. fault ≡ faults.OutOfMemory };
 
-    fn from(rule: DocumentRule) -> Self {
-        DocFault::Document(rule)
+    fn from(_error: AllocError) -> Self {
+        DocFault::OutOfMemory
+    }
+}
+
+impl<T: Drop> From<AllocFailed<T>> for DocFault {
+    ghost from_gives = { λ _ fault. fault ≡ faults.OutOfMemory };
+
+    fn from(_error: AllocFailed<T>) -> Self {
+        DocFault::OutOfMemory
     }
 }
 

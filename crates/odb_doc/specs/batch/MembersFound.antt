@@ -9,9 +9,8 @@ use Rattle.serde_json.specs.declared.value.Value.{Value}
 use Rattle.odb_names.specs.declared.method.Method.{Method}
 use Rattle.odb_doc.specs.declared.batch.members.Members.{Members}
 use Rattle.odb_doc.specs.declared.fault.RequestRule.TheVariants as rules
-use Rattle.odb_doc.specs.BrokenRules.{BreaksNoneBefore}
 use Rattle.odb_doc.specs.Headers.{Header, HasHeaders}
-use Rattle.odb_doc.specs.batch.Shapes.{HasMethod}
+use Rattle.odb_doc.specs.batch.Shapes.{BreaksRequest, HasMethod}
 use Rattle.odb_doc.specs.Members.{is_unknown, names_in, request_names}
 
 -- the data at a place
@@ -46,9 +45,12 @@ pub record PutsMember (name : List ℕ) (d : Data) (old new : Members) : Type 0 
   pub body : data_of new.body ≡ put_at (codes "body") name d old.body
   pub unknown : new.has_unknown ≡ (old.has_unknown || is_unknown request_names name)
 
--- the members and the method and headers that were read of them, where no rule before that on bodies is broken
-pub record MayHaveBody (d : Data) (members : Members) (method : Method) (headers : List Header) : Type 0 where
+-- the members, and the method and headers that were read of them
+pub record HasParts (d : Data) (members : Members) (method : Method) (headers : List Header) : Type 0 where
   pub are : AreMembersOf d members
-  pub below : BreaksNoneBefore rules.BodyNotAllowed d
   pub has_method : HasMethod d method
   pub has_headers : HasHeaders d headers
+
+-- the body breaks no rule
+abbrev pub FitsBody : Data → Type 0
+FitsBody d = ¬ BreaksRequest rules.BodyNotAllowed d × ¬ BreaksRequest rules.BadBody d

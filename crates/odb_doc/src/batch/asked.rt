@@ -1,23 +1,42 @@
-//! The rules of a request, each asked for itself, whatever others the request breaks.
+//! The rules of a request, F10 to F23, each asked for itself, whatever others the request breaks.
 //!
-//! What these tests share with the reading of a request is inlined there, as if it were called there alone.
+//! The reading of a request finds only that it breaks one, by the same tests; which one, and which others, is
+//! asked here.
 
-ghost use Rattle.std.specs.Prelude.{◌≡◌, ◌↔◌, IsTrue, IfOk};
+ghost use Rattle.std.specs.Prelude.{◌≡◌, ◌↔◌, IsTrue, IfNone, IfOk, IfSome};
 ghost use Rattle.serde_json.specs.View.{view};
+ghost use Rattle.odb_doc.specs.BrokenRules.{IsLeastRequestRule, IsRequestObject};
 ghost use Rattle.odb_doc.specs.declared.fault.RequestRule.TheVariants as rules;
 ghost use Rattle.odb_doc.specs.batch.Shapes.{BreaksRequest};
 
 use crate::batch::body::is_allowed;
 use crate::batch::depends_on::listed_names;
-use crate::batch::headers::{has_name_twice, headers_of};
+use crate::batch::headers::{has_name_twice, headers_of, listed_headers};
 use crate::batch::line::{group_of, id_of, method_of};
 use crate::batch::members::Members;
-use crate::broken::Broken;
 use crate::fault::RequestRule;
 use crate::member::{given, text_in};
 use odb_names::{Front, front, is_nested_batch};
 use serde_json::Value;
 use std::alloc::{AllocError, Global};
+
+/// The rules of a request, by number.
+pub(crate) const REQUEST_RULES: &'static [RequestRule] = &[
+    RequestRule::NotRequestObject,
+    RequestRule::IfMember,
+    RequestRule::UnknownRequestMember,
+    RequestRule::BadId,
+    RequestRule::BadMethod,
+    RequestRule::BadUrl,
+    RequestRule::BadGroup,
+    RequestRule::BadDependsOn,
+    RequestRule::BadHeaders,
+    RequestRule::HeaderTwice,
+    RequestRule::BodyNotAllowed,
+    RequestRule::BadBody,
+    RequestRule::NestedBatch,
+    RequestRule::BadReference,
+];
 
 /// An element of `requests` with its members.
 #[derive(Clone, Copy)]
@@ -69,7 +88,7 @@ impl<'a> Asked<'a> {
         requires { HasMembers self.now }
         ensures { IsTrue result ↔ BreaksRequest rules.BadGroup (asked self.now) }
     {
-        self.element.is_object() && group_of(&self.members).is_err()
+        self.element.is_object() && group_of(&self.members).is_none()
     }
 
     /// F17: whether the `dependsOn` of an object is not an array of strings.
@@ -77,14 +96,8 @@ impl<'a> Asked<'a> {
         requires { HasMembers self.now }
         ensures { IfOk result (λ bad. IsTrue bad ↔ BreaksRequest rules.BadDependsOn (asked self.now)) }
     {
-        if !self.element.is_object() {
-            return Ok(false);
-        }
-        match listed_names(alloc, self.members.depends_on) {
-            Ok(_) => Ok(false),
-            Err(Broken::Rule(_)) => Ok(true),
-            Err(Broken::OutOfMemory) => Err(AllocError),
-        }
+        let names = listed_names(alloc, self.members.depends_on)?;
+        Ok(self.element.is_object() && names.is_none())
     }
 
     /// F18: whether the `headers` of an object are not an object of strings.
@@ -92,14 +105,8 @@ impl<'a> Asked<'a> {
         requires { HasMembers self.now }
         ensures { IfOk result (λ bad. IsTrue bad ↔ BreaksRequest rules.BadHeaders (asked self.now)) }
     {
-        if !self.element.is_object() {
-            return Ok(false);
-        }
-        match headers_of(alloc, &self.members) {
-            Ok(_) => Ok(false),
-            Err(Broken::Rule(rule)) => Ok(rule == RequestRule::BadHeaders),
-            Err(Broken::OutOfMemory) => Err(AllocError),
-        }
+        let headers = listed_headers(alloc, self.members.headers)?;
+        Ok(self.element.is_object() && headers.is_none())
     }
 
     /// F19: whether two names in `headers` differ in ASCII case alone.
@@ -135,10 +142,9 @@ impl<'a> Asked<'a> {
         let Some(body) = given(self.members.body) else {
             return Ok(false);
         };
-        match headers_of(alloc, &self.members) {
-            Ok(headers) => Ok(!is_allowed(alloc, &headers, body)?),
-            Err(Broken::Rule(_)) => Ok(false),
-            Err(Broken::OutOfMemory) => Err(AllocError),
+        match headers_of(alloc, &self.members)? {
+            Some(headers) => Ok(!is_allowed(alloc, &headers, body)?),
+            None => Ok(false),
         }
     }
 
@@ -185,5 +191,18 @@ impl<'a> Asked<'a> {
             RequestRule::NestedBatch => self.has_nested_batch(alloc),
             RequestRule::BadReference => self.has_bad_reference(alloc),
         }
+    }
+    /// Returns the first rule that the request breaks, if any.
+    pub(crate) fn broken_rule(&self, alloc: Global) -> Result<Option<RequestRule>, AllocError>
+        requires { HasMembers self.now }
+        ensures none { IfOk result (λ first. IfNone first (IsRequestObject (asked self.now))) }
+        ensures least { IfOk result (λ first. IfSome first (IsLeastRequestRule (asked self.now))) }
+    {
+        for rule in REQUEST_RULES {
+            if self.breaks(alloc, *rule)? {
+                return Ok(Some(*rule));
+            }
+        }
+        Ok(None)
     }
 }

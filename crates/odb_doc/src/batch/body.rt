@@ -1,21 +1,18 @@
 //! The body of a request, and the rules on when it may have one and of which kind.
 
-ghost use Rattle.std.specs.Prelude.{◌≡◌, ◌↔◌, map, IsTrue, OnOk, IfOk, IfErr};
+ghost use Rattle.std.specs.Prelude.{◌≡◌, ◌↔◌, false, map, IsTrue, IfOk};
 ghost use Rattle.serde_json.specs.Data.{Data};
 ghost use Rattle.serde_json.specs.View.{view};
-ghost use Rattle.odb_doc.specs.batch.Bodies.{body_of, content_type};
+ghost use Rattle.odb_doc.specs.batch.Bodies.{content_type};
 ghost use Rattle.odb_doc.specs.batch.BodyKinds.{IsOfKind};
-ghost use Rattle.odb_doc.specs.batch.MembersFound.{AreMembersOf, MayHaveBody, data_of};
+ghost use Rattle.odb_doc.specs.batch.MembersFound.{FitsBody, HasParts};
 ghost use Rattle.odb_doc.specs.Headers.{lent_header};
-ghost use Rattle.odb_doc.specs.declared.fault.RequestRule.TheVariants as rules;
-ghost use Rattle.odb_doc.specs.BrokenRules.{OnRule, BreaksNoneBefore, IsLeastRequestRule};
+ghost use Rattle.odb_doc.specs.BrokenRules.{IsRequestObject};
 ghost use Rattle.odb_doc.specs.batch.MediaTypes.{AllowsBody};
 
 use crate::batch::headers::{Header, content_type};
 use crate::batch::media_type::BodyKind;
 use crate::batch::members::Members;
-use crate::broken::Broken;
-use crate::fault::RequestRule;
 use crate::member::given;
 use odb_names::{Method, is_base64url};
 use serde_json::Value;
@@ -47,29 +44,23 @@ pub(crate) fn is_allowed(
     Ok(is_of_kind(kind, body))
 }
 
-/// Returns the body of a request, if any, or the first of the rules F20 and F21 that it breaks.
-pub(crate) fn body_of<'a>(
+/// Returns whether a request with this method and these headers may have its body, or has none.
+pub(crate) fn may_have_body(
     alloc: Global,
-    members: &Members<'a>,
+    members: &Members<'_>,
     method: Method,
     headers: &[Header<'_>],
-) -> Result<Option<&'a Value>, Broken<RequestRule>>
-    ensures unbroken { OnOk result ((d : Data) → MayHaveBody d members.now method (map lent_header headers.now)
-        → BreaksNoneBefore rules.NestedBatch d) }
-    ensures body { IfOk result (λ body. (d : Data) → AreMembersOf d members.now
-        → data_of body ≡ body_of d) }
-    ensures first { IfErr result (λ broken. (d : Data)
-        → MayHaveBody d members.now method (map lent_header headers.now)
-        → OnRule (IsLeastRequestRule d) broken) }
+) -> Result<bool, AllocError>
+    ensures fits { IfOk result (λ may. IsTrue may → (d : Data)
+        → HasParts d members.now method (map lent_header headers.now) → FitsBody d) }
+    ensures breaks { IfOk result (λ may. may ≡ false → (d : Data)
+        → HasParts d members.now method (map lent_header headers.now) → ¬ IsRequestObject d) }
 {
     let Some(body) = given(members.body) else {
-        return Ok(None);
+        return Ok(true);
     };
     if !method.takes_body() {
-        return Err(Broken::Rule(RequestRule::BodyNotAllowed));
+        return Ok(false);
     }
-    if !is_allowed(alloc, headers, body)? {
-        return Err(Broken::Rule(RequestRule::BadBody));
-    }
-    Ok(Some(body))
+    is_allowed(alloc, headers, body)
 }

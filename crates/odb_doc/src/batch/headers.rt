@@ -1,6 +1,6 @@
 //! The headers of a request, lent from its document, in byte order of their names in lower case.
 
-ghost use Rattle.std.specs.Prelude.{◌≡◌, ◌↔◌, ◌++◌, ◌∷◌, [], true, false, IsTrue, None, Some, map, option_map, IfOk, IfErr, OnOk, bytes_eq, codes, string_bytes};
+ghost use Rattle.std.specs.Prelude.{◌≡◌, ◌↔◌, true, false, IsTrue, IsSome, map, option_map, IfNone, IfOk, IfSome, bytes_eq, codes};
 ghost use Rattle.std.specs.Cmp.Lexicographic.{slice_cmp};
 ghost use Rattle.std.specs.List.{IsDistinct};
 ghost use Rattle.std.specs.List.Sorted.{IsPermutation, IsSorted};
@@ -8,19 +8,16 @@ ghost use Rattle.std.specs.Map.{keys_of};
 ghost use Rattle.std.specs.Ordering.{is_lt, nat_cmp};
 ghost use Rattle.std.specs.Str.{str_to_ascii_lowercase};
 ghost use Rattle.serde_json.specs.Data.{Data};
-ghost use Rattle.serde_json.specs.Find.{as_str};
-ghost use Rattle.serde_json.specs.View.{view, members_view};
+ghost use Rattle.serde_json.specs.View.{members_view};
 ghost use Rattle.odb_doc.specs.declared.fault.RequestRule.TheVariants as rules;
-ghost use Rattle.odb_doc.specs.BrokenRules.{OnRule, OnlyIf, BreaksNoneBefore, IsHeadersRule, IsLeastRequestRule};
 ghost use Rattle.odb_doc.specs.batch.Bodies.{content_type};
-ghost use Rattle.odb_doc.specs.batch.MembersFound.{AreMembersOf};
+ghost use Rattle.odb_doc.specs.batch.MembersFound.{AreMembersOf, data_of};
+ghost use Rattle.odb_doc.specs.batch.Shapes.{BreaksRequest};
 ghost use Rattle.odb_doc.specs.HeaderMaps.{HasUnordered, by_name, written};
 ghost use Rattle.odb_doc.specs.Members as spec;
-ghost use Rattle.odb_doc.specs.Headers.{HasHeaders, IsInOrder, lent_header, text_members};
+ghost use Rattle.odb_doc.specs.Headers.{HasHeaders, IsInOrder, lent_header, listed_headers, listed_in, text_members};
 
 use crate::batch::members::Members;
-use crate::broken::Broken;
-use crate::fault::RequestRule;
 use crate::member::given;
 use serde_json::{Map, Value};
 use std::alloc::{AllocError, Global};
@@ -49,38 +46,23 @@ fn folded_cmp(x: &[u8], y: &[u8]) -> Ordering
     }
 }
 
-/// Appends the header that a member is, or returns F18 if its value is not a string.
-fn push_text<'a>(
-    found: &mut Vec<Header<'a>>,
-    name: &'a String,
-    value: &'a Value,
-) -> Result<(), Broken<RequestRule>>
-    ensures pushed { OnOk result (option_map (λ text. map written found.old.items
-        ++ (string_bytes name.now, text) ∷ []) (as_str (view value.now)) ≡ Some (map written found.new.items)) }
-    ensures none { IfErr result (OnlyIf rules.BadHeaders (as_str (view value.now) ≡ None)) }
-{
-    match value.as_str() {
-        Some(text) => Ok(found.push((name.as_str(), text))?),
-        None => Err(Broken::Rule(RequestRule::BadHeaders)),
-    }
-}
-
-/// Returns the members of an object, or F18 if a value is not a string.
+/// Returns the members of an object; `None` if a value is not a string.
 #[inline(always)]
 fn texts_of<'a>(
     alloc: Global,
     members: &'a Map<String, Value>,
-) -> Result<Vec<Header<'a>>, Broken<RequestRule>>
-    ensures texts { IfOk result (λ found. text_members (members_view members.now.entries)
-        ≡ Some (map written found.items)) }
-    ensures none { IfErr result (OnlyIf rules.BadHeaders
-        (text_members (members_view members.now.entries) ≡ None)) }
+) -> Result<Option<Vec<Header<'a>>>, AllocError>
+    ensures { IfOk result (λ found. option_map (λ headers. map written headers.items) found
+        ≡ text_members (members_view members.now.entries)) }
 {
     let mut found = Vec::with_capacity(alloc, members.len())?;
     for (name, value) in members.iter() {
-        push_text(&mut found, name, value)?;
+        let Some(text) = value.as_str() else {
+            return Ok(None);
+        };
+        found.push((name.as_str(), text))?;
     }
-    Ok(found)
+    Ok(Some(found))
 }
 
 /// Returns whether each name comes before the next.
@@ -108,49 +90,58 @@ fn sort(headers: &mut Vec<Header<'_>>)
     );
 }
 
-/// Returns the headers in order of their names, or F19 if two have one name.
+/// Returns the headers in order of their names; `None` if two have one name.
 #[inline(always)]
-fn in_order<'a>(mut headers: Vec<Header<'a>>) -> Result<Vec<Header<'a>>, Broken<RequestRule>>
-    ensures sorted { IfOk result (λ sorted. IsPermutation headers.entry.items sorted.items
+fn in_order<'a>(mut headers: Vec<Header<'a>>) -> Option<Vec<Header<'a>>>
+    ensures sorted { IfSome result (λ sorted. IsPermutation headers.entry.items sorted.items
         × IsInOrder (map lent_header sorted.items)) }
-    ensures twice { IfErr result (OnlyIf rules.HeaderTwice
-        (¬ IsDistinct bytes_eq (keys_of (map lent_header headers.entry.items)))) }
+    ensures twice { IfNone result (¬ IsDistinct bytes_eq (keys_of (map lent_header headers.entry.items))) }
 {
     if are_ascending(&headers) {
-        return Ok(headers);
+        return Some(headers);
     }
     sort(&mut headers);
     if are_ascending(&headers) {
-        Ok(headers)
+        Some(headers)
     } else {
-        Err(Broken::Rule(RequestRule::HeaderTwice))
+        None
     }
 }
 
-/// Returns the headers of a request in order of their names, or the first of the rules F18 and F19 that
-/// it breaks.
+/// Returns the headers of a request as they come; `None` if they are not an object of strings.
+#[inline(always)]
+pub(crate) fn listed_headers<'a>(
+    alloc: Global,
+    member: Option<&'a Value>,
+) -> Result<Option<Vec<Header<'a>>>, AllocError>
+    ensures { IfOk result (λ found. option_map (λ headers. map written headers.items) found
+        ≡ listed_in (data_of member.entry)) }
+{
+    let Some(value) = given(member) else {
+        return Ok(Some(Vec::new(alloc)));
+    };
+    match value.as_object() {
+        Some(object) => texts_of(alloc, object),
+        None => Ok(None),
+    }
+}
+
+/// Returns the headers of a request in order of their names; `None` if they are not an object of strings,
+/// or two have one name.
 #[inline(always)]
 pub(crate) fn headers_of<'a>(
     alloc: Global,
     members: &Members<'a>,
-) -> Result<Vec<Header<'a>>, Broken<RequestRule>>
-    ensures unbroken { OnOk result ((d : Data) → AreMembersOf d members.now
-        → BreaksNoneBefore rules.BadHeaders d → BreaksNoneBefore rules.BodyNotAllowed d) }
-    ensures has { IfOk result (λ headers. (d : Data) → AreMembersOf d members.now
-        → HasHeaders d (map lent_header headers.items)) }
-    ensures first { IfErr result (λ broken. (d : Data) → AreMembersOf d members.now
-        → BreaksNoneBefore rules.BadHeaders d → OnRule (IsLeastRequestRule d) broken) }
-    ensures none { IfErr result (λ broken. (d : Data) → AreMembersOf d members.now
-        → OnRule (IsHeadersRule d) broken) }
+) -> Result<Option<Vec<Header<'a>>>, AllocError>
+    ensures has { IfOk result (λ found. IfSome found (λ headers. (d : Data) → AreMembersOf d members.now
+        → HasHeaders d (map lent_header headers.items))) }
+    ensures none { IfOk result (λ found. IfNone found ((d : Data) → AreMembersOf d members.now
+        → IsSome (listed_headers d) → BreaksRequest rules.HeaderTwice d)) }
 {
-    let Some(value) = given(members.headers) else {
-        return Ok(Vec::new(alloc));
-    };
-    let Some(object) = value.as_object() else {
-        return Err(Broken::Rule(RequestRule::BadHeaders));
-    };
-    let texts = texts_of(alloc, object)?;
-    in_order(texts)
+    match listed_headers(alloc, members.headers)? {
+        Some(headers) => Ok(in_order(headers)),
+        None => Ok(None),
+    }
 }
 
 /// Returns the names of the members of an object, each as a header without a value.
@@ -176,11 +167,7 @@ pub(crate) fn has_name_twice(
     ensures { IfOk result (λ twice. IsTrue twice ↔ ¬ IsDistinct bytes_eq
         (map str_to_ascii_lowercase (spec.names_of (members_view members.now.entries)))) }
 {
-    match in_order(names_of(alloc, members)?) {
-        Ok(_) => Ok(false),
-        Err(Broken::Rule(_)) => Ok(true),
-        Err(Broken::OutOfMemory) => Err(AllocError),
-    }
+    Ok(in_order(names_of(alloc, members)?).is_none())
 }
 
 /// Returns whether the name of a header is `content-type`, in any case of its letters.

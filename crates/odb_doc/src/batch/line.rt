@@ -1,21 +1,19 @@
 //! The id, method, group and URL of a request.
 
-ghost use Rattle.std.specs.Prelude.{◌≡◌, ℕ, List, Option, MatchOption, IfOk, IfErr, OnOk, OnErr, option_map};
+ghost use Rattle.std.specs.Prelude.{ℕ, List, Option, MatchOption, IfNone, IfSome, option_map};
 ghost use Rattle.serde_json.specs.Data.{Data};
 ghost use Rattle.serde_json.specs.View.{view};
 ghost use Rattle.odb_names.specs.declared.method.Method.{Method};
-ghost use Rattle.odb_doc.specs.BrokenRules.{BreaksNoneBefore, IsLeastRequestRule};
-ghost use Rattle.odb_doc.specs.declared.fault.RequestRule.TheVariants as rules;
+ghost use Rattle.odb_doc.specs.BrokenRules.{IsRequestObject};
 ghost use Rattle.odb_doc.specs.batch.MembersFound.{AreMembersOf};
 ghost use Rattle.odb_doc.specs.batch.Shapes.{HasId, HasMethod, HasGroup};
 
 use crate::batch::members::Members;
-use crate::fault::RequestRule;
 use crate::member::{given, text_in};
 use odb_names::{Method, is_request_id};
 use serde_json::Value;
 
-/// The members of a request that are one text each: id, method, URL and group, checked by F10 to F16.
+/// The members of a request that are one text each: id, method, URL and group.
 #[derive(Clone, Copy)]
 pub(crate) struct RequestLine<'a> {
     pub(crate) id: &'a str,
@@ -42,56 +40,43 @@ pub(crate) fn method_of(members: &Members<'_>) -> Option<Method>
     Method::read(text_in(members.method)?)
 }
 
-/// Returns the group at `atomicityGroup`, if any, or F16.
-pub(crate) fn group_of<'a>(members: &Members<'a>) -> Result<Option<&'a str>, RequestRule>
-    ensures has { IfOk result (λ group. (d : Data) → AreMembersOf d members.now
-        → HasGroup d (option_map (λ text. text.now) group)) }
-    ensures rule { IfErr result (λ rule. rule ≡ rules.BadGroup) }
-    ensures none { OnErr result ((d : Data) → AreMembersOf d members.now
-        → (group : Option (List ℕ)) → ¬ HasGroup d group) }
+/// Returns the group at `atomicityGroup`, if any; `None` if it is not an identifier.
+pub(crate) fn group_of<'a>(members: &Members<'a>) -> Option<Option<&'a str>>
+    ensures { (d : Data) → AreMembersOf d members.now → MatchOption result
+        ((group : Option (List ℕ)) → ¬ HasGroup d group)
+        (λ group. HasGroup d (option_map (λ text. text.now) group)) }
 {
     let Some(value) = given(members.group) else {
-        return Ok(None);
+        return Some(None);
     };
     match value.as_str() {
-        Some(id) if is_request_id(id) => Ok(Some(id)),
-        _ => Err(RequestRule::BadGroup),
+        Some(id) if is_request_id(id) => Some(Some(id)),
+        _ => None,
     }
 }
 
 impl<'a> RequestLine<'a> {
     ghost use Rattle.odb_doc.specs.batch.Lines.{IsLineOf};
 
-    /// Reads the line of an element of `requests`, or returns the first of the rules F10 to F16 that
-    /// it breaks.
-    pub(crate) fn read(element: &'a Value, members: &Members<'a>) -> Result<Self, RequestRule>
+    /// Reads the line of an element of `requests`; `None` if it breaks one of the rules F10 to F16.
+    pub(crate) fn read(element: &'a Value, members: &Members<'a>) -> Option<Self>
         requires { AreMembersOf (view element.now) members.now }
-        ensures unbroken { OnOk result (BreaksNoneBefore rules.BadDependsOn (view element.now)) }
-        ensures line { IfOk result (IsLineOf (view element.now)) }
-        ensures first { IfErr result (IsLeastRequestRule (view element.now)) }
+        ensures line { IfSome result (IsLineOf (view element.now)) }
+        ensures none { IfNone result (¬ IsRequestObject (view element.now)) }
     {
         if !element.is_object() {
-            return Err(RequestRule::NotRequestObject);
+            return None;
         }
         if members.condition.is_some() {
-            return Err(RequestRule::IfMember);
+            return None;
         }
         if members.has_unknown {
-            return Err(RequestRule::UnknownRequestMember);
+            return None;
         }
-        let Some(id) = id_of(members) else {
-            return Err(RequestRule::BadId);
-        };
-        let Some(method) = method_of(members) else {
-            return Err(RequestRule::BadMethod);
-        };
-        let Some(url) = text_in(members.url) else {
-            return Err(RequestRule::BadUrl);
-        };
-        Ok(RequestLine {
-            id,
-            method,
-            url,
+        Some(RequestLine {
+            id: id_of(members)?,
+            method: method_of(members)?,
+            url: text_in(members.url)?,
             group: group_of(members)?,
         })
     }

@@ -1,26 +1,25 @@
 //! A request of a batch.
 
-ghost use Rattle.std.specs.Prelude.{IfOk, IfErr, OnOk, bytes_eq};
+ghost use Rattle.std.specs.Prelude.{IfNone, IfOk, IfSome, OnSome, bytes_eq};
 ghost use Rattle.std.specs.List.{IsDistinct};
 ghost use Rattle.std.specs.Option.{ForSome};
 ghost use Rattle.std.proofs.Props.{props};
 ghost use Rattle.serde_json.specs.View.{view};
 ghost use Rattle.odb_names.specs.Identifiers.{IsRequestId};
-ghost use Rattle.odb_doc.specs.BrokenRules.{OnRule, IsRequestObject, IsLeastRequestRule};
+ghost use Rattle.odb_doc.specs.BrokenRules.{IsRequestObject};
 ghost use Rattle.odb_doc.specs.Names.{texts_in};
 
-use crate::batch::body::body_of;
+use crate::batch::body::may_have_body;
 use crate::batch::depends_on::read_names;
 use crate::batch::headers::headers_of;
 use crate::batch::line::RequestLine;
 use crate::batch::members::Members;
 use crate::batch::reference::reference_of;
-use crate::broken::Broken;
-use crate::fault::RequestRule;
+use crate::member::given;
 use odb_names::Method;
 use serde_json::Value;
 use smallvec::SmallVec;
-use std::alloc::Global;
+use std::alloc::{AllocError, Global};
 
 /// One request of a batch (OData JSON Format 4.01, section 19.1).
 ///
@@ -53,19 +52,29 @@ pub struct Request<'a> {
 impl<'a> Request<'a> {
     ghost use Rattle.odb_doc.specs.batch.Records.{ReadsAs, record_of};
 
-    /// Reads an element of `requests`, or returns the first rule that it breaks.
-    pub(crate) fn read(alloc: Global, element: &'a Value) -> Result<Self, Broken<RequestRule>>
-        ensures object { OnOk result (IsRequestObject (view element.now)) }
-        ensures says { IfOk result (λ r. ReadsAs (view element.now) (record_of r)) }
-        ensures first { IfErr result (OnRule (IsLeastRequestRule (view element.now))) }
+    /// Reads an element of `requests`; `None` if it breaks a rule.
+    pub(crate) fn read(alloc: Global, element: &'a Value) -> Result<Option<Self>, AllocError>
+        ensures object { IfOk result (λ found. OnSome found (IsRequestObject (view element.now))) }
+        ensures says { IfOk result (λ found. IfSome found (λ r. ReadsAs (view element.now) (record_of r))) }
+        ensures none { IfOk result (λ found. IfNone found (¬ IsRequestObject (view element.now))) }
     {
         let members = Members::of(element);
-        let line = RequestLine::read(element, &members)?;
-        let names = read_names(alloc, &members)?;
-        let headers = headers_of(alloc, &members)?;
-        let body = body_of(alloc, &members, line.method, &headers)?;
-        let reference = reference_of(alloc, line.url)?;
-        Ok(Request {
+        let Some(line) = RequestLine::read(element, &members) else {
+            return Ok(None);
+        };
+        let Some(names) = read_names(alloc, &members)? else {
+            return Ok(None);
+        };
+        let Some(headers) = headers_of(alloc, &members)? else {
+            return Ok(None);
+        };
+        if !may_have_body(alloc, &members, line.method, &headers)? {
+            return Ok(None);
+        }
+        let Some(reference) = reference_of(alloc, line.url)? else {
+            return Ok(None);
+        };
+        Ok(Some(Request {
             id: line.id,
             method: line.method,
             url: line.url,
@@ -73,7 +82,7 @@ impl<'a> Request<'a> {
             names,
             reference,
             headers,
-            body,
-        })
+            body: given(members.body),
+        }))
     }
 }

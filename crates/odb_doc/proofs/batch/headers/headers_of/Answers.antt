@@ -1,40 +1,37 @@
-use Rattle.std.proofs.Common.{◌∙◌, codes, map, ap, sym, option_and_then, rules}
-use Rattle.std.proofs.lemmas.Result.{IfErr-weaker, IfOk-weaker}
+use Rattle.std.proofs.Common.{◌≡◌, ◌∙◌, List, Option, None, Some, IsSome, codes, map, ap, option_map, sym}
+use Rattle.std.specs.Prelude.{IfNone, IfSome}
+use Rattle.std.proofs.lemmas.Bool.{false≢true}
 use Rattle.serde_json.specs.Find.{get}
-use Rattle.odb_doc.specs.Headers.{lent_header, text_members, text_members_in}
-use Rattle.odb_doc.specs.Members.{given}
-use Rattle.odb_doc.proofs.LentLemmas.{HoldsHeaders-lent, HoldsHeaders-none, twice_least, twice_rule}
-use Rattle.odb_doc.proofs.RuleLemmas.{headers_sound}
+use Rattle.odb_doc.specs.HeaderMaps.{written}
+use Rattle.odb_doc.specs.Headers.{Header, listed_headers, listed_in}
+use Rattle.odb_doc.specs.batch.MembersFound.{data_of}
+use Rattle.odb_doc.proofs.LentLemmas.{HoldsHeaders-lent, twice_broken}
 use Rattle.odb_doc.proofs.batch.headers.headers_of.Goals as goal
 
-pub returns-in_default-clause-unbroken : goal.returns-in_default-clause-unbroken
-returns-in_default-clause-unbroken c = λ d are below.
-    headers_sound d (map lent_header c.new.result.items) below (HoldsHeaders-none (get (codes "headers") d) c.new.result.items (search rules) c.new.ensures.items)
+IfSome-weaker : {X : Type 0} (o : Option X) (P Q : X → Type 0) → ((x : X) → P x → Q x) → IfSome o P → IfSome o Q
+IfSome-weaker None P Q more holds = tt
+IfSome-weaker (Some x) P Q more holds = more x holds
 
-pub returns-in_default-clause-has : goal.returns-in_default-clause-has
-returns-in_default-clause-has c = λ d are.
-    HoldsHeaders-none (get (codes "headers") d) c.new.result.items (search rules) c.new.ensures.items
+IfNone-weaker : {X : Type 0} (o : Option X) (P Q : Type 0) → (P → Q) → IfNone o P → IfNone o Q
+IfNone-weaker None P Q more holds = more holds
+IfNone-weaker (Some x) P Q more holds = tt
 
-pub returns-clause-unbroken : goal.returns-clause-unbroken
-returns-clause-unbroken c =
-    IfOk-weaker c.in_order.result _ _ (λ headers is. λ d are below.
-    let listed = ap text_members_in (sym (c.in-Some.ensures ∙ ap given are.headers)) ∙ ap (option_and_then text_members) (sym c.in-Some-as_object.ensures) ∙ c.in_ok-texts.ensures.texts in
-    headers_sound d (map lent_header headers.items) below (HoldsHeaders-lent (get (codes "headers") d) c.in_ok-texts.texts.items headers.items listed is.0 is.1)) c.in_order.ensures.sorted
+none_listed : (o : Option (List Header)) → None ≡ o → ¬ IsSome o
+none_listed None same some = false≢true some
+none_listed (Some headers) same some = cc (same)
 
-pub returns-clause-has : goal.returns-clause-has
-returns-clause-has c =
-    IfOk-weaker c.in_order.result _ _ (λ headers is. λ d are.
-    let listed = ap text_members_in (sym (c.in-Some.ensures ∙ ap given are.headers)) ∙ ap (option_and_then text_members) (sym c.in-Some-as_object.ensures) ∙ c.in_ok-texts.ensures.texts in
-    HoldsHeaders-lent (get (codes "headers") d) c.in_ok-texts.texts.items headers.items listed is.0 is.1) c.in_order.ensures.sorted
+pub returns-in-Some-clause-has : goal.returns-in-Some-clause-has
+returns-in-Some-clause-has c =
+    let is : Some (map written c.in-Some.headers.items) ≡ listed_in (data_of c.args.members.now.headers) = ap (option_map (λ headers. map written headers.items)) (sym c.in-Some.is) ∙ c.in_ok-headers.ensures in
+    IfSome-weaker c.in_order.result _ _ (λ headers holds. λ d are.
+    HoldsHeaders-lent (get (codes "headers") d) c.in-Some.headers.items headers.items (ap listed_in (sym are.headers) ∙ sym is) holds.0 holds.1) c.in_order.ensures.sorted
 
-pub returns-clause-first : goal.returns-clause-first
-returns-clause-first c =
-    IfErr-weaker c.in_order.result _ _ (λ broken is. λ d are below.
-    let listed = ap text_members_in (sym (c.in-Some.ensures ∙ ap given are.headers)) ∙ ap (option_and_then text_members) (sym c.in-Some-as_object.ensures) ∙ c.in_ok-texts.ensures.texts in
-    twice_least d c.in_ok-texts.texts.items broken listed below is) c.in_order.ensures.twice
+pub returns-in-Some-clause-none : goal.returns-in-Some-clause-none
+returns-in-Some-clause-none c =
+    let is : Some (map written c.in-Some.headers.items) ≡ listed_in (data_of c.args.members.now.headers) = ap (option_map (λ headers. map written headers.items)) (sym c.in-Some.is) ∙ c.in_ok-headers.ensures in
+    IfNone-weaker c.in_order.result _ _ (λ twice. λ d are some. twice_broken d c.in-Some.headers.items (ap listed_in (sym are.headers) ∙ sym is) twice) c.in_order.ensures.twice
 
-pub returns-clause-none : goal.returns-clause-none
-returns-clause-none c =
-    IfErr-weaker c.in_order.result _ _ (λ broken is. λ d are.
-    let listed = ap text_members_in (sym (c.in-Some.ensures ∙ ap given are.headers)) ∙ ap (option_and_then text_members) (sym c.in-Some-as_object.ensures) ∙ c.in_ok-texts.ensures.texts in
-    twice_rule d c.in_ok-texts.texts.items broken listed is) c.in_order.ensures.twice
+pub returns-in-None-clause-none : goal.returns-in-None-clause-none
+returns-in-None-clause-none c = λ d are some.
+    let is : None ≡ listed_in (data_of c.args.members.now.headers) = ap (option_map (λ headers. map written headers.items)) (sym c.in-None.is) ∙ c.in_ok-headers.ensures in
+    absurd (none_listed (listed_headers d) (is ∙ ap listed_in are.headers) some)

@@ -1,4 +1,3 @@
-use Rattle.std.proofs.Common.{refl}
 use Rattle.odb_doc.specs.HeaderMaps.{HasUnordered}
 use Rattle.odb_doc.proofs.LentLemmas.{twice_from_sorted}
 use Rattle.odb_doc.proofs.batch.headers.in_order.Goals as goal
@@ -6,4 +5,4 @@ use Rattle.odb_doc.proofs.batch.headers.in_order.Goals as goal
 pub returns-clause-twice : goal.returns-clause-twice
 returns-clause-twice c =
     let unordered : HasUnordered c.sort.new.headers.items = rw c.deref-2.ensures.value at c.are_ascending-2.ensures.some c.if-are_ascending-2.false in
-    (refl, twice_from_sorted c.args.headers.items c.sort.new.headers.items c.sort.ensures.same c.sort.ensures.sorted unordered)
+    twice_from_sorted c.args.headers.items c.sort.new.headers.items c.sort.ensures.same c.sort.ensures.sorted unordered

@@ -6,7 +6,7 @@ use Rattle.odb_doc.specs.Members.{given, text_at}
 use Rattle.odb_doc.specs.recorded.Outcomes.{status_of}
 use Rattle.odb_doc.specs.recorded.RawOutcomes.{AreFoundIn}
 use Rattle.odb_doc.proofs.MemberLemmas.{object-from}
-use Rattle.odb_doc.proofs.RuleLemmas.{IsHeaders-from}
+use Rattle.odb_doc.proofs.ApartLemmas.{IsHeaders-from}
 use Rattle.odb_doc.proofs.recorded.outcome.raw_outcome_of.Goals as goal
 
 pub returns-in-Some-Some-clause-has : goal.returns-in-Some-Some-clause-has

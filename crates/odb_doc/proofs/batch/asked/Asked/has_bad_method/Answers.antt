@@ -2,7 +2,7 @@ use Rattle.std.proofs.Common.{rules}
 use Rattle.std.specs.Prelude.{IsSome}
 use Rattle.serde_json.specs.Find.{as_object}
 use Rattle.odb_doc.specs.Asked.{asked}
-use Rattle.odb_doc.proofs.RuleLemmas.{method_missing}
+use Rattle.odb_doc.proofs.BodyLemmas.{method_missing}
 use Rattle.odb_doc.proofs.batch.asked.Asked.has_bad_method.Goals as goal
 
 pub returns-then-is_object : goal.returns-then-is_object

@@ -1,84 +1,55 @@
--- The rules are tested in order, and what a request that is read keeps of its members.
-use Rattle.std.proofs.Common.{map, sym, rules}
+-- What a request that is read keeps of its members, and the rules that are broken where none is read.
+use Rattle.std.proofs.Common.{◌∙◌, ap, map, sym}
 use Rattle.serde_json.specs.View.{view}
-use Rattle.odb_doc.specs.batch.MembersFound.{MayHaveBody}
-use Rattle.odb_doc.specs.Names.{texts_in}
+use Rattle.odb_doc.specs.batch.MembersFound.{HasParts}
 use Rattle.odb_doc.specs.batch.Shapes.{listed_names}
 use Rattle.odb_doc.specs.Headers.{lent_header}
+use Rattle.odb_doc.specs.Members.{given}
+use Rattle.odb_doc.specs.Names.{texts_in}
 use Rattle.odb_doc.proofs.DistinctLemmas.{IsDistinct-listed}
-use Rattle.odb_doc.proofs.ReferenceLemmas.{none_broken}
+use Rattle.odb_doc.proofs.UnbrokenLemmas.{none_broken, no_headers, no_names, no_reference}
 use Rattle.odb_doc.proofs.batch.request.Request.read.Goals as goal
 
-pub returns-in_err-line-clause-first : goal.returns-in_err-line-clause-first
-returns-in_err-line-clause-first c = search rules
-
-pub returns-in_err-names-clause-first : goal.returns-in_err-names-clause-first
-returns-in_err-names-clause-first c =
-    let first = c.in_err-names.ensures.first (view c.args.element.now) c.of-members.ensures c.in_ok-line.ensures.unbroken in
-    search (rules, first)
-
-pub returns-in_err-headers-clause-first : goal.returns-in_err-headers-clause-first
-returns-in_err-headers-clause-first c =
+pub returns-in_default-2-clause-none : goal.returns-in_default-2-clause-none
+returns-in_default-2-clause-none c =
     let d = view c.args.element.now in
-    let are = c.of-members.ensures in
-    let first = c.in_err-headers.ensures.first d are (c.in_ok-names.ensures.unbroken d are c.in_ok-line.ensures.unbroken) in
-    search (rules, first)
+    no_names d c.in-Some.line c.in-Some.ensures.line (rw c.in_default-2.is at (c.in_ok-names.ensures d c.of-members.ensures))
 
-pub returns-in_err-body-clause-first : goal.returns-in_err-body-clause-first
-returns-in_err-body-clause-first c =
+pub returns-in_default-3-clause-none : goal.returns-in_default-3-clause-none
+returns-in_default-3-clause-none c =
     let d = view c.args.element.now in
-    let are = c.of-members.ensures in
-    let may : MayHaveBody d c.of-members.result c.in_ok-line.line.method (map lent_header c.deref.result.now) = record {
-      are = are;
-      below = c.in_ok-headers.ensures.unbroken d are (c.in_ok-names.ensures.unbroken d are c.in_ok-line.ensures.unbroken);
-      has_method = c.in_ok-line.ensures.line.method;
-      has_headers = rw c.deref.ensures.value (c.in_ok-headers.ensures.has d are);
-    } in
-    let first = c.in_err-body.ensures.first d may in
-    search (rules, first)
+    no_headers d c.in-Some.line c.in-Some.ensures.line ((rw c.in_default-3.is at c.in_ok-headers.ensures.none) d c.of-members.ensures)
 
-pub returns-in_err-reference-clause-first : goal.returns-in_err-reference-clause-first
-returns-in_err-reference-clause-first c =
-    let d = view c.args.element.now in
-    let are = c.of-members.ensures in
-    let may : MayHaveBody d c.of-members.result c.in_ok-line.line.method (map lent_header c.deref.result.now) = record {
-      are = are;
-      below = c.in_ok-headers.ensures.unbroken d are (c.in_ok-names.ensures.unbroken d are c.in_ok-line.ensures.unbroken);
-      has_method = c.in_ok-line.ensures.line.method;
-      has_headers = rw c.deref.ensures.value (c.in_ok-headers.ensures.has d are);
-    } in
-    let first = c.in_err-reference.ensures.first d (c.in_ok-body.ensures.unbroken d may) c.in_ok-line.ensures.line.url in
-    search (rules, first)
+pub returns-in_default-4-clause-none : goal.returns-in_default-4-clause-none
+returns-in_default-4-clause-none c = no_reference (view c.args.element.now) c.in-Some.line c.in-Some.ensures.line (rw c.in_default-4.is at c.in_ok-reference.ensures.none)
 
 pub returns-clause-object : goal.returns-clause-object
 returns-clause-object c =
     let d = view c.args.element.now in
     let are = c.of-members.ensures in
-    let may : MayHaveBody d c.of-members.result c.in_ok-line.line.method (map lent_header c.deref.result.now) = record {
-      are = are;
-      below = c.in_ok-headers.ensures.unbroken d are (c.in_ok-names.ensures.unbroken d are c.in_ok-line.ensures.unbroken);
-      has_method = c.in_ok-line.ensures.line.method;
-      has_headers = rw c.deref.ensures.value (c.in_ok-headers.ensures.has d are);
-    } in
-    none_broken d c.in_ok-line.line.url.now c.in_ok-line.ensures.line.url (c.in_ok-body.ensures.unbroken d may) c.in_ok-reference.ensures.plain c.in_ok-reference.ensures.unbroken
+    let line = c.in-Some.ensures.line in
+    let has = (rw c.in-Some-3.is at c.in_ok-headers.ensures.has) d are in
+    let parts : HasParts d c.of-members.result c.in-Some.line.method (map lent_header c.deref.result.now) = record { are = are; has_method = line.method; has_headers = rw c.deref.ensures.value has } in
+    none_broken d c.in-Some.line (texts_in c.in-Some-2.names.items) (map lent_header c.in-Some-3.headers.items) line (rw c.in-Some-2.is at (c.in_ok-names.ensures d are)) has
+    (c.in_ok-may_have_body.ensures.fits c.if-not-branch.false d parts) (rw c.in-Some-4.is at c.in_ok-reference.ensures.plain) (rw c.in-Some-4.is at c.in_ok-reference.ensures.fits)
 
 pub returns-clause-says : goal.returns-clause-says
 returns-clause-says c =
     let d = view c.args.element.now in
-    let line = c.in_ok-line.ensures.line in
+    let line = c.in-Some.ensures.line in
     let are = c.of-members.ensures in
     record {
       id = line.id;
       method = line.method;
       url = line.url;
       group = line.group;
-      names = c.in_ok-names.ensures.names d are;
-      reference = c.in_ok-reference.ensures.refers;
-      headers = c.in_ok-headers.ensures.has d are;
-      body = sym (c.in_ok-body.ensures.body d are);
+      names = sym (rw c.in-Some-2.is at (c.in_ok-names.ensures d are));
+      reference = rw c.in-Some-4.is at c.in_ok-reference.ensures.refers;
+      headers = (rw c.in-Some-3.is at c.in_ok-headers.ensures.has) d are;
+      body = sym (c.given.ensures ∙ ap given are.body);
     }
 
 pub invariant_of-result-clause-names_apart : goal.invariant_of-result-clause-names_apart
 invariant_of-result-clause-names_apart c =
     let d = view c.args.element.now in
-    IsDistinct-listed (texts_in c.in_ok-names.names.items) (listed_names d) (sym (c.in_ok-names.ensures.names d c.of-members.ensures))
+    IsDistinct-listed (texts_in c.in-Some-2.names.items) (listed_names d) (rw c.in-Some-2.is at (c.in_ok-names.ensures d c.of-members.ensures))

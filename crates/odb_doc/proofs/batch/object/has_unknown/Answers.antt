@@ -2,7 +2,7 @@ use Rattle.std.proofs.Common.{◌∙◌, sym, rules}
 use Rattle.serde_json.specs.View.{view}
 use Rattle.odb_doc.specs.Members.{is_unknown, document_names}
 use Rattle.odb_doc.proofs.MemberLemmas.{list_any-names_in}
-use Rattle.odb_doc.proofs.batch.has_unknown.Goals as goal
+use Rattle.odb_doc.proofs.batch.object.has_unknown.Goals as goal
 
 pub returns-in-Some : goal.returns-in-Some
 returns-in-Some c =
