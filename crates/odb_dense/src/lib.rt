@@ -1,16 +1,18 @@
 //! Sets, lists by key and worklists over the numbers below a bound.
 //!
-//! Only `new` and `of` allocate. After that `least` and `greatest` look at one word for each 4,096
+//! Only `new`, `of` and [`none_for_each`] allocate. After that `least` and `greatest` look at one word for each 4,096
 //! numbers of the bound and at one word more, whatever the set holds, and every other call takes
 //! constant time: `as_slice` and `row` borrow what is there.
 #![tactic(auto)]
 
+mod absent;
 mod bits;
 mod min_max_set;
 mod rows;
 mod sparse_set;
 mod worklist;
 
+pub use absent::none_for_each;
 pub use min_max_set::MinMaxSet;
 pub use rows::Rows;
 pub use worklist::{Mark, Worklist};

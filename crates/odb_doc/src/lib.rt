@@ -8,8 +8,7 @@
 //! [`Outcomes::read`] makes recorded outcomes of the value of a document of their own, and
 //! [`Outcomes::split`] returns what remains of it too; an [`Outcome`] is what a service answered.
 //! [`Events::read`] and [`Events::split`] do so for recorded events. [`is_whole`] returns whether a
-//! value can be written, and [`nests_within`] whether it nests no deeper than a limit. [`status`] says what a
-//! status means, and [`text`] appends pieces of JSON text.
+//! value can be written. [`status`] says what a status means, and [`text`] appends pieces of JSON text.
 #![tactic(auto)]
 
 mod batch;
@@ -20,7 +19,6 @@ mod fault;
 mod headers;
 pub mod laws;
 mod member;
-mod nesting;
 mod recorded;
 mod refusal;
 mod repeats;
@@ -34,7 +32,6 @@ pub use batch::request::Request;
 pub use document::{MAX_DOCUMENT_BYTES, parse};
 pub use fault::{DocFault, DocumentRule, Place, RequestRule, TextFault};
 pub use member::{array_at, text_at};
-pub use nesting::nests_within;
 pub use recorded::event::NamedEvent;
 pub use recorded::event_fault::{EventFault, EventRule};
 pub use recorded::events::Events;

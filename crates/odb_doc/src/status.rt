@@ -3,6 +3,9 @@
 ghost use Rattle.std.specs.Prelude.{◌≡◌};
 ghost use Rattle.odb_doc.specs.Statuses as statuses;
 
+/// 424 Failed Dependency: the request was not performed, or was undone.
+pub const FAILED_DEPENDENCY: u16 = 424;
+
 /// Returns whether a status is a success, which is 200 to 299.
 pub fn is_success(status: u16) -> bool
     ensures { result ≡ statuses.is_success status }

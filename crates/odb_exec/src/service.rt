@@ -1,6 +1,6 @@
 //! What performs the requests of an execution: a service, or a record of outcomes.
 
-ghost use Rattle.std.specs.Prelude.{◌≡◌, ◌<◌, ℕ, None, Some, length, map, replicate, slice_set, IfOk, Err, String};
+ghost use Rattle.std.specs.Prelude.{◌≡◌, ◌<◌, ℕ, None, Some, length, map, slice_set, IfOk, Err, String};
 ghost use Rattle.std.specs.declared.alloc.Global.{Global};
 ghost use Rattle.odb_check.specs.Plans.{plan_records};
 ghost use Rattle.odb_exec.specs.Recordings.{recorded_for, noted_at};
@@ -9,6 +9,7 @@ ghost use Rattle.odb_doc.specs.recorded.Outcomes.{recorded};
 ghost use Rattle.odb_doc.specs.recorded.OutcomeLists.{entries};
 
 use odb_check::Plan;
+use odb_dense::none_for_each;
 use odb_doc::{Outcome, Outcomes, Request};
 use std::alloc::{AllocError, Global};
 use std::marker::Model;
@@ -78,17 +79,6 @@ impl Model for Recorded {
     ghost coded = { Prim.hlevel (codes, outcome.the_row.coded) };
 
     ghost view = { λ s. s.outcomes.items };
-}
-
-/// Returns a list of so many absent outcomes.
-fn none_for_each(alloc: Global, count: u32) -> Result<Vec<Option<Outcome>>, AllocError>
-    ensures { IfOk result (λ outcomes. outcomes.items ≡ replicate count None) }
-{
-    let mut outcomes = Vec::with_capacity(alloc, count as usize)?;
-    for _ in 0..count {
-        outcomes.push(None)?;
-    }
-    Ok(outcomes)
 }
 
 /// Records the outcome of the request with this id. An id that the plan does not have is ignored.

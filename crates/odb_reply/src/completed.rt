@@ -10,11 +10,8 @@ ghost use Rattle.odb_reply.specs.ResponseDocuments.{entries, entry_of};
 use crate::responses::{Response, Responses};
 use odb_check::Plan;
 use odb_doc::Request;
-use odb_doc::status::is_error;
+use odb_doc::status::{FAILED_DEPENDENCY, is_error};
 use std::alloc::{AllocError, Global};
-
-/// The status of a request that was not performed.
-const FAILED_DEPENDENCY: u16 = 424;
 
 /// Returns whether a response has a status from 400 to 599.
 fn has_error(responses: &[Response<'_>]) -> bool

@@ -13,11 +13,8 @@ use crate::fits::units_of;
 use crate::status_fault::{StatusFault, StatusRule};
 use crate::table::Table;
 use odb_check::{Need, Plan};
-use odb_doc::status::{is_status, is_success};
+use odb_doc::status::{FAILED_DEPENDENCY, is_status, is_success};
 use std::alloc::{AllocError, Global};
-
-/// The status of a request that was not performed, or was undone.
-const FAILED_DEPENDENCY: u16 = 424;
 
 /// Returns whether a dependency of request `i` can have reported a success.
 fn can_have_succeeded(

@@ -3,6 +3,7 @@
 ghost use Rattle.std.specs.Prelude.{◌≡◌};
 
 use odb_doc::Outcome;
+use odb_doc::status::FAILED_DEPENDENCY;
 
 /// The answer to a request of a finished run (OData JSON Format 4.01, section 19.5).
 #[derive(Clone, Copy, Debug)]
@@ -24,7 +25,7 @@ impl Answer<'_> {
     {
         match self {
             Answer::Reported(outcome) => outcome.status,
-            Answer::FailedDependency => 424,
+            Answer::FailedDependency => FAILED_DEPENDENCY,
         }
     }
 }

@@ -1,6 +1,6 @@
 //! A finished run beside its plan.
 
-ghost use Rattle.std.specs.Prelude.{All, option_map, ℕ, ◌≡◌, ◌<◌, ◌↔◌, true, false, length, IfOk, IfSome, IsSome};
+ghost use Rattle.std.specs.Prelude.{All, option_map, ℕ, ◌≡◌, ◌<◌, true, false, length, IfOk};
 ghost use Rattle.odb_check.specs.Plans.{plan_records};
 ghost use Rattle.odb_sched.specs.declared.policy.Mode.TheVariants.{Continue};
 ghost use Rattle.odb_sched.specs.run.State as state;
@@ -14,18 +14,11 @@ use odb_doc::Outcome;
 use std::alloc::{AllocError, Global};
 use std::marker::Model;
 
-/// A run that is owned or lent.
-#[derive(Drop)]
-pub(crate) enum Held<'p> {
-    Own(OwnedRun),
-    Lent(&'p OwnedRun),
-}
-
 /// A finished run, with its answers (OData JSON Format 4.01, section 19.5).
 #[derive(Drop)]
 pub struct Done<'p> {
     pub(crate) plan: &'p Plan<'p>,
-    pub(crate) run: Held<'p>,
+    pub(crate) run: OwnedRun,
 }
 
 impl<'p> Model for Done<'p> {
@@ -52,34 +45,12 @@ impl<'p> Done<'p> {
     ghost use Rattle.odb_sched.specs.run.Answers as answers;
     ghost use Rattle.odb_doc.specs.Statuses.{is_status};
 
-    /// Returns a finished run beside a plan, or `None` if the run is not finished or its numbers are not
-    /// those of the plan: which unit each request belongs to, and what each needs, in order.
-    ///
-    /// Costs O(requests + dependencies), and copies nothing.
-    pub fn of<'a: 'p>(plan: &'p Plan<'a>, run: &'p OwnedRun) -> Option<Done<'p>>
-        ensures some { IsSome result ↔ ((steps.is_finished run.now ≡ true)
-            × (run.now.plan_graph ≡ state.plan_graph plan.now)) }
-        ensures state { IfSome result (λ done. done
-            ≡ state.with_requests (plan_records plan.now) run.now) }
-    {
-        if !run.is_finished() || !run.is_of(plan) {
-            return None;
-        }
-        Some(Done {
-            plan,
-            run: Held::Lent(run),
-        })
-    }
-
     /// Returns the run without its plan.
     pub fn run(&self) -> &OwnedRun
         ensures state { state.with_requests self.now.requests result.now ≡ self.now }
         ensures finished { steps.is_finished result.now ≡ true }
     {
-        match &self.run {
-            Held::Own(run) => run,
-            Held::Lent(run) => run,
-        }
+        &self.run
     }
 
     /// Returns a plan of the requests that were run, with the units and needs of the plan that was run.

@@ -1,13 +1,13 @@
 //! The numbers of a plan, and which requests depend on which.
 
-ghost use Rattle.std.specs.Prelude.{◌≡◌, ℕ, ◌<◌, ◌≤◌, ◌+◌, ◌++◌, ◌↔◌, [], All, length, slice_index_or, IfOk, OnOk, IsTrue};
+ghost use Rattle.std.specs.Prelude.{◌≡◌, ℕ, ◌<◌, ◌≤◌, ◌+◌, ◌++◌, [], All, length, slice_index_or, IfOk, OnOk};
 ghost use Rattle.odb_check.specs.Plans.{plan_graph};
 ghost use Rattle.odb_check.specs.PlanGraph as plan_graphs;
 ghost use Rattle.odb_check.specs.PlanGraph.{IsNeed, IsSpan};
 ghost use Rattle.odb_sched.specs.run.State.{members_in};
 ghost use Rattle.odb_sched.specs.invariants.Dependents.{AreDependents};
 ghost use Rattle.odb_sched.specs.invariants.Dependents as needed;
-ghost use Rattle.odb_sched.specs.invariants.Graphs.{AreAlike, AreSpans, need_pairs, all_pairs};
+ghost use Rattle.odb_sched.specs.invariants.Graphs.{AreSpans, need_pairs, all_pairs};
 
 use odb_check::laws::every_plan;
 use odb_check::{Need, Needs, Plan};
@@ -196,31 +196,5 @@ impl Graph {
         ensures within { All (λ j. j < length self.now.plan_graph.units) result.now }
     {
         self.dependents.row(self.len() + u)
-    }
-
-    /// Returns whether a request has the same unit and the same needs in a plan.
-    fn is_alike(&self, plan: &Plan<'_>, i: u32) -> bool
-        requires here { i < length self.now.plan_graph.units }
-        requires there { i < length (plan_graph plan.now).units }
-        ensures { IsTrue result ↔ AreAlike self.now.plan_graph (plan_graph plan.now) i }
-    {
-        self.unit_of(i) == plan.unit_of(i) && self.needs(i) == plan.needs(i)
-    }
-
-    /// Returns whether these are the numbers of a plan.
-    pub fn is_of(&self, plan: &Plan<'_>) -> bool
-        ensures { IsTrue result ↔ (self.now.plan_graph ≡ plan_graph plan.now) }
-    {
-        every_plan(plan);
-        self.laws();
-        if self.len() != plan.len() || self.unit_count() != plan.unit_count() {
-            return false;
-        }
-        for i in 0..plan.len() {
-            if !self.is_alike(plan, i) {
-                return false;
-            }
-        }
-        true
     }
 }

@@ -33,8 +33,7 @@ use std::marker::Model;
 /// the outcomes that were reported (OData Protocol 4.01, section 11.7).
 ///
 /// It knows its requests by their positions alone. So it outlives the document and the plan that it
-/// was made for, and [`crate::Done::of`] shows it beside a plan again when it is finished. Its calls cost
-/// what those of a scheduler do.
+/// was made for. Its calls cost what those of a scheduler do.
 #[derive(Drop)]
 pub struct OwnedRun {
     graph: Graph,
@@ -102,13 +101,6 @@ impl OwnedRun {
         ensures { result ≡ (state.size self.now == 0) }
     {
         self.graph.len() == 0
-    }
-
-    /// Returns whether the numbers of the run are those of a plan.
-    pub(crate) fn is_of(&self, plan: &Plan<'_>) -> bool
-        ensures { IsTrue result ↔ (self.now.plan_graph ≡ state.plan_graph plan.now) }
-    {
-        self.graph.is_of(plan)
     }
 
     /// Returns whether the unit of a request has failed.

@@ -11,7 +11,7 @@ ghost use Rattle.odb_sched.specs.run.Steps.{IsStartCause, IsReportCause};
 ghost use Rattle.odb_sched.specs.run.Choosing.{IsNext, AllowsOrder};
 ghost use Rattle.odb_sched.specs.run.Laws as laws;
 
-use crate::done::{Done, Held};
+use crate::done::Done;
 use crate::event::Step;
 use crate::laws::every_start;
 use crate::order::Order;
@@ -72,8 +72,6 @@ impl<'p> Scheduler<'p> {
     }
 
     /// Returns the run without its requests.
-    ///
-    /// Example: `ended` in crates/odb_tests/src/runs/ends.rt.
     pub fn into_owned(self) -> OwnedRun
         ensures state { result ≡ state.without_requests self.entry }
         ensures going { result.closed ≡ false }
@@ -168,7 +166,7 @@ impl<'p> Scheduler<'p> {
     {
         let done = Done {
             plan: self.plan,
-            run: Held::Own(self.run),
+            run: self.run,
         };
         done.laws();
         done

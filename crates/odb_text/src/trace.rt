@@ -7,6 +7,7 @@ ghost use Rattle.odb_sched.specs.run.State.{size};
 ghost use Rattle.odb_sched.specs.run.Choosing.{position_in};
 ghost use Rattle.odb_text.specs.Traces as traces;
 
+use odb_doc::status::FAILED_DEPENDENCY;
 use odb_exec::Trace;
 use odb_sched::{Done, Step};
 use std::alloc::{AllocError, Global};
@@ -19,7 +20,7 @@ fn reported_status(done: &Done<'_>, i: u32) -> u16
 {
     match done.reported(i) {
         Some(outcome) => outcome.status,
-        None => 424,
+        None => FAILED_DEPENDENCY,
     }
 }
 

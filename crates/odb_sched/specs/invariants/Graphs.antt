@@ -1,17 +1,13 @@
 -- How a graph keeps the numbers of a plan, and the needs of a plan as pairs of what is needed and the request that needs it.
-use Rattle.std.specs.Prelude.{◌≡◌, ℕ, ◌<◌, List, length, slice_index_or, map}
+use Rattle.std.specs.Prelude.{ℕ, ◌<◌, List, length, slice_index_or, map}
 use Rattle.odb_check.specs.Firsts.{joined_below}
-use Rattle.odb_check.specs.PlanGraph.{PlanGraph, IsPlan, IsSpan, unit_of, needs_of}
+use Rattle.odb_check.specs.PlanGraph.{PlanGraph, IsPlan, IsSpan, needs_of}
 use Rattle.odb_sched.specs.declared.graph.Graph.TheInside.{Inside}
 use Rattle.odb_sched.specs.invariants.Dependents.{Numbers, AreDependents, key_of}
 
 -- each unit has the positions from one number up to another
 abbrev pub AreSpans : PlanGraph → List (ℕ × ℕ) → Type 0
 AreSpans plan members = (u : ℕ) → u < plan.unit_count → IsSpan plan u (slice_index_or members u (0, 0)).0 (slice_index_or members u (0, 0)).1
-
--- a request has the same unit and the same needs in two plans
-abbrev pub AreAlike : PlanGraph → PlanGraph → ℕ → Type 0
-AreAlike plan other i = (unit_of plan i ≡ unit_of other i) × (needs_of plan i ≡ needs_of other i)
 
 -- the units and needs that these lists keep
 abbrev pub plan_graph_kept : Inside → PlanGraph

@@ -15,8 +15,6 @@ use Rattle.odb_check.specs.Plans.{plan_records}
 use Rattle.odb_sched.specs.declared.owned.OwnedRun.TheInside.{Inside}
 use Rattle.odb_sched.specs.declared.scheduler.Scheduler.TheInside as scheduler
 use Rattle.odb_sched.specs.declared.done.Done.TheInside as done
-use Rattle.odb_sched.specs.declared.done.Held.{Held}
-use Rattle.odb_sched.specs.declared.done.Held.TheVariants.{Own, Lent}
 use Rattle.odb_sched.specs.invariants.Counts.{AreCounts}
 use Rattle.odb_sched.specs.invariants.Lanes.{AreLanes}
 use Rattle.odb_sched.specs.invariants.Openings.{AreOpenings}
@@ -68,16 +66,11 @@ pub record IsDriven (s : scheduler.Inside) : Type 0 where
   pub going : s.run.closed ≡ false
   pub one_by_one : spare_in s.run.awaited ≡ 0
 
--- the state of a run that is owned or lent
-abbrev pub held_state : Held → State
-held_state (Own run) = run
-held_state (Lent run) = run.now
-
 -- the state in which a run has ended, of the requests of its plan
 abbrev pub last_state : done.Inside → State
-last_state d = with_requests (plan_records d.plan.now) (held_state d.run)
+last_state d = with_requests (plan_records d.plan.now) d.run
 
 -- the run is finished, and its numbers are those of the plan
 pub record HasFinished (d : done.Inside) : Type 0 where
-  pub of_plan : (held_state d.run).plan_graph ≡ plan_graph d.plan.now
-  pub finished : is_finished (held_state d.run) ≡ true
+  pub of_plan : d.run.plan_graph ≡ plan_graph d.plan.now
+  pub finished : is_finished d.run ≡ true

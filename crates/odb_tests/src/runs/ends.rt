@@ -1,6 +1,5 @@
 //! How finished runs end.
 
-use odb_check::Plan;
 use odb_sched::{Done, Scheduler};
 use std::alloc::Global;
 
@@ -14,16 +13,12 @@ pub trait OnDone {
     fn holds(&self, alloc: Global, done: &Done<'_>) -> bool;
 }
 
-/// Whether a run of a plan ended as is asked for, if it is finished: it is shown beside the plan.
-pub fn ended<T: OnDone>(
-    alloc: Global,
-    plan: &Plan<'_>,
-    scheduler: Scheduler<'_>,
-    task: &T,
-) -> Option<bool> {
-    let run = scheduler.into_owned();
-    let done = Done::of(plan, &run)?;
-    Some(task.holds(alloc, &done))
+/// Whether a run ended as is asked for, if it is finished.
+pub fn ended<T: OnDone>(alloc: Global, scheduler: Scheduler<'_>, task: &T) -> Option<bool> {
+    if !scheduler.is_finished() {
+        return None;
+    }
+    Some(task.holds(alloc, &scheduler.close()))
 }
 
 /// Whether the requests of a finished run are answered with these statuses.

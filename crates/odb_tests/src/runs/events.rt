@@ -81,7 +81,7 @@ impl Row {
             Ok(mut scheduler) => {
                 are_allowed(alloc, plan, &mut scheduler, self.events)
                     && is_shown(&scheduler, self.views)
-                    && ended(alloc, plan, scheduler, self).unwrap_or(self.end.is_none())
+                    && ended(alloc, scheduler, self).unwrap_or(self.end.is_none())
             }
             Err(_) => false,
         }

@@ -113,7 +113,7 @@ impl Runs {
         match Scheduler::new(alloc, plan, self.policy) {
             Ok(mut scheduler) => {
                 let taken = events_taken(alloc, plan, &mut scheduler, &mut plain, events);
-                match ended(alloc, plan, scheduler, &plain) {
+                match ended(alloc, scheduler, &plain) {
                     Some(false) => Taken::Otherwise,
                     _ => taken,
                 }
