@@ -6,13 +6,13 @@ use Rattle.odb_doc.specs.AllFaults.{IsBefore, ListsAll}
 use Rattle.odb_doc.specs.LeastRules.{NoneBroken}
 use Rattle.odb_doc.specs.batch.Records.{Record}
 use Rattle.odb_doc.proofs.ElementLemmas.{Contains-head}
-use Rattle.odb_doc.proofs.ListedLemmas.{contains_none, first_least, lists_all, lists_on, lists_push, lists_skip, number_at}
+use Rattle.odb_doc.proofs.ListedLemmas.{NoneBelow, contains_none, first_least, least_at, lists_all, lists_on, lists_push, lists_skip, none_more, number_at}
 use Rattle.odb_check.specs.AllNameFaults.{AreNameFaults, IsNameFault, name_place}
 use Rattle.odb_check.specs.FaultTable.{number, phase}
 use Rattle.odb_check.specs.LeastNameFault.{HasGoodNames, RefusesNames}
 use Rattle.odb_check.specs.NameFaults.{IsBrokenAt}
 use Rattle.odb_check.specs.PhaseFaults.{IsPhaseFault, ListsPhase}
-use Rattle.odb_check.specs.Walks.{BreaksIn, HasValidIds}
+use Rattle.odb_check.specs.Walks.{BreaksFirst, BreaksIn, BreaksNone, HasValidIds}
 use Rattle.odb_check.specs.declared.fault.CheckFault.{CheckFault}
 use Rattle.odb_check.specs.declared.fault.CheckFault.TheVariants as faults
 use Rattle.odb_check.specs.declared.fault.NameRule.{NameRule}
@@ -127,6 +127,35 @@ phase_inside ph rs n long faults.OutOfMemory bad = absurd bad
 
 pub phase_all : (ph : ℕ) (rs : List Record) (n : ℕ) (listed : List CheckFault) → length rs ≤ n → ListsPhase ph rs (n, 0) listed → ListsAll name_place (IsPhaseFault ph rs) listed
 phase_all ph rs n listed long lists = lists_all name_place (IsPhaseFault ph rs) (n, 0) listed lists (phase_inside ph rs n long)
+
+-- ---- the first rule that one request breaks
+
+id_number_from : (rule : NameRule) → phase rule ≡ 3 → 30 ≤ number rule
+id_number_from rule is = search rules
+
+pub id_before_all : (rs : List Record) (i : ℕ) → NoneBelow number (λ rule. BreaksIn 3 rs rule i) 30
+id_before_all rs i other less broken = omega (arith, less, id_number_from other broken.0)
+
+pub id_unbroken : (rs : List Record) (i k : ℕ) → k < 3 → ¬ BreaksIn 3 rs (id_rule k) i → NoneBelow number (λ rule. BreaksIn 3 rs rule i) (30 + k) → NoneBelow number (λ rule. BreaksIn 3 rs rule i) (30 + (k + 1))
+id_unbroken rs i k less = none_more number (λ rule. BreaksIn 3 rs rule i) same_rule 30 k (id_rule k) (id_number k less)
+
+pub id_least : (rs : List Record) (i k : ℕ) → k < 3 → BreaksIn 3 rs (id_rule k) i → NoneBelow number (λ rule. BreaksIn 3 rs rule i) (30 + k) → BreaksFirst 3 rs i (id_rule k)
+id_least rs i k less = least_at number (λ rule. BreaksIn 3 rs rule i) (30 + k) (id_rule k) (id_number k less)
+
+pub id_none : (rs : List Record) (i : ℕ) → NoneBelow number (λ rule. BreaksIn 3 rs rule i) 33 → BreaksNone 3 rs i
+id_none rs i none rule broken = none rule (id_number_within rule broken.0) broken
+
+pub dependency_before_all : (rs : List Record) (i : ℕ) → NoneBelow number (λ rule. BreaksIn 4 rs rule i) 40
+dependency_before_all rs i other less broken = omega (arith, less, number_from other broken.0)
+
+pub dependency_unbroken : (rs : List Record) (i k : ℕ) → k < 7 → ¬ BreaksIn 4 rs (dependency_rule k) i → NoneBelow number (λ rule. BreaksIn 4 rs rule i) (40 + k) → NoneBelow number (λ rule. BreaksIn 4 rs rule i) (40 + (k + 1))
+dependency_unbroken rs i k less = none_more number (λ rule. BreaksIn 4 rs rule i) same_rule 40 k (dependency_rule k) (dependency_number k less)
+
+pub dependency_least : (rs : List Record) (i k : ℕ) → k < 7 → BreaksIn 4 rs (dependency_rule k) i → NoneBelow number (λ rule. BreaksIn 4 rs rule i) (40 + k) → BreaksFirst 4 rs i (dependency_rule k)
+dependency_least rs i k less = least_at number (λ rule. BreaksIn 4 rs rule i) (40 + k) (dependency_rule k) (dependency_number k less)
+
+pub dependency_none : (rs : List Record) (i : ℕ) → NoneBelow number (λ rule. BreaksIn 4 rs rule i) 47 → BreaksNone 4 rs i
+dependency_none rs i none rule broken = none rule (number_within rule) broken
 
 -- ---- both phases
 

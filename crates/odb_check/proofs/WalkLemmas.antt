@@ -22,7 +22,7 @@ use Rattle.odb_check.specs.Marks.{ones_with, groups_with, AreMarksOf}
 use Rattle.odb_check.specs.NameFaults.{IsBrokenAt}
 use Rattle.odb_check.specs.Needs.{need_of, further_names, needs_at}
 use Rattle.odb_check.specs.Positions.{names_at, reference_at}
-use Rattle.odb_check.specs.Walks.{BreaksIn, BreaksFirst, FailsAt, HasValidIds, further_needs, named_at}
+use Rattle.odb_check.specs.Walks.{BreaksIn, FailsAt, HasValidIds, further_needs, named_at}
 use Rattle.odb_check.proofs.AnyLemmas.{Contains-none}
 use Rattle.odb_check.proofs.MarkLemmas.{marks_more}
 use Rattle.odb_check.proofs.NameLemmas.{meant_known, unknown}
@@ -100,10 +100,6 @@ two_phases rule = search rules
 
 pub broken_inside : (rs : List Record) (rule : NameRule) (i : ℕ) → IsBrokenAt rule rs i → i < length rs
 broken_inside rs rule i h = grind (arith, slice_get_cases rs i, Contains-none)
-
--- F40 is the first rule on names
-pub unknown_least : (rs : List Record) (i : ℕ) → IsBrokenAt UnknownName rs i → BreaksFirst 4 rs i UnknownName
-unknown_least rs i broken_here = record { broken = (refl, broken_here); least = λ other less broken. omega (arith, less, broken.0) }
 
 pub names_refused : (rs : List Record) (i : ℕ) → HasValidIds rs → ((rule : NameRule) (k : ℕ) → k < i → ¬ BreaksIn 4 rs rule k) → (fault : CheckFault) → FailsAt 4 rs i fault → RefusesNames fault rs
 names_refused rs i sound before faults.OutOfMemory fails = tt

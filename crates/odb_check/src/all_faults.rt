@@ -10,34 +10,16 @@ ghost use Rattle.odb_check.specs.PhaseFaults.{IsPhaseFault, ListsPhase};
 ghost use Rattle.odb_check.specs.Requests.{requests};
 ghost use Rattle.odb_check.specs.Walks.{HasValidIds};
 
-use crate::fault::{CheckFault, NameRule};
-use crate::ids::breaks;
+use crate::fault::CheckFault;
+use crate::ids::{ID_RULES, breaks};
 use crate::marks::Marks;
-use crate::names::Resolved;
+use crate::names::{DEPENDENCY_RULES, Resolved};
 use crate::need::Need;
 use crate::seed::Seed;
 use crate::tables::{Tables, tables_of};
 use crate::walk::resolve_names;
 use odb_doc::Batch;
 use std::alloc::{AllocError, Global};
-
-/// The rules of ids and groups, by number.
-const ID_RULES: &'static [NameRule] = &[
-    NameRule::IdTwice,
-    NameRule::IdIsGroup,
-    NameRule::GroupSplit,
-];
-
-/// The rules of dependencies and references, by number.
-const DEPENDENCY_RULES: &'static [NameRule] = &[
-    NameRule::UnknownName,
-    NameRule::ForwardName,
-    NameRule::OwnGroup,
-    NameRule::GroupNotListed,
-    NameRule::UnknownReference,
-    NameRule::ForwardReference,
-    NameRule::ReferenceNotListed,
-];
 
 /// Appends the faults of the id and the group of a request to those of the requests before it.
 fn push_id_faults(

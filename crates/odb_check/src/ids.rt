@@ -1,6 +1,6 @@
 //! The rules of ids and groups: F30, F31 and F32.
 
-ghost use Rattle.std.specs.Prelude.{IsTrue, ◌↔◌, ◌≡◌, ◌<◌, length, None, IsSome, IfSome, OnOk, IfErr};
+ghost use Rattle.std.specs.Prelude.{IsTrue, ◌↔◌, ◌≡◌, ◌<◌, false, length, IsSome, IfNone, IfSome, OnOk, IfErr};
 ghost use Rattle.odb_check.specs.FaultTable.{check_row};
 ghost use Rattle.odb_check.specs.LeastNameFault.{RefusesNames};
 ghost use Rattle.odb_check.specs.NameFaults.{IsBrokenAt};
@@ -10,6 +10,13 @@ ghost use Rattle.odb_check.specs.declared.fault.NameRule.TheVariants as rules;
 
 use crate::fault::{CheckFault, NameRule};
 use crate::tables::Tables;
+
+/// The rules of ids and groups, by number.
+pub(crate) const ID_RULES: &'static [NameRule] = &[
+    NameRule::IdTwice,
+    NameRule::IdIsGroup,
+    NameRule::GroupSplit,
+];
 
 /// F30: whether an earlier request has the same identifier.
 fn repeats_id(tables: &Tables<'_>, i: u32) -> bool
@@ -41,24 +48,6 @@ fn splits_group(tables: &Tables<'_>, i: u32) -> bool
     tables.begin_of(i) < i && tables.unit_of(i - 1) != tables.unit_of(i)
 }
 
-/// The first rule on identifiers and groups that the request breaks.
-fn broken_id(tables: &Tables<'_>, i: u32) -> Option<NameRule>
-    requires { i < length (requests tables.now) }
-    ensures some { IfSome result (BreaksFirst 3 (requests tables.now) i) }
-    ensures none { result ≡ None → BreaksNone 3 (requests tables.now) i }
-{
-    if repeats_id(tables, i) {
-        return Some(NameRule::IdTwice);
-    }
-    if has_id_of_group(tables, i) {
-        return Some(NameRule::IdIsGroup);
-    }
-    if splits_group(tables, i) {
-        return Some(NameRule::GroupSplit);
-    }
-    None
-}
-
 /// Whether the request breaks the rule on identifiers and groups.
 pub(crate) fn breaks(tables: &Tables<'_>, i: u32, rule: NameRule) -> bool
     requires { i < length (requests tables.now) }
@@ -72,6 +61,41 @@ pub(crate) fn breaks(tables: &Tables<'_>, i: u32, rule: NameRule) -> bool
     }
 }
 
+/// The first rule on identifiers and groups that the request breaks.
+fn broken_rule(tables: &Tables<'_>, i: u32) -> Option<NameRule>
+    requires { i < length (requests tables.now) }
+    ensures some { IfSome result (BreaksFirst 3 (requests tables.now) i) }
+    ensures none { IfNone result (BreaksNone 3 (requests tables.now) i) }
+{
+    for rule in ID_RULES {
+        if breaks(tables, i, *rule) {
+            return Some(*rule);
+        }
+    }
+    None
+}
+
+/// Whether the request breaks one of the rules on identifiers and groups.
+fn breaks_any(tables: &Tables<'_>, i: u32) -> bool
+    requires { i < length (requests tables.now) }
+    ensures { result ≡ false → BreaksNone 3 (requests tables.now) i }
+{
+    repeats_id(tables, i) || has_id_of_group(tables, i) || splits_group(tables, i)
+}
+
+/// The first rule that the request breaks, which is looked for only if it breaks one.
+fn first_broken(tables: &Tables<'_>, i: u32) -> Option<NameRule>
+    requires { i < length (requests tables.now) }
+    ensures some { IfSome result (BreaksFirst 3 (requests tables.now) i) }
+    ensures none { IfNone result (BreaksNone 3 (requests tables.now) i) }
+{
+    if breaks_any(tables, i) {
+        broken_rule(tables, i)
+    } else {
+        None
+    }
+}
+
 /// Looks for the first request whose identifier or group breaks a rule.
 pub(crate) fn check_ids(tables: &Tables<'_>) -> Result<(), CheckFault>
     ensures valid_ids { OnOk result (HasValidIds (requests tables.now)) }
@@ -79,7 +103,7 @@ pub(crate) fn check_ids(tables: &Tables<'_>) -> Result<(), CheckFault>
     ensures numbered { IfErr result (λ fault. IsSome (check_row fault)) }
 {
     for i in 0..tables.len() {
-        if let Some(rule) = broken_id(tables, i) {
+        if let Some(rule) = first_broken(tables, i) {
             let at = i as usize;
             return Err(CheckFault::Request { at, rule });
         }

@@ -1,6 +1,6 @@
 //! The rules of `dependsOn` and of references, F40 to F46, for one request whose names are looked up.
 
-ghost use Rattle.std.specs.Prelude.{IsTrue, ◌↔◌, ◌≡◌, ◌<◌, ◌+◌, ◌⊎◌, ◌∷◌, [], ℕ, List, length, Some, None, IfSome, Contains, false};
+ghost use Rattle.std.specs.Prelude.{IsTrue, ◌↔◌, ◌≡◌, ◌<◌, ◌+◌, ◌⊎◌, ◌∷◌, [], ℕ, List, length, Some, None, IfNone, IfSome, Contains, false};
 ghost use Rattle.std.proofs.Props.{props};
 ghost use Rattle.odb_check.specs.Marks.{AreMarksOf};
 ghost use Rattle.odb_check.specs.NameFaults.{IsBrokenAt, IsMemberAlone, SomeName};
@@ -13,6 +13,17 @@ use crate::fault::NameRule;
 use crate::marks::Marks;
 use crate::need::Need;
 use crate::tables::Tables;
+
+/// The rules of dependencies and references, by number.
+pub(crate) const DEPENDENCY_RULES: &'static [NameRule] = &[
+    NameRule::UnknownName,
+    NameRule::ForwardName,
+    NameRule::OwnGroup,
+    NameRule::GroupNotListed,
+    NameRule::UnknownReference,
+    NameRule::ForwardReference,
+    NameRule::ReferenceNotListed,
+];
 
 /// A request of a batch whose identifiers and groups break no rule, once its names are looked up.
 #[derive(Clone, Copy)]
@@ -185,51 +196,6 @@ impl Resolved<'_, '_> {
         }
     }
 
-    /// The first rule on names that the request breaks. Most requests are passed after one look at each
-    /// name.
-    fn broken_by_name(&self) -> Option<NameRule>
-        requires { ¬ IsBrokenAt rules.UnknownName (batch_of self.now) self.now.i }
-        ensures some { IfSome result (BreaksFirst 4 (batch_of self.now) self.now.i) }
-        ensures later { result ≡ None → ¬ IsBrokenAt rules.ForwardName (batch_of self.now) self.now.i }
-        ensures own { result ≡ None → ¬ IsBrokenAt rules.OwnGroup (batch_of self.now) self.now.i }
-        ensures alone { result ≡ None → ¬ IsBrokenAt rules.GroupNotListed (batch_of self.now) self.now.i }
-    {
-        if !self.names_may_break() {
-            return None;
-        }
-        if self.names_later() {
-            return Some(NameRule::ForwardName);
-        }
-        if self.names_own_group() {
-            return Some(NameRule::OwnGroup);
-        }
-        if self.names_member_alone() {
-            return Some(NameRule::GroupNotListed);
-        }
-        None
-    }
-
-    /// The first rule on names and references that the request breaks.
-    pub(crate) fn broken_rule(&self) -> Option<NameRule>
-        requires { ¬ IsBrokenAt rules.UnknownName (batch_of self.now) self.now.i }
-        ensures some { IfSome result (BreaksFirst 4 (batch_of self.now) self.now.i) }
-        ensures none { result ≡ None → BreaksNone 4 (batch_of self.now) self.now.i }
-    {
-        if let Some(rule) = self.broken_by_name() {
-            return Some(rule);
-        }
-        if self.has_unknown_reference() {
-            return Some(NameRule::UnknownReference);
-        }
-        if self.has_forward_reference() {
-            return Some(NameRule::ForwardReference);
-        }
-        if self.lacks_reference() {
-            return Some(NameRule::ReferenceNotListed);
-        }
-        None
-    }
-
     /// Whether the request breaks the rule, of which F40 is broken if one of its names is unknown.
     pub(crate) fn breaks(&self, has_unknown: bool, rule: NameRule) -> bool
         requires { IsTrue has_unknown ↔ IsBrokenAt rules.UnknownName (batch_of self.now) self.now.i }
@@ -244,6 +210,60 @@ impl Resolved<'_, '_> {
             NameRule::UnknownReference => self.has_unknown_reference(),
             NameRule::ForwardReference => self.has_forward_reference(),
             NameRule::ReferenceNotListed => self.lacks_reference(),
+        }
+    }
+
+    /// The first rule on names and references that the request breaks.
+    fn broken_rule(&self, has_unknown: bool) -> Option<NameRule>
+        requires { IsTrue has_unknown ↔ IsBrokenAt rules.UnknownName (batch_of self.now) self.now.i }
+        ensures some { IfSome result (BreaksFirst 4 (batch_of self.now) self.now.i) }
+        ensures none { IfNone result (BreaksNone 4 (batch_of self.now) self.now.i) }
+    {
+        for rule in DEPENDENCY_RULES {
+            if self.breaks(has_unknown, *rule) {
+                return Some(*rule);
+            }
+        }
+        None
+    }
+
+    /// Whether a known name breaks a rule. Most requests are passed after one look at each name.
+    fn breaks_by_name(&self) -> bool
+        ensures later { result ≡ false → ¬ IsBrokenAt rules.ForwardName (batch_of self.now) self.now.i }
+        ensures own { result ≡ false → ¬ IsBrokenAt rules.OwnGroup (batch_of self.now) self.now.i }
+        ensures alone { result ≡ false → ¬ IsBrokenAt rules.GroupNotListed (batch_of self.now) self.now.i }
+    {
+        self.names_may_break()
+            && (self.names_later() || self.names_own_group() || self.names_member_alone())
+    }
+
+    /// Whether the reference breaks a rule.
+    fn breaks_by_reference(&self) -> bool
+        ensures unknown { result ≡ false → ¬ IsBrokenAt rules.UnknownReference (batch_of self.now) self.now.i }
+        ensures forward { result ≡ false → ¬ IsBrokenAt rules.ForwardReference (batch_of self.now) self.now.i }
+        ensures listed { result ≡ false → ¬ IsBrokenAt rules.ReferenceNotListed (batch_of self.now) self.now.i }
+    {
+        self.has_unknown_reference() || self.has_forward_reference() || self.lacks_reference()
+    }
+
+    /// Whether the request breaks one of the rules on names and references.
+    fn breaks_any(&self, has_unknown: bool) -> bool
+        requires { IsTrue has_unknown ↔ IsBrokenAt rules.UnknownName (batch_of self.now) self.now.i }
+        ensures { result ≡ false → BreaksNone 4 (batch_of self.now) self.now.i }
+    {
+        has_unknown || self.breaks_by_name() || self.breaks_by_reference()
+    }
+
+    /// The first rule that the request breaks, which is looked for only if it breaks one.
+    pub(crate) fn first_broken(&self, has_unknown: bool) -> Option<NameRule>
+        requires { IsTrue has_unknown ↔ IsBrokenAt rules.UnknownName (batch_of self.now) self.now.i }
+        ensures some { IfSome result (BreaksFirst 4 (batch_of self.now) self.now.i) }
+        ensures none { IfNone result (BreaksNone 4 (batch_of self.now) self.now.i) }
+    {
+        if self.breaks_any(has_unknown) {
+            self.broken_rule(has_unknown)
+        } else {
+            None
         }
     }
 

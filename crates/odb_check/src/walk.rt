@@ -11,7 +11,7 @@ ghost use Rattle.odb_check.specs.Requests.{requests};
 ghost use Rattle.odb_check.specs.Walks.{BreaksNone, FailsAt, HasValidIds, named_at};
 ghost use Rattle.odb_check.specs.declared.fault.NameRule.TheVariants as rules;
 
-use crate::fault::{CheckFault, NameRule};
+use crate::fault::CheckFault;
 use crate::marks::Marks;
 use crate::names::Resolved;
 use crate::need::Need;
@@ -77,18 +77,14 @@ fn resolve_needs(
         marks.new.groups.items) }
     ensures least { IfErr result (FailsAt 4 (requests tables.now) i) }
 {
-    if resolve_names(tables, i, tables.names(i), row, marks)? {
-        let at = i as usize;
-        let rule = NameRule::UnknownName;
-        return Err(CheckFault::Request { at, rule });
-    }
+    let has_unknown = resolve_names(tables, i, tables.names(i), row, marks)?;
     let resolved = Resolved {
         tables,
         i,
         named: row,
         marks,
     };
-    if let Some(rule) = resolved.broken_rule() {
+    if let Some(rule) = resolved.first_broken(has_unknown) {
         let at = i as usize;
         return Err(CheckFault::Request { at, rule });
     }

@@ -192,6 +192,7 @@ impl<'a> Asked<'a> {
             RequestRule::BadReference => self.has_bad_reference(alloc),
         }
     }
+
     /// Returns the first rule that the request breaks, if any.
     pub(crate) fn broken_rule(&self, alloc: Global) -> Result<Option<RequestRule>, AllocError>
         requires { HasMembers self.now }
