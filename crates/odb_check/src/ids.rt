@@ -61,20 +61,6 @@ pub(crate) fn breaks(tables: &Tables<'_>, i: u32, rule: NameRule) -> bool
     }
 }
 
-/// The first rule on identifiers and groups that the request breaks.
-fn broken_rule(tables: &Tables<'_>, i: u32) -> Option<NameRule>
-    requires { i < length (requests tables.now) }
-    ensures some { IfSome result (BreaksFirst 3 (requests tables.now) i) }
-    ensures none { IfNone result (BreaksNone 3 (requests tables.now) i) }
-{
-    for rule in ID_RULES {
-        if breaks(tables, i, *rule) {
-            return Some(*rule);
-        }
-    }
-    None
-}
-
 /// Whether the request breaks one of the rules on identifiers and groups.
 fn breaks_any(tables: &Tables<'_>, i: u32) -> bool
     requires { i < length (requests tables.now) }
@@ -83,17 +69,21 @@ fn breaks_any(tables: &Tables<'_>, i: u32) -> bool
     repeats_id(tables, i) || has_id_of_group(tables, i) || splits_group(tables, i)
 }
 
-/// The first rule that the request breaks, which is looked for only if it breaks one.
-fn first_broken(tables: &Tables<'_>, i: u32) -> Option<NameRule>
+/// The first rule on identifiers and groups that the request breaks.
+fn broken_rule(tables: &Tables<'_>, i: u32) -> Option<NameRule>
     requires { i < length (requests tables.now) }
     ensures some { IfSome result (BreaksFirst 3 (requests tables.now) i) }
     ensures none { IfNone result (BreaksNone 3 (requests tables.now) i) }
 {
-    if breaks_any(tables, i) {
-        broken_rule(tables, i)
-    } else {
-        None
+    if !breaks_any(tables, i) {
+        return None;
     }
+    for rule in ID_RULES {
+        if breaks(tables, i, *rule) {
+            return Some(*rule);
+        }
+    }
+    None
 }
 
 /// Looks for the first request whose identifier or group breaks a rule.
@@ -103,7 +93,7 @@ pub(crate) fn check_ids(tables: &Tables<'_>) -> Result<(), CheckFault>
     ensures numbered { IfErr result (λ fault. IsSome (check_row fault)) }
 {
     for i in 0..tables.len() {
-        if let Some(rule) = first_broken(tables, i) {
+        if let Some(rule) = broken_rule(tables, i) {
             let at = i as usize;
             return Err(CheckFault::Request { at, rule });
         }

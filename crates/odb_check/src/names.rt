@@ -213,20 +213,6 @@ impl Resolved<'_, '_> {
         }
     }
 
-    /// The first rule on names and references that the request breaks.
-    fn broken_rule(&self, has_unknown: bool) -> Option<NameRule>
-        requires { IsTrue has_unknown ↔ IsBrokenAt rules.UnknownName (batch_of self.now) self.now.i }
-        ensures some { IfSome result (BreaksFirst 4 (batch_of self.now) self.now.i) }
-        ensures none { IfNone result (BreaksNone 4 (batch_of self.now) self.now.i) }
-    {
-        for rule in DEPENDENCY_RULES {
-            if self.breaks(has_unknown, *rule) {
-                return Some(*rule);
-            }
-        }
-        None
-    }
-
     /// Whether a known name breaks a rule. Most requests are passed after one look at each name.
     fn breaks_by_name(&self) -> bool
         ensures later { result ≡ false → ¬ IsBrokenAt rules.ForwardName (batch_of self.now) self.now.i }
@@ -237,34 +223,34 @@ impl Resolved<'_, '_> {
             && (self.names_later() || self.names_own_group() || self.names_member_alone())
     }
 
-    /// Whether the reference breaks a rule.
-    fn breaks_by_reference(&self) -> bool
-        ensures unknown { result ≡ false → ¬ IsBrokenAt rules.UnknownReference (batch_of self.now) self.now.i }
-        ensures forward { result ≡ false → ¬ IsBrokenAt rules.ForwardReference (batch_of self.now) self.now.i }
-        ensures listed { result ≡ false → ¬ IsBrokenAt rules.ReferenceNotListed (batch_of self.now) self.now.i }
-    {
-        self.has_unknown_reference() || self.has_forward_reference() || self.lacks_reference()
-    }
-
     /// Whether the request breaks one of the rules on names and references.
     fn breaks_any(&self, has_unknown: bool) -> bool
         requires { IsTrue has_unknown ↔ IsBrokenAt rules.UnknownName (batch_of self.now) self.now.i }
         ensures { result ≡ false → BreaksNone 4 (batch_of self.now) self.now.i }
     {
-        has_unknown || self.breaks_by_name() || self.breaks_by_reference()
+        has_unknown
+            || self.breaks_by_name()
+            || self.has_unknown_reference()
+            || self.has_forward_reference()
+            || self.lacks_reference()
     }
 
-    /// The first rule that the request breaks, which is looked for only if it breaks one.
-    pub(crate) fn first_broken(&self, has_unknown: bool) -> Option<NameRule>
+    /// The first rule on names and references that the request breaks, of which F40 is broken if one of its
+    /// names is unknown.
+    pub(crate) fn broken_rule(&self, has_unknown: bool) -> Option<NameRule>
         requires { IsTrue has_unknown ↔ IsBrokenAt rules.UnknownName (batch_of self.now) self.now.i }
         ensures some { IfSome result (BreaksFirst 4 (batch_of self.now) self.now.i) }
         ensures none { IfNone result (BreaksNone 4 (batch_of self.now) self.now.i) }
     {
-        if self.breaks_any(has_unknown) {
-            self.broken_rule(has_unknown)
-        } else {
-            None
+        if !self.breaks_any(has_unknown) {
+            return None;
         }
+        for rule in DEPENDENCY_RULES {
+            if self.breaks(has_unknown, *rule) {
+                return Some(*rule);
+            }
+        }
+        None
     }
 
     /// The request that the URL refers to, unless `dependsOn` lists it.

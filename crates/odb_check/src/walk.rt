@@ -84,7 +84,7 @@ fn resolve_needs(
         named: row,
         marks,
     };
-    if let Some(rule) = resolved.first_broken(has_unknown) {
+    if let Some(rule) = resolved.broken_rule(has_unknown) {
         let at = i as usize;
         return Err(CheckFault::Request { at, rule });
     }
