@@ -27,7 +27,6 @@ NOT_ASKED = {
     "variant with its message": ("F07|F66", "a constant of odb_engine, and no variant"),
     "where code finds it": ("F07|F66", "the constant is used beside it"),
     "rule of docs/batches.md": (r"F07|F50|F6\d|F70|F[89]\d|[SP]\d", "no rule of batches"),
-    "test of its message": ("F07|F66", "it has no message"),
     "plain name": ("F8[12]", NOT_PRINTED),
     "plain rule": ("F8[12]", NOT_PRINTED),
     "case": ("F8[12]", NOT_PRINTED),
@@ -62,14 +61,13 @@ class Repository:
     """The texts in which faults have places."""
 
     def __init__(self):
-        self.sources = {path: text for path, text in files(SOURCES).items() if "/odb_tests/" not in path}
+        self.sources = {path: text for path, text in files(SOURCES).items() if "/odb_tests_" not in path}
         self.explained = {path: text for path, text in self.sources.items() if "/explain/" in path}
         self.code = {path: text for path, text in self.sources.items() if path not in self.explained}
         self.specs = files(SPECS)
         self.page, self.rules = files("docs/faults.md"), files("docs/batches.md")
-        self.tests, self.cases = files("crates/odb_tests/src/messages/*.rt"), files("tests/cases/*.txt")
-        self.plain = files("tests/support/rules*.py")
-        self.pages = {**self.page, **files("CONTRIBUTING.md"), **self.code, **self.tests, **self.specs}
+        self.cases, self.plain = files("tests/cases/*.txt"), files("tests/support/rules*.py")
+        self.pages = {**self.page, **files("CONTRIBUTING.md"), **self.code, **self.specs}
         self.variants = list(self.all_variants())
 
     def all_variants(self):
@@ -123,11 +121,6 @@ def test(repository, fault):
     return names and find(repository.code, rf"\b(?:{names})\b(?!(?: \{{[^}}]*\}}|\([^)]*\))? =>)")
 
 
-def message(repository, fault):
-    names = "|".join(f"{enum}::{variant}" for enum, variant in repository.variants_of(fault))
-    return names and find(repository.tests, rf"\b(?:{names})\b")
-
-
 def at(part, pattern):
     """Finds the pattern, with the code and the name of the fault in it, in one part of the repository."""
     return lambda repository, fault: find(getattr(repository, part), pattern.format(code=fault.code, name=fault.name))
@@ -148,7 +141,6 @@ PLACES = {
     "text of explain": at("explained", r'r#"{code} {name} '),
     "text for Python": binding("python/odb_batch/_explanations.py"),
     "text for Node": binding("node/explanations.json"),
-    "test of its message": message,
     "plain name": at("plain", r'\b{code}="{name}"'),
     "plain rule": at("plain", r'"{code}"'),
     "line of the list of explain": at("cases", r"^out {code} {name} "),

@@ -95,7 +95,7 @@ impl Plan<'_> {
     ///
     /// `alloc` is asked for the text alone. Returns `AllocError` if that allocation fails.
     ///
-    /// Example: `plan_text_of` in crates/odb_tests/src/laws/texts.rt.
+    /// Example: `plan_text_of` in crates/odb_tests_text/src/laws/texts.rt.
     pub fn text(&self, alloc: Global) -> Result<String, AllocError>
         ensures { IfOk result (λ text. string_bytes text
             ≡ texts.plan_text (plan_records self.now)) }

@@ -44,7 +44,7 @@ fn needs_and_levels(alloc: Global, tables: &Tables<'_>) -> Result<(Needs, Vec<u3
 /// O(1), and nobody can choose names that make it slow: this is the call for a gateway, which checks
 /// what strangers send. The answer does not depend on the seed.
 ///
-/// Example: `respond` in crates/odb_tests/src/examples/runs.rt.
+/// Example: `respond` in crates/odb_tests_engine/src/examples.rt.
 ///
 /// # Errors
 ///
@@ -74,7 +74,7 @@ pub fn check_with<'a: 'b, 'b>(
 /// A look-up among n names takes O(log n), whatever the names: no batch can make this call slow. If a
 /// random seed is available, [`check_with`] is faster.
 ///
-/// Example: `plan_text_of` in crates/odb_tests/src/laws/texts.rt.
+/// Example: `plan_text_of` in crates/odb_tests_text/src/laws/texts.rt.
 ///
 /// # Errors
 ///

@@ -133,7 +133,7 @@ impl<'a> Batch<'a> {
     /// It takes O(n log n) for a document of n bytes, whatever its names are: repeats are found by
     /// order and not by hash, so no choice of names makes it slow.
     ///
-    /// Example: `respond` in crates/odb_tests/src/examples/runs.rt.
+    /// Example: `respond` in crates/odb_tests_engine/src/examples.rt.
     ///
     /// # Errors
     ///

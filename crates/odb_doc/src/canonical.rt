@@ -59,7 +59,7 @@ impl Batch<'_> {
     /// Allocates the text, and the text of one body, or of one string with escapes, at a time. It takes
     /// O(n) for a text of n bytes.
     ///
-    /// Example: `cache_key` in crates/odb_tests/src/examples/replies.rt.
+    /// Example: `cache_key` in crates/odb_tests_text/src/examples.rt.
     ///
     /// # Errors
     ///

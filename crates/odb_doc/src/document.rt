@@ -15,7 +15,7 @@ pub const MAX_DOCUMENT_BYTES: usize = 16_777_216;
 
 /// Returns the JSON value of a document. It nests at most 127 deep.
 ///
-/// Example: `respond` in crates/odb_tests/src/examples/runs.rt.
+/// Example: `respond` in crates/odb_tests_engine/src/examples.rt.
 ///
 /// # Errors
 ///

@@ -76,7 +76,7 @@ impl Answer {
 /// Does a task on a batch document in memory, and on a second document if the task takes one: returns what
 /// is written, in the form of the setup. The documents are not copied.
 ///
-/// Example: `answered` in crates/odb_tests/src/laws/engines.rt.
+/// Example: `answered` in crates/odb_tests_tasks/src/laws/engines.rt.
 ///
 /// # Errors
 ///
@@ -99,7 +99,7 @@ pub fn answer_in_memory(
 /// Does a task on a line of a log, or plans it in full: returns what is written of the document in it, or of the two
 /// documents in it if the task takes two, in the form of the setup. The line may be any bytes; they are not copied.
 ///
-/// Example: `line_answered` in crates/odb_tests/src/laws/engines.rt.
+/// Example: `line_answered` in crates/odb_tests_tasks/src/laws/engines.rt.
 ///
 /// # Errors
 ///

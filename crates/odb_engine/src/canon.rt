@@ -36,7 +36,7 @@ pub fn canonical_text(alloc: Global, batch: &Batch<'_>) -> Result<String, Halt>
 /// [`crate::check_batch`]. Takes O(n log n) time for a document of n bytes, and the text is held in
 /// memory.
 ///
-/// Example: `called_plainly` in crates/odb_tests/src/engines.rt.
+/// Example: `called_plainly` in crates/odb_tests_tasks/src/engines.rt.
 ///
 /// # Errors
 ///

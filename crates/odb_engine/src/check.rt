@@ -40,7 +40,7 @@ pub fn counts_text(alloc: Global, plan: &Plan<'_>, form: Form) -> Result<String,
 ///
 /// Takes O(n log n) time and O(n) memory for a document of n bytes.
 ///
-/// Example: `check_line` in crates/odb_tests/src/examples/commands.rt.
+/// Example: `check_line` in crates/odb_tests_tasks/src/examples.rt.
 ///
 /// # Errors
 ///

@@ -54,7 +54,7 @@ fn answer_of<R: Read>(alloc: Global, input: &mut Input<R>, setup: Setup) -> Resu
 /// The input must be new, and the output must not have failed. The document and the text are held in memory. Takes
 /// O(n log n) time and O(n) memory for a document of n bytes.
 ///
-/// Example: `checked` in crates/odb_tests/src/engines/all_faults.rt.
+/// Example: `checked` in crates/odb_tests_engine/src/all_faults.rt.
 ///
 /// # Errors
 ///

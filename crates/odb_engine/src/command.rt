@@ -147,7 +147,7 @@ pub fn text_of<R: Source, S: Source, C: Command>(
 ///
 /// The sources must be new, and the output must not have failed. The text is held in memory and written whole.
 ///
-/// Example: `called_plainly` in crates/odb_tests/src/engines.rt.
+/// Example: `called_plainly` in crates/odb_tests_tasks/src/engines.rt.
 ///
 /// # Errors
 ///

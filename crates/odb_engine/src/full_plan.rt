@@ -79,7 +79,7 @@ fn full_plan_of<R: Read>(alloc: Global, input: &mut Input<R>, setup: Setup) -> R
 /// The input must be new, and the output must not have failed. The document and the text of the plan are held in
 /// memory. Takes O(n log n) time and O(n) memory for a document of n bytes.
 ///
-/// Example: `planned` in crates/odb_tests/src/engines/full_plans.rt.
+/// Example: `planned` in crates/odb_tests_engine/src/full_plans.rt.
 ///
 /// # Errors
 ///

@@ -122,7 +122,7 @@ fn open_on(
 /// is O(requests + dependencies), the ids and groups, and the outcomes that the events report. Their bodies
 /// are values.
 ///
-/// Example: `send_all` in crates/odb_tests/src/examples/runs.rt.
+/// Example: `send_all` in crates/odb_tests_engine/src/examples.rt.
 ///
 /// # Errors
 ///
@@ -172,7 +172,7 @@ impl LiveRun {
 
     /// Takes the outcome of a running request.
     ///
-    /// Example: `send_next` in crates/odb_tests/src/examples/runs.rt.
+    /// Example: `send_next` in crates/odb_tests_engine/src/examples.rt.
     ///
     /// # Errors
     ///

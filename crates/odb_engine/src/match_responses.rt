@@ -122,7 +122,7 @@ pub fn matched(
 ///
 /// Takes O(n log n) time and O(n) memory for documents of n bytes.
 ///
-/// Example: `called` in crates/odb_tests/src/engines.rt.
+/// Example: `called` in crates/odb_tests_tasks/src/engines.rt.
 ///
 /// # Errors
 ///

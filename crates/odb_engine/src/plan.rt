@@ -45,7 +45,7 @@ pub fn drawn_text(alloc: Global, plan: &Plan<'_>) -> Result<String, Halt>
 /// The arguments are those of [`crate::check_batch`], and so is the cost; the text of the plan is held in
 /// memory too.
 ///
-/// Example: `called_plainly` in crates/odb_tests/src/engines.rt.
+/// Example: `called_plainly` in crates/odb_tests_tasks/src/engines.rt.
 ///
 /// # Errors
 ///

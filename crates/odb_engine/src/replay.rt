@@ -166,7 +166,7 @@ impl<'c> Command for Replay<&'c mut dyn Chooser> {
 /// Both documents, the trace and the response are held in memory. If the chooser follows an order, takes
 /// O(n log n) time for n bytes of documents and output; else the chooser is asked at each step.
 ///
-/// Example: `called` in crates/odb_tests/src/engines.rt.
+/// Example: `called` in crates/odb_tests_tasks/src/engines.rt.
 ///
 /// # Errors
 ///

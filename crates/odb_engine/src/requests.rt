@@ -22,7 +22,7 @@ use std::alloc::Global;
 ///
 /// Names are looked up by the seed. Takes O(n log n) time and O(n) memory for a document of n bytes.
 ///
-/// Example: `finds_what_is_to_be_sent` in crates/odb_tests/src/requests.rt.
+/// Example: `finds_what_is_to_be_sent` in crates/odb_tests_engine/src/requests.rt.
 ///
 /// # Errors
 ///

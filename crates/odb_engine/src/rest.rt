@@ -109,7 +109,7 @@ fn rest_by<S: Source>(
 /// In `Mode::Stop` the service stops at its first error, and what it has left out is read as answered 424. Names
 /// are looked up by the seed. Takes O(n log n) time and O(n) memory for documents of n bytes.
 ///
-/// Example: `rest_in` in crates/odb_tests/src/rests.rt.
+/// Example: `rest_in` in crates/odb_tests_text/src/rests.rt.
 ///
 /// # Errors
 ///
@@ -164,7 +164,7 @@ fn rest_line<R: Read, S: Read>(
 /// The inputs must be new, and the output must not have failed. The document, the responses and the text are held
 /// in memory. Takes O(n log n) time and O(n) memory for documents of n bytes.
 ///
-/// Example: `left` in crates/odb_tests/src/engines/rests.rt.
+/// Example: `left` in crates/odb_tests_engine/src/rests.rt.
 ///
 /// # Errors
 ///

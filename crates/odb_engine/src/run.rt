@@ -136,7 +136,7 @@ pub fn ran(
 /// Both documents and the response are held in memory. Takes O(n log n) time for n bytes of documents and
 /// output.
 ///
-/// Example: `called_plainly` in crates/odb_tests/src/engines.rt.
+/// Example: `called_plainly` in crates/odb_tests_tasks/src/engines.rt.
 ///
 /// # Errors
 ///

@@ -137,7 +137,7 @@ fn check_requests(
 /// Returns the place and the status of the response to each request. Allocates these, and a flag per
 /// unit. Takes O(responses + requests + dependencies), and a look-up in the plan for each response.
 ///
-/// Example: `accept` in crates/odb_tests/src/examples/replies.rt.
+/// Example: `accept` in crates/odb_tests_text/src/examples.rt.
 ///
 /// # Errors
 ///

@@ -154,7 +154,7 @@ fn check_each(
 /// The table is that of [`crate::match_responses`] for the plan. Allocates a flag per unit and one per request. Takes
 /// O(requests + dependencies).
 ///
-/// Example: `answered_by_run` in crates/odb_tests/src/laws/replies.rt.
+/// Example: `answered_by_run` in crates/odb_tests_text/src/laws/replies.rt.
 ///
 /// # Errors
 ///

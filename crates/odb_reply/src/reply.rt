@@ -125,7 +125,7 @@ fn buffer_responses<W: Write, L: Labels>(
 /// 64 KiB, so it holds less than that and one response. What was written is read again as
 /// [`crate::response_text`] says.
 ///
-/// Example: `is_written` in crates/odb_tests/src/replies.rt.
+/// Example: `is_written` in crates/odb_tests_text/src/replies.rt.
 ///
 /// # Errors
 ///

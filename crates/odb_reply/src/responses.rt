@@ -110,7 +110,7 @@ impl<'a> Responses<'a> {
     /// members, of the document and of its elements, are ignored. Allocates the list of responses.
     /// Takes O(n) for a document of n bytes.
     ///
-    /// Example: `accept` in crates/odb_tests/src/examples/replies.rt.
+    /// Example: `accept` in crates/odb_tests_text/src/examples.rt.
     ///
     /// # Errors
     ///

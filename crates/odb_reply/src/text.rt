@@ -69,7 +69,7 @@ fn push_whole<L: Labels>(
 /// [`crate::Responses::read`] accepts the response, and it fits every batch that has these labels and the
 /// units and dependencies of the run.
 ///
-/// Example: `has_text` in crates/odb_tests/src/replies.rt.
+/// Example: `has_text` in crates/odb_tests_text/src/replies.rt.
 ///
 /// # Errors
 ///
@@ -116,7 +116,7 @@ pub fn response_of<L: Labels>(
 /// Returns the text of the response to a batch whose run has finished (OData JSON Format 4.01,
 /// section 19.5): that of [`response_of`] for the ids and groups of the plan.
 ///
-/// Example: `respond` in crates/odb_tests/src/examples/runs.rt.
+/// Example: `respond` in crates/odb_tests_engine/src/examples.rt.
 ///
 /// # Errors
 ///

@@ -80,7 +80,7 @@ impl Scheduler<'_> {
 
 /// Runs a plan by these events, in their order: takes them all in a new scheduler.
 ///
-/// Example: `recorded` in crates/odb_tests/src/examples/replies.rt.
+/// Example: `recorded` in crates/odb_tests_text/src/examples.rt.
 ///
 /// # Errors
 ///
@@ -195,7 +195,7 @@ fn resolved(plan: &Plan<'_>, at: usize, event: NamedEvent) -> Result<Event, Reso
 ///
 /// Costs O(number of events).
 ///
-/// Example: `recorded` in crates/odb_tests/src/examples/replies.rt.
+/// Example: `recorded` in crates/odb_tests_text/src/examples.rt.
 ///
 /// # Errors
 ///

@@ -56,7 +56,7 @@ impl<'p> Scheduler<'p> {
     /// Returns a run before its first event. It allocates all that the run needs: later calls
     /// allocate nothing, and outcomes are moved in, not copied.
     ///
-    /// Example: `holds_by_hand` in crates/odb_tests/src/runs/events.rt.
+    /// Example: `holds_by_hand` in crates/odb_tests_exec/src/runs/events.rt.
     pub fn new<'a: 'p>(
         alloc: Global,
         plan: &'p Plan<'a>,

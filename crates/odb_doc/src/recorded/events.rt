@@ -69,7 +69,7 @@ impl Events {
     /// identifiers of requests, and a status may be any whole number from 0 to 65535. It takes time
     /// linear in the document.
     ///
-    /// Example: `recorded` in crates/odb_tests/src/examples/replies.rt.
+    /// Example: `recorded` in crates/odb_tests_text/src/examples.rt.
     ///
     /// # Errors
     ///

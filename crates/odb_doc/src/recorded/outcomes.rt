@@ -174,7 +174,7 @@ impl Outcomes {
     /// It takes O(n log n) for a document of n bytes, whatever its ids are: repeats are found by order
     /// and not by hash, so no choice of ids makes it slow.
     ///
-    /// Example: `outcomes_in` in crates/odb_tests/src/runs/recordings.rt.
+    /// Example: `outcomes_in` in crates/odb_tests_exec/src/runs/recordings.rt.
     ///
     /// # Errors
     ///

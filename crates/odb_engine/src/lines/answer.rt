@@ -99,7 +99,7 @@ fn advance<R: Read, W: Write, C: LineCommand>(
 /// is passed as it was read; of another one the bytes are copied once, into memory that the next such
 /// line uses again.
 ///
-/// Example: `are_written` in crates/odb_tests/src/lines.rt.
+/// Example: `are_written` in crates/odb_tests_engine/src/lines.rt.
 ///
 /// # Errors
 ///

@@ -1,4 +1,0 @@
-mod LawLemmas
-mod MemoryLemmas
-mod LiveRunLemmas
-mod ReplayedLemmas

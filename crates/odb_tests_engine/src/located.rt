@@ -1,0 +1,107 @@
+//! Faults with where they are: of a line in memory, and of documents whose readers are slow or fail.
+
+use odb_engine::{
+    Ended, EngineFault, LineWork, Names, PairWork, Setup, Task, Work, answer_located, locate_batch,
+    locate_pair,
+};
+use odb_io::{Input, Output};
+use odb_sched::Mode;
+use odb_testing::PAIR;
+use odb_testing::devices::{Pace, Slow, TURNS};
+use std::alloc::Global;
+
+/// Responses that are not those of `PAIR`.
+const RESPONSES: &str = "{\"responses\":[\n\t{\"id\":\"3\",\"status\":200}]}";
+
+const FAULT: &str = "served.json:2:2: fault F71 UnknownResponse /responses/0\n";
+
+const NAMES: Names<'static> = Names {
+    batch: "batch.json",
+    second: "served.json",
+};
+
+const CHECK: LineWork = LineWork::Work(Work::Task(Task::Check));
+
+/// Matches `RESPONSES` against `PAIR` by readers of these paces. Returns how that ended, how often each reader was
+/// called, and whether this text was written.
+fn matched(
+    alloc: Global,
+    paces: (Pace, Pace),
+    text: &str,
+) -> (Result<Ended, EngineFault>, (usize, usize), bool) {
+    let mut batch = Input::new(Slow::new(PAIR.as_bytes(), paces.0));
+    let mut responses = Input::new(Slow::new(RESPONSES.as_bytes(), paces.1));
+    let mut output = Output::new(Vec::new(alloc));
+    let task = Task::Match {
+        mode: Mode::Continue,
+        strict: false,
+    };
+    let ended = locate_pair(
+        alloc,
+        &mut batch,
+        &mut responses,
+        &mut output,
+        NAMES,
+        PairWork::Task(task),
+        Setup::plain(),
+    );
+    let calls = (batch.into_inner().calls, responses.into_inner().calls);
+    let written = output.into_inner();
+    (ended, calls, written.as_slice() == text.as_bytes())
+}
+
+/// Whether nothing is written by readers of these paces, of which one fails.
+fn is_cut(alloc: Global, paces: (Pace, Pace)) -> bool {
+    let (ended, _, empty) = matched(alloc, paces, "");
+    ended == Err(EngineFault::Read) && empty
+}
+
+/// Whether nothing is written if one of so many calls of either reader fails.
+fn are_cut(alloc: Global, turns: [usize; 3], calls: (usize, usize)) -> bool {
+    let steady = || Pace::steady(turns);
+    (0..calls.0).all(|calls| is_cut(alloc, (Pace { turns, calls }, steady())))
+        && (0..calls.1).all(|calls| is_cut(alloc, (steady(), Pace { turns, calls })))
+}
+
+#[test]
+fn a_fault_of_a_second_document_is_in_that(rt: HostRuntime) {
+    for turns in &TURNS {
+        let steady = (Pace::steady(*turns), Pace::steady(*turns));
+        let (ended, calls, whole) = matched(rt.alloc(), steady, FAULT);
+        assert!(rt; ended == Ok(Ended::Refused) && whole);
+        assert!(rt; are_cut(rt.alloc(), *turns, calls));
+    }
+}
+
+#[test]
+fn a_fault_is_in_the_document_of_a_reader(rt: HostRuntime) {
+    let document = b"{\"requests\":[\n7]}";
+    let mut input = Input::new(Slow::new(document, Pace::steady(TURNS[0])));
+    let mut output = Output::new(Vec::new(rt.alloc()));
+    let ended = locate_batch(
+        rt.alloc(),
+        &mut input,
+        &mut output,
+        "b",
+        CHECK,
+        Setup::plain(),
+    );
+    assert!(rt; ended == Ok(Ended::Refused));
+    assert!(rt;
+        output.into_inner().as_slice()
+            == b"b:2:1: fault F10 NotRequestObject /requests/0\n".as_slice()
+    );
+}
+
+/// Returns whether the check of line 5 of a log writes this text of a fault.
+fn is_reported(alloc: Global, line: &[u8], text: &str) -> bool {
+    match answer_located(alloc, line, "log", Some(5), CHECK, Setup::plain()) {
+        Ok(answer) => answer.ended == Ended::Refused && answer.text.as_slice() == text.as_bytes(),
+        Err(_) => false,
+    }
+}
+
+#[test]
+fn a_fault_of_a_line_has_its_number(rt: HostRuntime) {
+    assert!(rt; is_reported(rt.alloc(), b" 7", "log:5:2: fault F03 NotObject batch\n"));
+}

@@ -1,0 +1,5 @@
+//! Proved callers of the laws of each crate: their premises are met by what the public calls ensure.
+
+mod driven;
+mod orders;
+mod runs;

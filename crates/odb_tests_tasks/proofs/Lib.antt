@@ -1,0 +1,3 @@
+mod LawLemmas
+mod MemoryLemmas
+mod ReplayedLemmas

@@ -1,0 +1,169 @@
+//! The engines over readers and writers of a library: each with ample memory, slow ones, and some
+//! that fail. What the engines print is shown on the built program, in tests/cases/.
+
+ghost use Rattle.std.specs.Prelude.{◌≡◌, false, IfOk};
+ghost use Rattle.odb_engine.specs.Cascade.{Answers};
+ghost use Rattle.odb_engine.specs.Contents.Given.{ByReader};
+ghost use Rattle.odb_engine.specs.Engines.{WritesText};
+ghost use Rattle.odb_engine.specs.Inputs.{IsFresh, SomeDocument};
+ghost use Rattle.odb_engine.specs.declared.form.Form.TheVariants.{Lines};
+ghost use Rattle.odb_engine.specs.Tasks.{OfTask};
+
+mod disposal;
+mod failures;
+
+use odb_check::Seed;
+use odb_engine::{
+    Disposal, Ended, EngineFault, Setup, Task, answer_task, canon_batch, check_batch, match_batch,
+    plan_batch, replay_batch, run_batch,
+};
+use odb_io::{Input, Output};
+use odb_sched::{Mode, Order, Policy};
+use std::alloc::Global;
+use std::io::{Read, Write};
+
+/// A task, its second document (empty where it takes none), and what it writes of `PAIR`.
+pub type Example = (Task, &'static str, &'static str);
+
+/// Outcomes of both requests.
+pub const OUTCOMES: &str =
+    r#"{"outcomes":[{"id":"2","status":204},{"id":"1","status":200,"body":["€"]}]}"#;
+
+/// Events that finish a run.
+pub const EVENTS: &str =
+    r#"{"events":[{"start":"1"},{"report":"1","status":404,"headers":{"ETag":"€"}}]}"#;
+
+/// A policy that bars no start by its width.
+pub const FREE: Policy = Policy {
+    mode: Mode::Continue,
+    width: 10_000,
+};
+
+pub const EXAMPLES: [Example; 9] = [
+    (Task::Check, "", "ok 2 requests 0 groups\n"),
+    (
+        Task::Plan,
+        "",
+        "0 1 level 0 group * needs *\n1 2 level 1 group * needs 1\n",
+    ),
+    (
+        Task::Draw,
+        "",
+        r#"digraph plan {
+  compound=true; newrank=true; node [shape=box]
+  0 [label="1\nget A"]
+  { rank=same; node [shape=plaintext]; "level 0"; 0 }
+  1 [label="2\nput B"]
+  { rank=same; node [shape=plaintext]; "level 1"; 1 }
+  0 -> 1
+  "level 0" -> "level 1" [style=invis]
+}
+"#,
+    ),
+    (
+        Task::Canon,
+        "",
+        "{\"requests\":[{\"id\":\"1\",\"method\":\"get\",\"url\":\"A\"},\
+         {\"body\":{\"a\":[1],\"b\":\"€\"},\"dependsOn\":[\"1\"],\"id\":\"2\",\"method\":\"put\",\"url\":\"B\"}]}\n",
+    ),
+    (
+        Task::Replay {
+            policy: FREE,
+            order: Order::Wide,
+            traced: true,
+        },
+        OUTCOMES,
+        "start 1\nreport 1 200\nstart 2\nreport 2 204\n\
+         {\"responses\":[{\"body\":[\"€\"],\"id\":\"1\",\"status\":200},{\"id\":\"2\",\"status\":204}]}\n",
+    ),
+    (
+        Task::Match {
+            mode: Mode::Continue,
+            strict: false,
+        },
+        r#"{"responses":[{"id":"2","status":204},{"id":"1","status":200,"body":["€"]}]}"#,
+        "ok 2 responses\n1 200\n2 204\n",
+    ),
+    (
+        Task::Match {
+            mode: Mode::Stop,
+            strict: false,
+        },
+        r#"{"responses":[{"id":"1","status":404}]}"#,
+        "ok 2 responses\n1 404\n2 424\n",
+    ),
+    (
+        Task::Match {
+            mode: Mode::Continue,
+            strict: true,
+        },
+        r#"{"responses":[{"id":"1","status":404},{"id":"2","status":424}]}"#,
+        "ok 2 responses\n1 404\n2 424\n",
+    ),
+    (
+        Task::Run { policy: FREE },
+        EVENTS,
+        "{\"responses\":[{\"headers\":{\"etag\":\"€\"},\"id\":\"1\",\"status\":404},\
+         {\"id\":\"2\",\"status\":424}]}\n",
+    ),
+];
+
+/// Does a task without a setup, by the function that is named after it where that takes every option of the task; the
+/// second input is read by some.
+pub fn called_plainly<R: Read, S: Read, W: Write>(
+    alloc: Global,
+    task: Task,
+    batch: &mut Input<R>,
+    second: &mut Input<S>,
+    output: &mut Output<W>,
+) -> Result<Ended, EngineFault>
+    requires batch { IsFresh batch.old }
+    requires second { IsFresh second.old }
+    requires output { output.old.failed ≡ false }
+    ensures { IfOk result (λ ended. SomeDocument (R.remaining batch.old.reader) (λ bytes.
+        WritesText (W.contents output.old.writer) (W.contents output.new.writer)
+        (Answers (OfTask task (ByReader (S.remaining second.old.reader))) bytes Lines ended))) }
+{
+    match task {
+        Task::Check => check_batch(alloc, batch, output),
+        Task::Plan => plan_batch(alloc, batch, output),
+        Task::Canon => canon_batch(alloc, batch, output),
+        Task::Run { policy } => run_batch(alloc, batch, second, output, policy),
+        _ => answer_task(alloc, batch, second, output, task, Setup::plain()),
+    }
+}
+
+/// Does a task: by its own function if what it reads is dropped, else with a seed.
+fn called<R: Read, S: Read, W: Write>(
+    alloc: Global,
+    how: (Task, Disposal),
+    batch: &mut Input<R>,
+    second: &mut Input<S>,
+    output: &mut Output<W>,
+) -> Result<Ended, EngineFault>
+    requires batch { IsFresh batch.old }
+    requires second { IsFresh second.old }
+    requires output { output.old.failed ≡ false }
+{
+    let (task, disposal) = how;
+    if disposal == Disposal::Drop {
+        return match task {
+            Task::Replay {
+                policy,
+                mut order,
+                traced,
+            } => replay_batch(alloc, batch, second, output, policy, &mut order, traced),
+            Task::Match {
+                mode: Mode::Continue,
+                strict: false,
+            } => match_batch(alloc, batch, second, output),
+            _ => called_plainly(alloc, task, batch, second, output),
+        };
+    }
+    let setup = Setup {
+        seed: Seed::new(7),
+        disposal,
+        ..Setup::plain()
+    };
+    answer_task(alloc, batch, second, output, task, setup)
+}

@@ -1,0 +1,7 @@
+//! Proved callers of the laws of each crate: their premises are met by what the public calls ensure.
+
+pub mod engines;
+mod live;
+mod pairs;
+mod replays;
+mod verdicts;

@@ -1,0 +1,164 @@
+//! Live runs over bytes in memory: one that was opened after recorded events writes what a run by those events
+//! writes; and one that then takes one event more is the run that is opened after all of them.
+
+ghost use Rattle.std.specs.Prelude.{◌≡◌, ◌∷◌, [], ℕ, List, Some, IfSome, string_bytes};
+ghost use Rattle.odb_check.specs.Plans.{plan_records};
+ghost use Rattle.odb_check.specs.Positions.{id_at};
+ghost use Rattle.odb_doc.specs.recorded.EventLists.{entries};
+ghost use Rattle.odb_doc.specs.recorded.Events as named;
+ghost use Rattle.odb_engine.specs.declared.ending.Ended.TheVariants.{Done};
+ghost use Rattle.odb_engine.specs.declared.form.Form.TheVariants.{Lines};
+ghost use Rattle.odb_engine.specs.Cascade.{Accepts};
+ghost use Rattle.odb_engine.specs.Live.{Live, Opens, RecordsOneMore, Shows};
+ghost use Rattle.odb_engine.specs.Runs.{AreEventsIn};
+ghost use Rattle.odb_sched.specs.declared.event.Event.TheVariants.{Start};
+
+use crate::engines::{EVENTS, FREE};
+use crate::laws::engines::{Written, written};
+use odb_check::laws::every_plan;
+use odb_check::{Plan, Seed, check};
+use odb_doc::{Batch, Events, NamedEvent, parse};
+use odb_engine::laws::{one_document, one_live_run};
+use odb_engine::{Ended, LiveRun, Task, open_run};
+use odb_sched::Policy;
+use odb_testing::PAIR;
+use std::alloc::Global;
+
+/// Opens a live run after recorded events, and returns its response.
+fn live(alloc: Global, batch: &[u8], events: &[u8], policy: Policy) -> Option<String>
+    ensures { IfSome result (λ text. (live : Live) × Opens policy batch.now events.now live
+        × Shows live Lines Done (string_bytes text)) }
+{
+    let Ok(live) = open_run(alloc, batch, events, policy, Seed::none()) else {
+        return None;
+    };
+    match live.response(alloc) {
+        Ok(text) => Some(text),
+        Err(_) => None,
+    }
+}
+
+/// A live run and a run by recorded events, of the same events.
+fn live_and_recorded(
+    alloc: Global,
+    batch: &[u8],
+    events: &[u8],
+    policy: Policy,
+) -> Option<(String, Written)>
+    ensures { IfSome result (λ both. (both.1.0 ≡ Done)
+        × (string_bytes both.0 ≡ both.1.1.items)) }
+{
+    one_document();
+    one_live_run();
+    let text = live(alloc, batch, events, policy)?;
+    let written = written(alloc, batch, events, Task::Run { policy })?;
+    Some((text, written))
+}
+
+/// Reads a document of events.
+fn events_in(alloc: Global, bytes: &[u8]) -> Option<Events>
+    ensures { IfSome result (λ found. AreEventsIn bytes.now (entries found)) }
+{
+    let Ok(value) = parse(alloc, bytes) else {
+        return None;
+    };
+    match Events::read(alloc, value) {
+        Ok(found) => Some(found),
+        Err(_) => None,
+    }
+}
+
+/// Returns the position of the request that the one event of a document starts.
+fn started_by(plan: &Plan<'_>, found: &Events) -> Option<u32>
+    ensures { IfSome result (λ i. (id : List ℕ) × (entries found.now ≡ named.Start id ∷ [])
+        × (id_at (plan_records plan.now) i ≡ Some id)) }
+{
+    every_plan(plan);
+    if found.len() != 1 {
+        return None;
+    }
+    match found.entry(0) {
+        NamedEvent::Start(id) => plan.position_of(id),
+        NamedEvent::Report(_, _) => None,
+    }
+}
+
+/// Returns the position of the request that the one event in `more` starts, if there is no event in `events`.
+fn started_on(alloc: Global, plan: &Plan<'_>, events: &[u8], more: &[u8]) -> Option<u32>
+    ensures { IfSome result (λ i. RecordsOneMore (plan_records plan.now) events.now more.now (Start i)) }
+{
+    let before = events_in(alloc, events)?;
+    if !before.is_empty() {
+        return None;
+    }
+    started_by(plan, &events_in(alloc, more)?)
+}
+
+/// Returns what [`started_on`] does, for the batch in a document.
+fn started(alloc: Global, batch: &[u8], events: &[u8], more: &[u8]) -> Option<u32>
+    ensures { IfSome result (λ i. Accepts batch.now (λ requests.
+        RecordsOneMore requests events.now more.now (Start i))) }
+{
+    let Ok(value) = parse(alloc, batch) else {
+        return None;
+    };
+    let Ok(read) = Batch::read(alloc, &value) else {
+        return None;
+    };
+    match check(alloc, &read) {
+        Ok(plan) => started_on(alloc, &plan, events, more),
+        Err(_) => None,
+    }
+}
+
+/// Opens a live run after `events`, and starts the request that `more` starts. A run that is opened after
+/// `more` is the same.
+fn gone_on(
+    alloc: Global,
+    batch: &[u8],
+    events: &[u8],
+    more: &[u8],
+    policy: Policy,
+) -> Option<LiveRun>
+    ensures { IfSome result (Opens policy batch.now more.now) }
+{
+    one_live_run();
+    let i = started(alloc, batch, events, more)?;
+    let Ok(mut live) = open_run(alloc, batch, events, policy, Seed::none()) else {
+        return None;
+    };
+    if i >= live.run().len() {
+        return None;
+    }
+    match live.start(i) {
+        Ok(()) => Some(live),
+        Err(_) => None,
+    }
+}
+
+const NO_EVENTS: &[u8] = br#"{"events":[]}"#;
+
+const ONE_EVENT: &[u8] = br#"{"events":[{"start":"1"}]}"#;
+
+/// Whether a live run and a run by recorded events wrote the same response.
+fn are_alike(both: Option<(String, Written)>) -> bool {
+    match &both {
+        Some((text, (Ended::Done, written))) => text.as_bytes() == written.as_slice(),
+        _ => false,
+    }
+}
+
+/// Whether a live run that has taken one event more has the first request running, and no other.
+fn has_gone_on(alloc: Global, policy: Policy) -> bool {
+    match &gone_on(alloc, PAIR.as_bytes(), NO_EVENTS, ONE_EVENT, policy) {
+        Some(live) => live.run().running() == [0].as_slice(),
+        None => false,
+    }
+}
+
+#[test]
+fn a_live_run_is_the_run_of_its_events(rt: HostRuntime) {
+    let (alloc, batch, events) = (rt.alloc(), PAIR.as_bytes(), EVENTS.as_bytes());
+    assert!(rt; are_alike(live_and_recorded(alloc, batch, events, FREE)));
+    assert!(rt; has_gone_on(alloc, FREE));
+}

@@ -1,0 +1,15 @@
+//! Tests of what a caller sees of responses, texts and rests.
+//!
+//! - `examples`: what a caller writes, as docs/library.md and the docs of the calls show it;
+//! - `laws`: what each law means for its caller;
+//! - `replies`: responses that are written; `rests`: what may be sent again.
+#![tactic(auto)]
+
+#[cfg(test)]
+mod examples;
+#[cfg(test)]
+mod laws;
+#[cfg(test)]
+mod replies;
+#[cfg(test)]
+mod rests;

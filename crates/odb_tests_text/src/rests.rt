@@ -1,0 +1,88 @@
+//! The rest of batches, with ample memory: what may be sent again by the responses of a service.
+
+use odb_check::check;
+use odb_doc::{Batch, parse};
+use odb_reply::{Responses, match_responses};
+use odb_rest::{rest_of, rest_text};
+use odb_testing::fail::Fail as Failed;
+use std::alloc::Global;
+use std::rt::HostRuntime;
+use std::test::Fail;
+
+/// A batch, the responses to it, and its rest; no rest if no Location makes a URL.
+type Row = (&'static str, &'static str, Option<&'static str>);
+
+const ROWS: &[Row] = &[
+    // Nothing is left of a batch that has succeeded.
+    (
+        r#"{"requests":[{"id":"a","method":"get","url":"A"}]}"#,
+        r#"{"responses":[{"id":"a","status":200}]}"#,
+        Some(r#"{"requests":[]}"#),
+    ),
+    // What was done is no dependency any more. A body stays as it was written.
+    (
+        r#"{"requests":[{"id":"a","method":"post","url":"A","body":{}},
+            {"id":"b","method":"Post","url":"$a/Lines?x=1","dependsOn":["a"],"headers":{"X-A":"1"},"body": {"Price" : 9.990}},
+            {"id":"c","method":"get","url":"$b","dependsOn":["a","b"]}]}"#,
+        r#"{"responses":[{"id":"a","status":201,"headers":{"location":"/s/A(1)"}},
+            {"id":"b","status":503},{"id":"c","status":424}]}"#,
+        Some(
+            r#"{"requests":[{"body":{"Price" : 9.990},"headers":{"x-a":"1"},"id":"b","method":"post","url":"/s/A(1)/Lines?x=1"},{"dependsOn":["b"],"id":"c","method":"get","url":"$b"}]}"#,
+        ),
+    ),
+    // What may not be sent again is left out, and so is what needs it.
+    (
+        r#"{"requests":[{"id":"a","method":"post","url":"A","body":{}},{"id":"b","method":"get","url":"B","dependsOn":["a"]},
+            {"id":"c","method":"put","url":"C","body":1}]}"#,
+        r#"{"responses":[{"id":"a","status":504},{"id":"b","status":424},{"id":"c","status":504}]}"#,
+        Some(r#"{"requests":[{"body":1,"id":"c","method":"put","url":"C"}]}"#),
+    ),
+    // A group is sent again as a whole.
+    (
+        r#"{"requests":[{"id":"a","atomicityGroup":"g","method":"post","url":"A","body":{}},
+            {"id":"b","atomicityGroup":"g","method":"delete","url":"$a","dependsOn":["a"]},{"id":"c","method":"get","url":"C","dependsOn":["g"]}]}"#,
+        r#"{"responses":[{"id":"b","atomicityGroup":"g","status":429},{"id":"a","atomicityGroup":"g","status":201},{"id":"c","status":424}]}"#,
+        Some(
+            r#"{"requests":[{"atomicityGroup":"g","body":{},"id":"a","method":"post","url":"A"},{"atomicityGroup":"g","dependsOn":["a"],"id":"b","method":"delete","url":"$a"},{"dependsOn":["g"],"id":"c","method":"get","url":"C"}]}"#,
+        ),
+    ),
+    // No Location is recorded, or it makes no URL.
+    (
+        r#"{"requests":[{"id":"a","method":"post","url":"A","body":{}},{"id":"b","method":"get","url":"$a/B","dependsOn":["a"]}]}"#,
+        r#"{"responses":[{"id":"a","status":201,"headers":{"ETag":"1"}},{"id":"b","status":429}]}"#,
+        None,
+    ),
+    (
+        r#"{"requests":[{"id":"a","method":"post","url":"A","body":{}},{"id":"b","method":"get","url":"$a/B","dependsOn":["a"]}]}"#,
+        r#"{"responses":[{"id":"a","status":201,"headers":{"Location":"$c"}},{"id":"b","status":429}]}"#,
+        None,
+    ),
+];
+
+/// Returns the text of the rest of a batch by the responses to it.
+fn rest_in(alloc: Global, batch: &str, responses: &str) -> Result<String, Failed> {
+    let document = batch.as_bytes();
+    let value = parse(alloc, document)?;
+    let batch = Batch::read(alloc, &value)?;
+    let plan = check(alloc, &batch)?;
+    let given = parse(alloc, responses.as_bytes())?;
+    let responses = Responses::read(alloc, &given)?;
+    let table = match_responses(alloc, &plan, &responses)?;
+    let rest = rest_of(alloc, &plan, &table, &given)?;
+    Ok(rest_text(alloc, document, &plan, &rest)?)
+}
+
+#[test]
+fn makes_the_rest(rt: HostRuntime) -> Result<(), Fail> {
+    for (batch, responses, want) in ROWS {
+        let is_wanted = match (rest_in(rt.alloc(), batch, responses), want) {
+            (Ok(text), Some(want)) => text.as_str() == *want,
+            (Err(_), None) => true,
+            _ => false,
+        };
+        if !is_wanted {
+            return Err(Fail::new(batch));
+        }
+    }
+    Ok(())
+}
