@@ -35,5 +35,6 @@ pub mod ShapeFaultLemmas
 mod SomeBatchLemmas
 mod TextLemmas
 mod TypeLemmas
+mod UrlRestLemmas
 mod WatchLemmas
 mod EventLemmas

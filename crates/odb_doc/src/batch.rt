@@ -23,6 +23,7 @@ pub(crate) mod media_type;
 mod members;
 mod reference;
 pub mod request;
+mod url_rest;
 
 use crate::batch::request::Request;
 use crate::broken::Broken;
