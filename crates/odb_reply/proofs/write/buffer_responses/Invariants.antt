@@ -2,7 +2,7 @@ use Rattle.std.proofs.Common.{◌≡◌, ◌++◌, [], false, string_bytes}
 use Rattle.odb_sched.specs.run.Answers.{answer}
 use Rattle.odb_io.specs.Devices.{HasWritten}
 use Rattle.odb_reply.specs.Parts.{rest_text}
-use Rattle.odb_reply.proofs.reply.buffer_responses.Given as goal
+use Rattle.odb_reply.proofs.write.buffer_responses.Given as goal
 
 -- the buffer, and then the remaining responses, are what is not written of the whole
 abbrev pub invariant-loop-i : goal.invariant-loop-i

@@ -4,7 +4,7 @@ use Rattle.odb_io.specs.Devices.{AppendsPrefix}
 use Rattle.odb_reply.specs.Parts.{rest_text}
 use Rattle.odb_reply.proofs.RestLemmas.{rest_text-last}
 use Rattle.odb_io.proofs.WriteLemmas.{AppendsPrefix-part, AppendsPrefix-after, HasWritten-none, HasWritten-part, HasWritten-trans}
-use Rattle.odb_reply.proofs.reply.buffer_responses.Goals as goal
+use Rattle.odb_reply.proofs.write.buffer_responses.Goals as goal
 
 pub loop-i-init : goal.loop-i-init
 loop-i-init g c =

@@ -3,7 +3,7 @@
 ghost use Rattle.std.specs.Prelude.{◌≡◌, ◌≢◌, ◌↔◌, ◌++◌, [], ℕ, true, false, Some, length, string_bytes, IsErr, IsTrue, OnOk, OnErr};
 ghost use Rattle.std.specs.Io.KnownBytes.{Appends};
 ghost use Rattle.serde_json.specs.Read.{read};
-ghost use Rattle.odb_reply.specs.declared.reply.ReplyFault.TheVariants as faults;
+ghost use Rattle.odb_reply.specs.declared.write.ReplyFault.TheVariants as faults;
 ghost use Rattle.odb_reply.specs.Fits.{ListsFit};
 ghost use Rattle.odb_reply.specs.NotWhole.{HasWholeBodies, IsFirstNotWhole, reply_row};
 ghost use Rattle.odb_reply.specs.OnePerId.{HasOnePerId};

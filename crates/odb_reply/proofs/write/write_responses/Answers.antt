@@ -5,7 +5,7 @@ use Rattle.odb_io.specs.Devices.{HasWritten, AppendsPrefix}
 use Rattle.odb_reply.proofs.DoneLemmas.{labels_count, text_beside}
 use Rattle.odb_reply.proofs.RestLemmas.{text_of-begun}
 use Rattle.odb_io.proofs.WriteLemmas.{AppendsPrefix-none, AppendsPrefix-after, Appends-rest}
-use Rattle.odb_reply.proofs.reply.write_responses.Goals as goal
+use Rattle.odb_reply.proofs.write.write_responses.Goals as goal
 
 pub returns-in-Some-clause-err : goal.returns-in-Some-clause-err
 returns-in-Some-clause-err g c = AppendsPrefix-none (g.W.Write.contents c.args.output.now.writer) (response_text c.args.done.now)

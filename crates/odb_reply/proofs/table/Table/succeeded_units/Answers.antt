@@ -3,22 +3,21 @@ use Rattle.std.proofs.lemmas.Option.{get_or_from_slice_get}
 use Rattle.odb_check.specs.Plans.{plan_records}
 use Rattle.odb_check.specs.Units.{unit_count}
 use Rattle.odb_doc.specs.Statuses.{is_success}
-use Rattle.odb_reply.specs.Places.{AreUnits}
-use Rattle.odb_reply.specs.Fits.{statuses}
+use Rattle.odb_reply.specs.Fits.{AreUnits, statuses}
 use Rattle.odb_reply.proofs.UnitLemmas.{AreUnits-none, AreUnits-succeeded, AreUnits-failed}
-use Rattle.odb_reply.proofs.fits.units_of.Goals as goal
-use Rattle.odb_reply.proofs.fits.units_of.Goals.{then-not-is_success, else-not-is_success}
+use Rattle.odb_reply.proofs.table.Table.succeeded_units.Goals as goal
+use Rattle.odb_reply.proofs.table.Table.succeeded_units.Goals.{then-not-is_success, else-not-is_success}
 
 pub loop-i-init : goal.loop-i-init
 loop-i-init c =
     let rs = plan_records c.args.plan.now in
     let all : c.in_ok-units.units.items ≡ replicate (unit_count rs) true = c.in_ok-units.ensures.items_if_clones_equal (λ y same. same) ∙ ap (λ n. replicate n true) c.unit_count.ensures.count in
-    rw all (AreUnits-none rs (statuses c.args.table.now))
+    rw all (AreUnits-none rs (statuses c.args.self.now))
 
 pub loop-i-preserved : goal.loop-i-preserved
 loop-i-preserved c =
     let rs = plan_records c.args.plan.now in
-    let all = statuses c.args.table.now in
+    let all = statuses c.args.self.now in
     let i = c.loop-i.i in
     let status : get_or all i 0 ≡ c.status.result = get_or_from_slice_get all i c.status.result 0 c.status.ensures in
     elim c.if-not-is_success.branch [
@@ -34,4 +33,4 @@ loop-i-preserved c =
 pub returns : goal.returns
 returns c =
     let all : c.loop-i.i ≡ length (plan_records c.args.plan.now) = omega (arith, c.loop-i.auto.i-end, c.len-i-end.ensures.count) in
-    subst (λ (n : ℕ). AreUnits (plan_records c.args.plan.now) (statuses c.args.table.now) n c.loop-i.units.items) all c.loop-i.invariant
+    subst (λ (n : ℕ). AreUnits (plan_records c.args.plan.now) (statuses c.args.self.now) n c.loop-i.units.items) all c.loop-i.invariant
