@@ -1,6 +1,6 @@
 use Rattle.std.proofs.Common.{◌≡◌, ◌++◌, OnOk, string_bytes, sym, subst}
-use Rattle.odb_text.proofs.ShownLemmas.{shown_long, shown_short}
-use Rattle.odb_text.proofs.shown.push_shown.Goals as goal
+use Rattle.odb_text.proofs.LabelLemmas.{shown_long, shown_short}
+use Rattle.odb_text.proofs.label.push_shown.Goals as goal
 
 pub returns-then-is_long : goal.returns-then-is_long
 returns-then-is_long c =

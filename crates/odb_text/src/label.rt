@@ -1,7 +1,7 @@
 //! Texts as a drawing shows them.
 
 ghost use Rattle.std.specs.Prelude.{◌≡◌, ◌++◌, nat_lt, chars, codes, length, OnOk, string_bytes};
-ghost use Rattle.odb_text.specs.Shown as texts;
+ghost use Rattle.odb_text.specs.Labels as texts;
 
 use std::alloc::AllocError;
 

@@ -1,6 +1,6 @@
 use Rattle.std.proofs.Common.{◌≡◌, ◌+◌, ◌++◌, length, string_bytes}
-use Rattle.odb_text.specs.Shown.{first_shown}
-use Rattle.odb_text.proofs.shown.push_first.Given as goal
+use Rattle.odb_text.specs.Labels.{first_shown}
+use Rattle.odb_text.proofs.label.push_first.Given as goal
 
 -- the characters so far, and how many more there may be
 abbrev pub invariant-loop-c : goal.invariant-loop-c

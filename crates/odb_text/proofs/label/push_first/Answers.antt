@@ -2,9 +2,9 @@ use Rattle.std.proofs.Common.{◌≡◌, ◌∙◌, suc, [], ◌∷◌, ◌++◌
 use Rattle.std.proofs.lemmas.Iterator.{YieldsList-from_chars}
 use Rattle.std.proofs.lemmas.Iterator.Consumers.{YieldsList-turn, YieldsList-end}
 use Rattle.std.proofs.lemmas.List.{length_push}
-use Rattle.odb_text.specs.Shown.{first_shown, shown_char}
-use Rattle.odb_text.proofs.ShownLemmas.{one_more, no_more}
-use Rattle.odb_text.proofs.shown.push_first.Goals as goal
+use Rattle.odb_text.specs.Labels.{first_shown, shown_char}
+use Rattle.odb_text.proofs.LabelLemmas.{one_more, no_more}
+use Rattle.odb_text.proofs.label.push_first.Goals as goal
 
 pub loop-c-preserved : goal.loop-c-preserved
 loop-c-preserved c =

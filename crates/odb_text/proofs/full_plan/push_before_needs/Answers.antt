@@ -3,7 +3,7 @@ use Rattle.odb_names.specs.Methods.{http_name}
 use Rattle.odb_doc.specs.batch.Records.{record_of}
 use Rattle.odb_text.specs.ResultParts.{body_part, group_part, headers_part, id_part, string_part}
 use Rattle.odb_text.proofs.FullPlanLemmas.{five_steps}
-use Rattle.odb_text.proofs.full_plan.push_front.Goals as goal
+use Rattle.odb_text.proofs.full_plan.push_before_needs.Goals as goal
 
 pub returns : goal.returns
 returns c =

@@ -4,7 +4,7 @@ use Rattle.std.specs.List.{flat_map}
 use Rattle.std.proofs.Math.Seq.{take-suc}
 use Rattle.std.proofs.lemmas.Grind.{flat_map-append}
 use Rattle.std.proofs.lemmas.List.{take_all}
-use Rattle.odb_text.specs.Shown.{first_shown, shown, shown_char}
+use Rattle.odb_text.specs.Labels.{first_shown, shown, shown_char}
 
 -- one character more
 pub one_more : (text : List ℕ) (n c : ℕ) → (n < length (chars text)) × (c ≡ get_or (chars text) n c) → first_shown (suc n) text ≡ first_shown n text ++ shown_char c
