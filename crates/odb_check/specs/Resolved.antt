@@ -1,14 +1,14 @@
 -- For invariants and private clauses: the request that is checked.
-use Rattle.std.specs.Prelude.{◌≡◌, ◌<◌, ◌⊎◌, ℕ, Bool, List, Option, Some, option_and_then}
+use Rattle.std.specs.Prelude.{◌≡◌, ◌<◌, ◌⊎◌, ℕ, Bool, List, Option, Some}
 use Rattle.std.specs.Bool.{Decides}
 use Rattle.odb_doc.specs.batch.Records.{Record}
 use Rattle.odb_check.specs.declared.names.Resolved.{Resolved}
 use Rattle.odb_check.specs.declared.need.Need.{Need}
 use Rattle.odb_check.specs.NameFaults.{IsMemberAlone}
 use Rattle.odb_check.specs.Needs.{need_of}
-use Rattle.odb_check.specs.Positions.{group_at, reference_at, IsIdFrom, IsGroupAfter, IsInGroupOf, NamesGroupOf}
+use Rattle.odb_check.specs.Positions.{group_at, IsIdFrom, IsGroupAfter, IsInGroupOf, NamesGroupOf}
 use Rattle.odb_check.specs.Requests.{requests}
-use Rattle.odb_check.specs.Units.{position_of}
+use Rattle.odb_check.specs.Units.{referred_at}
 
 -- the requests of its batch
 abbrev pub batch_of : Resolved → List Record
@@ -16,7 +16,7 @@ batch_of resolved = requests resolved.tables.now
 
 -- the position that it refers to
 abbrev pub referred_by : Resolved → Option ℕ
-referred_by resolved = option_and_then (position_of (batch_of resolved)) (reference_at (batch_of resolved) resolved.i)
+referred_by resolved = referred_at (batch_of resolved) resolved.i
 
 -- the answer decides this of each name that resolves to the need
 abbrev pub IsAnswer : List Record → Need → Bool → (List ℕ → Type 0) → Type 0

@@ -1,10 +1,10 @@
 -- The units of a batch: its atomicity groups, and its requests without a group (OData JSON Format 4.01,
 -- section 19.1, `atomicityGroup`).
-use Rattle.std.specs.Prelude.{ℕ, Bool, true, not, is_some, List, Option, Some, None, option_map, unwrap_or, length}
+use Rattle.std.specs.Prelude.{ℕ, Bool, true, not, is_some, List, Option, Some, None, option_and_then, option_map, unwrap_or, length}
 use Rattle.std.specs.List.{filter_map}
 use Rattle.odb_doc.specs.Names.{distinct}
 use Rattle.odb_doc.specs.batch.Records.{Record}
-use Rattle.odb_check.specs.Positions.{id_at, group_at}
+use Rattle.odb_check.specs.Positions.{id_at, group_at, reference_at}
 use Rattle.odb_check.specs.Firsts.{first_below, count_below, is_text}
 
 -- the first position with this identifier, among the first n
@@ -48,6 +48,10 @@ unit_at rs i = units_before rs (unit_begin rs i)
 -- the position of an identifier, none for any other text
 abbrev pub position_of : List Record → List ℕ → Option ℕ
 position_of rs id = first_id rs (length rs) id
+
+-- the position of the request that the URL at a position refers to, if it refers to one
+abbrev pub referred_at : List Record → ℕ → Option ℕ
+referred_at rs i = option_and_then (position_of rs) (reference_at rs i)
 
 -- the first position in a group
 abbrev pub group_begin : List Record → List ℕ → Option ℕ

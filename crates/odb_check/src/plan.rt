@@ -141,4 +141,15 @@ impl<'b> Plan<'b> {
     {
         self.tables.position_of(id)
     }
+
+    /// Returns the position of the request that the URL of request `i` refers to, if it refers to one.
+    pub fn referred(&self, i: u32) -> Option<u32>
+        requires { i < length (plan_records self.now) }
+        ensures { result ≡ units.referred_at (plan_records self.now) i }
+    {
+        match &self.request(i).reference {
+            Some(id) => self.position_of(id.as_str()),
+            None => None,
+        }
+    }
 }

@@ -37,5 +37,6 @@ mod SomeBatchLemmas
 mod TextLemmas
 mod TypeLemmas
 mod UnbrokenLemmas
+mod UrlRestLemmas
 mod WatchLemmas
 mod EventLemmas

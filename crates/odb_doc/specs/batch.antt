@@ -7,6 +7,7 @@ pub mod Records
 pub mod References
 pub mod ShapeFaults
 pub mod Shapes
+pub mod UrlRests
 -- What invariants, private clauses and proofs cite: nothing to believe.
 pub mod BodyKinds
 pub mod Lines

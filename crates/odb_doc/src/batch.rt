@@ -21,6 +21,7 @@ mod members;
 mod object;
 mod reference;
 pub mod request;
+mod url_rest;
 
 use crate::batch::asked::Asked;
 use crate::batch::object::{broken_rule, elements_in};

@@ -34,7 +34,7 @@ use Rattle.odb_engine.specs.declared.ending.Ended.TheVariants.{Done}
 use Rattle.odb_doc.specs.Refusals.{Printed}
 use Rattle.odb_engine.specs.declared.form.Form.{Form}
 use Rattle.odb_engine.specs.Cascade.{Accepts, Answers}
-use Rattle.odb_text.specs.Lines.{response_line}
+use Rattle.odb_engine.specs.ResponseLines.{response_line}
 use Rattle.odb_engine.specs.Live.{IsAfter, IsLeastOfLive, IsOpened, Live, Opens, RecordsOneMore, Shows, with_run}
 use Rattle.odb_engine.specs.Live.IsLeastOfLive.{OfBody, OfEnd as AtEnd}
 use Rattle.odb_engine.specs.Runs.{AreEventsIn, AreResolved, IsHistoryOf, IsLeastOfRun, Runs, RunsBatch, RunsEvents, RunsValue, end_of}

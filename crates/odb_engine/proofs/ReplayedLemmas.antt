@@ -21,7 +21,7 @@ use Rattle.odb_exec.specs.Courses.{AreChosen, IsOffered, step_of}
 use Rattle.odb_exec.specs.Recordings.{outcome_for, recorded_for}
 use Rattle.odb_reply.specs.OnePerId.{HasOnePerId}
 use Rattle.odb_reply.specs.Responses.{response_value}
-use Rattle.odb_text.specs.Lines.{response_line}
+use Rattle.odb_engine.specs.ResponseLines.{response_line}
 use Rattle.odb_engine.specs.declared.ending.Ended.TheVariants.{Done}
 use Rattle.odb_engine.specs.declared.form.Form.{Form}
 use Rattle.odb_engine.specs.Cascade.{Accepts, AcceptsValue, Answers, AnswersValue, HasValue}

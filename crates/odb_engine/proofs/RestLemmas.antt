@@ -16,13 +16,13 @@ use Rattle.odb_reply.specs.LeastMatchFault.{RefusesMatch}
 use Rattle.odb_reply.specs.MatchFaults as match_faults
 use Rattle.odb_reply.specs.ResponseDocuments.{Entry, RefusesResponses}
 use Rattle.odb_reply.specs.ResponseDocuments as response_documents
-use Rattle.odb_rest.specs.declared.fault.RestFault.{RestFault}
-use Rattle.odb_rest.specs.declared.rest.Rest.{Rest}
-use Rattle.odb_rest.specs.Faults.{RefusesRest, rest_row}
-use Rattle.odb_rest.specs.Locations.{recorded}
-use Rattle.odb_rest.specs.Rests.{IsRestOf}
-use Rattle.odb_rest.specs.Texts.{IsTextOf}
-use Rattle.odb_rest.specs.Units.{AreMarksOf, IsInRest}
+use Rattle.odb_send.specs.declared.fault.RestFault.{RestFault}
+use Rattle.odb_send.specs.declared.rest.Rest.{Rest}
+use Rattle.odb_send.specs.Faults.{RefusesRest, rest_row}
+use Rattle.odb_send.specs.Locations.{recorded}
+use Rattle.odb_send.specs.Rests.{IsRestOf}
+use Rattle.odb_send.specs.Texts.{IsTextOf}
+use Rattle.odb_send.specs.Units.{AreMarksOf, IsInRest}
 use Rattle.odb_send.specs.Parts.{IsBatchIn}
 use Rattle.odb_engine.specs.declared.ending.Ended.{Ended}
 use Rattle.odb_engine.specs.declared.ending.Ended.TheVariants.{Done, Refused}

@@ -8,6 +8,7 @@ pub mod Halts
 pub mod Commands
 pub mod AllFaults
 pub mod ReadAgain
+pub mod ResponseLines
 pub mod Replays
 pub mod Runs
 pub mod Replayed

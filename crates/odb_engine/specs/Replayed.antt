@@ -13,7 +13,7 @@ use Rattle.odb_sched.specs.run.Choosing.{Allowance}
 use Rattle.odb_sched.specs.run.State.{State, first_state}
 use Rattle.odb_exec.specs.Courses.{IsFinishedBy}
 use Rattle.odb_exec.specs.Recordings.{outcome_for}
-use Rattle.odb_text.specs.Lines.{response_line}
+use Rattle.odb_engine.specs.ResponseLines.{response_line}
 use Rattle.odb_engine.specs.Cascade.{Answers, HasValue}
 use Rattle.odb_engine.specs.declared.ending.Ended.TheVariants.{Done}
 use Rattle.odb_engine.specs.declared.form.Form.{Form}

@@ -19,7 +19,7 @@ use Rattle.odb_reply.specs.OnePerId.{HasOnePerId}
 use Rattle.odb_sched.specs.run.Laws.{StartsAfterDependencies}
 use Rattle.odb_engine.specs.declared.ending.Ended.{Ended}
 use Rattle.odb_engine.specs.declared.ending.Ended.TheVariants.{Done}
-use Rattle.odb_text.specs.Lines.{response_line}
+use Rattle.odb_engine.specs.ResponseLines.{response_line}
 use Rattle.odb_text.specs.Traces.{trace_part}
 use Rattle.odb_doc.specs.Refusals.{Printed}
 use Rattle.odb_engine.specs.Cascade.{WritesIn, Reports, HasFault, OfDocument}

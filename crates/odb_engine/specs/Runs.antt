@@ -25,7 +25,7 @@ use Rattle.odb_doc.specs.Refusals.{Printed}
 use Rattle.odb_engine.specs.Cascade.{WritesIn, Reports, HasFault, HasValue, IsLeastOf, OfDocument}
 use Rattle.odb_engine.specs.Inputs.{BySecond}
 use Rattle.odb_engine.specs.ReadAgain.{IsReadAgain}
-use Rattle.odb_text.specs.Lines.{response_line}
+use Rattle.odb_engine.specs.ResponseLines.{response_line}
 
 -- F66
 abbrev pub unfinished : Printed

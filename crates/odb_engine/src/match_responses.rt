@@ -44,8 +44,8 @@ fn match_text(
         ≡ match_text form (plan_records plan.now) (statuses table.now)) }
 {
     match form {
-        Form::Lines => match_lines(alloc, plan, table),
-        Form::Json => match_json(alloc, plan, table),
+        Form::Lines => match_lines(alloc, plan, table.statuses()),
+        Form::Json => match_json(alloc, plan, table.statuses()),
     }
 }
 

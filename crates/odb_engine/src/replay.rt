@@ -105,7 +105,7 @@ fn replayed_by(
         value: run_of(alloc, plan, outcomes, chooser, replay)?,
         disposal: replay.disposal,
     };
-    let mut text = trace_part(alloc, &trace.value, replay.traced)?;
+    let mut text = trace_part(alloc, &trace.value.done, &trace.value.steps, replay.traced)?;
     push_response(alloc, &mut text, &trace.value.done)?;
     Ok(text)
 }

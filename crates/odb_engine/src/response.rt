@@ -3,7 +3,7 @@
 ghost use Rattle.std.specs.Prelude.{◌≡◌, ◌++◌, IfErr, OnOk, string_bytes};
 ghost use Rattle.odb_reply.specs.NotWhole.{HasWholeBodies};
 ghost use Rattle.odb_engine.specs.declared.halt.Halt.TheVariants as halts;
-ghost use Rattle.odb_text.specs.Lines.{response_line};
+ghost use Rattle.odb_engine.specs.ResponseLines.{response_line};
 
 use crate::halt::Halt;
 use odb_reply::push_whole_response;

@@ -14,7 +14,7 @@ ghost use Rattle.odb_engine.specs.Cascade.{Answers};
 ghost use Rattle.odb_engine.specs.Engines.{Ends};
 ghost use Rattle.odb_engine.specs.Contents.{AskedFor};
 ghost use Rattle.odb_engine.specs.Inputs.{IsFresh, ReadsFew, SomeDocument};
-ghost use Rattle.odb_text.specs.Lines.{response_line};
+ghost use Rattle.odb_engine.specs.ResponseLines.{response_line};
 ghost use Rattle.odb_engine.specs.Runs as runs;
 ghost use Rattle.odb_engine.specs.Halts.{Found, Halted, HaltsBy};
 

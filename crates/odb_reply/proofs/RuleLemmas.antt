@@ -15,10 +15,10 @@ use Rattle.odb_doc.specs.Statuses.{is_success}
 use Rattle.odb_reply.specs.declared.match_fault.MatchRule.{MatchRule}
 use Rattle.odb_reply.specs.declared.match_fault.MatchRule.TheVariants.{GroupDiffers, UnsoundSuccess}
 use Rattle.odb_reply.specs.ResponseDocuments.{Entry}
-use Rattle.odb_reply.specs.Fits.{Responds, IsRow}
+use Rattle.odb_reply.specs.Fits.{AreUnits, Responds, IsRow}
 use Rattle.odb_reply.specs.LeastMatchFault.{phase}
 use Rattle.odb_reply.specs.MatchFaults.{Breaks, number, Fails, HasFailed}
-use Rattle.odb_reply.specs.Places.{HasRows, AreUnits, is_satisfied, NoneIn, IsFirstIn}
+use Rattle.odb_reply.specs.Places.{HasRows, is_satisfied, NoneIn, IsFirstIn}
 use Rattle.odb_check.proofs.PositionLemmas.{id_within}
 use Rattle.odb_sched.proofs.ListLemmas.{slice_get-some}
 use Rattle.odb_reply.proofs.UnitLemmas.{need_within}

@@ -12,7 +12,7 @@ use Rattle.odb_check.specs.declared.need.Need.TheVariants.{One, Group}
 use Rattle.odb_check.specs.PlanGraph.{PlanGraph, IsPlan, IsPlanGraphOf, IsEarlier, unit_of, needs_of}
 use Rattle.odb_sched.specs.run.Possible.{CanHaveSucceeded, CanHaveStarted, IsPossible}
 use Rattle.odb_sched.proofs.BelowLemmas.{list_all-from, list_all-each}
-use Rattle.odb_reply.specs.Places.{AreUnits}
+use Rattle.odb_reply.specs.Fits.{AreUnits}
 use Rattle.odb_reply.specs.Starts.{can_have_succeeded, can_start, AreStarts, IsSound, IsFirstAt}
 use Rattle.odb_reply.specs.StatusFaults.{status_at, BreaksStatus, status_number, status_row, RefusesStatuses}
 use Rattle.odb_reply.specs.declared.status_fault.StatusFault.{StatusFault}

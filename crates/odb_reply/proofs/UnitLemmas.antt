@@ -9,8 +9,8 @@ use Rattle.odb_check.specs.Needs.{needs_at}
 use Rattle.odb_check.specs.PlanGraph.{PlanGraph, IsPlan, IsPlanGraphOf, IsNeed, IsNeedAmong, IsEarlier}
 use Rattle.odb_check.specs.Units.{unit_at, unit_count}
 use Rattle.odb_doc.specs.Statuses.{is_success}
-use Rattle.odb_reply.specs.Places.{AreUnits}
 use Rattle.odb_reply.proofs.SliceLemmas.{slice_get-set_same, slice_get-set_other, slice_get-replicate}
+use Rattle.odb_reply.specs.Fits.{AreUnits}
 
 pub AreUnits-none : (rs : List Record) (statuses : List ℕ) → AreUnits rs statuses 0 (replicate (unit_count rs) true)
 AreUnits-none rs statuses = record {

@@ -1,5 +1,5 @@
 -- When the responses of a service fit a batch (OData JSON Format 4.01, section 19.5; OData Protocol 4.01, section 11.7).
-use Rattle.std.specs.Prelude.{◌≡◌, ℕ, List, length, Option, Some, option_map, slice_get, Contains, IsTrue}
+use Rattle.std.specs.Prelude.{◌≡◌, ◌<◌, ℕ, Bool, true, false, List, length, Option, Some, option_map, slice_get, slice_index, Contains, IsTrue}
 use Rattle.std.specs.List.{AllZip}
 use Rattle.serde_json.specs.Data.{Data}
 use Rattle.odb_doc.specs.batch.Records.{Record}
@@ -7,7 +7,7 @@ use Rattle.odb_check.specs.declared.need.Need.{Need}
 use Rattle.odb_check.specs.declared.need.Need.TheVariants.{One, Group}
 use Rattle.odb_check.specs.Needs.{needs_at}
 use Rattle.odb_check.specs.Positions.{id_at, group_at, IsId}
-use Rattle.odb_check.specs.Units.{unit_at}
+use Rattle.odb_check.specs.Units.{unit_at, unit_count}
 use Rattle.odb_doc.specs.Statuses.{is_success}
 use Rattle.odb_reply.specs.declared.table.Table.{Table}
 use Rattle.odb_reply.specs.ResponseDocuments.{Entry, ReadsAs, responses_in}
@@ -51,6 +51,12 @@ places table = table.places.items
 -- their statuses
 abbrev pub statuses : Table → List ℕ
 statuses table = table.statuses.items
+
+-- of each unit, whether the statuses of all its members among the first n requests are successes
+pub record AreUnits (rs : List Record) (statuses : List ℕ) (n : ℕ) (units : List Bool) : Type 0 where
+  pub count : length units ≡ unit_count rs
+  pub succeeded : (u r : ℕ) → slice_get units u ≡ Some true → r < n → unit_at rs r ≡ u → is_success (slice_index statuses r) ≡ true
+  pub failed : (u : ℕ) → slice_get units u ≡ Some false → (r : ℕ) × (r < length rs) × (unit_at rs r ≡ u) × (is_success (slice_index statuses r) ≡ false)
 
 -- the response at place k is to the request at i, and has the status
 pub record IsRow (rs : List Record) (es : List Entry) (i k status : ℕ) : Type 0 where

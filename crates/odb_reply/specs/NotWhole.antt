@@ -8,8 +8,8 @@ use Rattle.odb_doc.specs.declared.fault.TextFault.TheVariants as texts
 use Rattle.odb_doc.specs.declared.recorded.outcome.Outcome.{Outcome}
 use Rattle.odb_sched.specs.run.Answers.{answer}
 use Rattle.odb_sched.specs.run.State.{State, size}
-use Rattle.odb_reply.specs.declared.reply.ReplyFault.{ReplyFault}
-use Rattle.odb_reply.specs.declared.reply.ReplyFault.TheVariants.{NotWhole, Write, OutOfMemory}
+use Rattle.odb_reply.specs.declared.write.ReplyFault.{ReplyFault}
+use Rattle.odb_reply.specs.declared.write.ReplyFault.TheVariants.{NotWhole, Write, OutOfMemory}
 use Rattle.odb_reply.specs.BodyTexts.{text_at, value_body}
 use Rattle.odb_reply.specs.Responses.{answer_body}
 

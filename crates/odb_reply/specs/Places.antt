@@ -1,12 +1,11 @@
 -- For invariants and private clauses: the places at which the responses to requests were found, their statuses, and which
 -- requests have a response.
-use Rattle.std.specs.Prelude.{◌≡◌, ◌<◌, ℕ, List, length, take, Option, Some, None, Bool, true, false, slice_get, slice_set, slice_index, slice_index_or}
+use Rattle.std.specs.Prelude.{◌≡◌, ◌<◌, ℕ, List, length, take, Option, Some, None, Bool, false, slice_get, slice_set, slice_index, slice_index_or}
 use Rattle.odb_doc.specs.LeastRules.{NoneBroken, BreaksIn, IsFirst, IsLeast}
 use Rattle.odb_doc.specs.batch.Records.{Record}
 use Rattle.odb_check.specs.declared.need.Need.{Need}
 use Rattle.odb_check.specs.declared.need.Need.TheVariants.{One, Group}
 use Rattle.odb_check.specs.Positions.{id_at, IsId}
-use Rattle.odb_check.specs.Units.{unit_at, unit_count}
 use Rattle.odb_doc.specs.Statuses.{is_success}
 use Rattle.odb_reply.specs.declared.match_fault.MatchRule.{MatchRule}
 use Rattle.odb_reply.specs.declared.match_fault.MatchRule.TheVariants.{UnknownResponse, ResponseTwice}
@@ -80,12 +79,6 @@ pub record AreListed (es : List Entry) (found : Places) (n : ℕ) (places status
 pub record HasRows (rs : List Record) (es : List Entry) (places statuses : List ℕ) : Type 0 where
   pub table : IsTableOf rs es places statuses
   pub only : (i k : ℕ) (e : Entry) → Responds rs es i e → slice_get places i ≡ Some k → slice_get es k ≡ Some e
-
--- of each unit, whether the statuses of all its members among the first n requests are successes
-pub record AreUnits (rs : List Record) (statuses : List ℕ) (n : ℕ) (units : List Bool) : Type 0 where
-  pub count : length units ≡ unit_count rs
-  pub succeeded : (u r : ℕ) → slice_get units u ≡ Some true → r < n → unit_at rs r ≡ u → is_success (slice_index statuses r) ≡ true
-  pub failed : (u : ℕ) → slice_get units u ≡ Some false → (r : ℕ) × (r < length rs) × (unit_at rs r ≡ u) × (is_success (slice_index statuses r) ≡ false)
 
 -- whether a dependency is satisfied, by the statuses of the requests and by the results of the units
 abbrev pub is_satisfied : List ℕ → List Bool → Need → Bool

@@ -20,25 +20,6 @@ use odb_doc::Request;
 use odb_doc::status::is_success;
 use std::alloc::{AllocError, Global};
 
-/// Returns, for each unit, whether the responses to all its members are successes.
-pub(crate) fn units_of(
-    alloc: Global,
-    plan: &Plan<'_>,
-    table: &Table,
-) -> Result<Vec<bool>, AllocError>
-    requires { length (fits.statuses table.now) ≡ length (plan_records plan.now) }
-    ensures { IfOk result (λ units. known.AreUnits (plan_records plan.now)
-        (fits.statuses table.now) (length (plan_records plan.now)) units.items) }
-{
-    let mut units = vec![in alloc; true; plan.unit_count() as usize]?;
-    for i in 0..plan.len() {
-        if !is_success(table.status(i)) {
-            units[plan.unit_of(i) as usize] = false;
-        }
-    }
-    Ok(units)
-}
-
 /// Returns whether a dependency has succeeded.
 fn is_satisfied(table: &Table, units: &[bool], need: Need) -> bool
     requires { IsNeedAmong (length (fits.statuses table.now)) (length units.now) need }
@@ -54,7 +35,7 @@ fn is_satisfied(table: &Table, units: &[bool], need: Need) -> bool
 fn has_failed_need(plan: &Plan<'_>, table: &Table, units: &[bool], i: u32) -> bool
     requires request { i < length (plan_records plan.now) }
     requires statuses { length (fits.statuses table.now) ≡ length (plan_records plan.now) }
-    requires units { known.AreUnits (plan_records plan.now) (fits.statuses table.now)
+    requires units { fits.AreUnits (plan_records plan.now) (fits.statuses table.now)
         (length (plan_records plan.now)) units.now }
     ensures { result ≡ list_any (λ need. not (known.is_satisfied (fits.statuses table.now) units.now need))
         (needs_at (plan_records plan.now) i) }
@@ -86,7 +67,7 @@ fn broken_rule(
     requires request { i < length (plan_records plan.now) }
     requires rows { known.HasRows (plan_records plan.now) (entries responses.now)
         (fits.places table.now) (fits.statuses table.now) }
-    requires units { known.AreUnits (plan_records plan.now) (fits.statuses table.now)
+    requires units { fits.AreUnits (plan_records plan.now) (fits.statuses table.now)
         (length (plan_records plan.now)) units.now }
     ensures none { IfNone result (known.NoneIn 3 (plan_records plan.now) (entries responses.now) i) }
     ensures first { IfSome result (known.IsFirstIn 3 (plan_records plan.now) (entries responses.now) i) }
@@ -111,7 +92,7 @@ fn check_requests(
 ) -> Result<(), MatchFault>
     requires rows { known.HasRows (plan_records plan.now) (entries responses.now)
         (fits.places table.now) (fits.statuses table.now) }
-    requires units { known.AreUnits (plan_records plan.now) (fits.statuses table.now)
+    requires units { fits.AreUnits (plan_records plan.now) (fits.statuses table.now)
         (length (plan_records plan.now)) units.now }
     ensures none { OnOk result ((i : ℕ) → i < length (plan_records plan.now)
         → known.NoneIn 3 (plan_records plan.now) (entries responses.now) i) }
@@ -157,7 +138,7 @@ pub fn match_responses(
 {
     let places = places_of(alloc, plan, responses)?;
     let table = table_of(alloc, plan, responses, &places)?;
-    let units = units_of(alloc, plan, &table)?;
+    let units = table.succeeded_units(alloc, plan)?;
     check_requests(plan, responses, &table, &units)?;
     Ok(table)
 }

@@ -4,12 +4,10 @@ ghost use Rattle.std.specs.Prelude.{◌≡◌, ◌<◌, ℕ, length, IfOk, IfErr
 ghost use Rattle.odb_check.specs.Plans.{plan_records, plan_graph};
 ghost use Rattle.odb_check.specs.PlanGraph.{IsEarlier};
 ghost use Rattle.odb_sched.specs.run.Possible.{IsPossible};
-ghost use Rattle.odb_reply.specs.Fits.{statuses};
-ghost use Rattle.odb_reply.specs.Places.{AreUnits};
+ghost use Rattle.odb_reply.specs.Fits.{AreUnits, statuses};
 ghost use Rattle.odb_reply.specs.Starts as starts;
 ghost use Rattle.odb_reply.specs.StatusFaults.{RefusesStatuses, status_at};
 
-use crate::fits::units_of;
 use crate::status_fault::{StatusFault, StatusRule};
 use crate::table::Table;
 use odb_check::{Need, Plan};
@@ -167,7 +165,7 @@ pub fn check_statuses(alloc: Global, plan: &Plan<'_>, table: &Table) -> Result<(
         (status_at (statuses table.now))) }
 {
     odb_check::laws::every_plan(plan);
-    let units = units_of(alloc, plan, table)?;
+    let units = table.succeeded_units(alloc, plan)?;
     let started = starts_of(alloc, plan, table, &units)?;
     check_each(plan, table, &units, &started)?;
     Ok(())

@@ -9,7 +9,8 @@ ghost use Rattle.odb_reply.specs.ResponseDocuments.{entries};
 use crate::match_fault::{MatchFault, MatchRule};
 use crate::responses::Responses;
 use odb_check::Plan;
-use std::alloc::Global;
+use odb_doc::status::is_success;
+use std::alloc::{AllocError, Global};
 
 /// The place and the status of the response to each request of a batch.
 #[derive(Debug, Drop)]
@@ -19,7 +20,7 @@ pub struct Table {
 }
 
 impl Table {
-    ghost use Rattle.odb_reply.specs.Fits.{places, statuses};
+    ghost use Rattle.odb_reply.specs.Fits.{AreUnits, places, statuses};
 
     /// Returns the status of the response to the request at a position, counted from 0.
     pub fn status(&self, i: u32) -> u16
@@ -27,6 +28,32 @@ impl Table {
         ensures { slice_get (statuses self.now) i ≡ Some result }
     {
         self.statuses[i as usize]
+    }
+
+    /// Returns the status of the response to each request.
+    pub fn statuses(&self) -> &[u16]
+        ensures { result.now ≡ statuses self.now }
+    {
+        &self.statuses
+    }
+
+    /// Returns for each unit of the plan whether the responses to all its requests are successes.
+    ///
+    /// # Errors
+    ///
+    /// If memory for the units cannot be allocated.
+    pub fn succeeded_units(&self, alloc: Global, plan: &Plan<'_>) -> Result<Vec<bool>, AllocError>
+        requires { length (statuses self.now) ≡ length (plan_records plan.now) }
+        ensures { IfOk result (λ units. AreUnits (plan_records plan.now) (statuses self.now)
+            (length (plan_records plan.now)) units.items) }
+    {
+        let mut units = vec![in alloc; true; plan.unit_count() as usize]?;
+        for i in 0..plan.len() {
+            if !is_success(self.status(i)) {
+                units[plan.unit_of(i) as usize] = false;
+            }
+        }
+        Ok(units)
     }
 
     /// Returns the place of the response to the request at a position, both counted from 0.

@@ -1,1 +1,12 @@
 mod PartLemmas
+pub mod MarkLemmas
+pub mod SelectLemmas
+pub mod PositionLemmas
+pub mod NameLemmas
+pub mod UrlLemmas
+pub mod LawLemmas
+pub mod DependsLemmas
+pub mod TextLemmas
+pub mod PlanLemmas
+pub mod ReadLemmas
+pub mod SoundLemmas

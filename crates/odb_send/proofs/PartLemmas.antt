@@ -1,21 +1,19 @@
 -- Where pieces of a growing text lie.
-use Rattle.std.proofs.Common.{◌≡◌, ◌∙◌, ◌+◌, ◌-◌, ◌<◌, ◌≤◌, ℕ, Bool, true, false, if◌then◌else◌, List, [], ◌∷◌, ◌++◌, length, take, drop, Option, Some, None, unwrap_or, inl, inr, refl, sym, ap, subst, arith, append_assoc, get_or, slice_get}
+use Rattle.std.proofs.Common.{◌≡◌, ◌∙◌, ◌+◌, ◌-◌, ◌<◌, ◌≤◌, ℕ, Bool, true, false, if◌then◌else◌, List, [], ◌∷◌, ◌++◌, length, take, Option, Some, None, option_and_then, unwrap_or, inl, inr, refl, sym, ap, subst, arith, append_assoc, get_or, slice_get}
 use Rattle.std.proofs.lemmas.List.{append-nil, length-append, map-append, take_more}
 use Rattle.std.proofs.lemmas.Option.{get_or_from_slice_get, slice_get_cases, slice_get_within}
 use Rattle.std.proofs.lemmas.Slice.Zip.{AllZip-long}
-use Rattle.std.proofs.lemmas.List.Elements.{All-head, All-tail}
-use Rattle.std.proofs.lemmas.Str.{IsCharBoundary-before_ascii}
-use Rattle.std.proofs.Math.Seq.{drop-append_seam, get_or-append_seam}
-use Rattle.std.specs.List.{AllPass, AllZip}
-use Rattle.std.specs.Str.{IsCharBoundary}
+use Rattle.std.specs.List.{AllZip}
 use Rattle.serde_json.specs.Data.{Data}
 use Rattle.odb_doc.specs.batch.Shapes.{elements}
-use Rattle.odb_names.specs.Segments.{IsAfterFirstSegment, is_in_segment}
+use Rattle.odb_names.specs.Segments.{is_in_segment}
 use Rattle.odb_doc.specs.batch.Records.{Record, ReadsAs}
+use Rattle.odb_doc.specs.batch.UrlRests.{past_segment, rest_after}
+use Rattle.odb_check.specs.Units.{position_of, referred_at}
 use Rattle.odb_spans.specs.Spans.{HasBodyAt}
 use Rattle.odb_spans.specs.declared.span.Span.{Span}
 use Rattle.odb_send.specs.declared.parts.RequestParts.{RequestParts}
-use Rattle.odb_send.specs.Parts.{HasPart, HasPartIf, HasParts, bodies_of, past_segment, rest_after}
+use Rattle.odb_send.specs.Parts.{HasPart, HasPartIf, HasParts, bodies_of}
 use Rattle.odb_send.specs.Pieces.{Extends}
 
 -- ---- a text that grows
@@ -62,36 +60,6 @@ pub part-fits : (text part : List ℕ) (span : Span) → HasPart text part span 
 part-fits text part span held = omega (arith, held.ends)
 
 -- ---- the rest of a URL
-
--- the text after a run of a segment is what follows its first segment
-past-run : (run rest : List ℕ) → AllPass is_in_segment run → ((first : ℕ) (more : List ℕ) → rest ≡ first ∷ more → is_in_segment first ≡ false) → past_segment (run ++ rest) ≡ rest
-past-run [] [] passes stops = refl
-past-run [] (byte ∷ rest) passes stops = rw (stops byte rest refl) refl
-past-run (byte ∷ run) rest passes stops = rw (All-head (λ byte. is_in_segment byte ≡ true) byte run passes) (past-run run rest (All-tail (λ byte. is_in_segment byte ≡ true) byte run passes) stops)
-
-pub past-segment : (url rest : List ℕ) → IsAfterFirstSegment url rest → past_segment url ≡ rest
-past-segment url rest after = ap past_segment after.splits.whole ∙ past-run after.segment rest after.splits.passes after.splits.stops
-
--- a URL ends with its rest
-pub ends-with : (segment url rest : List ℕ) → url ≡ segment ++ rest → drop (length url - length rest) url ≡ rest
-ends-with segment url rest whole =
-    let long : length url - length rest ≡ length segment = omega (arith, ap (λ (t : List ℕ). length t) whole, length-append segment rest) in
-    rw (long, whole) (drop-append_seam segment rest)
-
-ends-segment : (byte : ℕ) → is_in_segment byte ≡ false → byte < 128
-ends-segment byte ends = grind (arith, ends)
-
--- a character begins where the rest does
-cut-at : (segment rest : List ℕ) → ((first : ℕ) (more : List ℕ) → rest ≡ first ∷ more → is_in_segment first ≡ false) → IsCharBoundary (segment ++ rest) (length segment)
-cut-at segment [] stops = (omega (arith, length-append segment []), λ within. absurd (omega (arith, within, length-append segment [])))
-cut-at segment (byte ∷ rest) stops =
-    IsCharBoundary-before_ascii (segment ++ byte ∷ rest) (length segment) (omega (arith, length-append segment (byte ∷ rest))) (rw (get_or-append_seam segment byte rest 0) (ends-segment byte (stops byte rest refl)))
-
-pub cut-there : (url rest : List ℕ) → IsAfterFirstSegment url rest → IsCharBoundary url (length url - length rest)
-cut-there url rest after =
-    let segment = after.segment in
-    let long : length url - length rest ≡ length segment = omega (arith, ap (λ (t : List ℕ). length t) after.splits.whole, length-append segment rest) in
-    rw (long, after.splits.whole) (cut-at segment rest after.splits.stops)
 
 -- what a URL begins with, before its rest
 abbrev Front : List ℕ → List ℕ → Type 0
@@ -171,6 +139,10 @@ pub as-many : (document : List ℕ) (d : Data) (batch : List Record) (bodies : L
 as-many document d batch bodies read held = AllZip-long (HasBodyAt document) (elements d) bodies held ∙ sym (AllZip-long ReadsAs (elements d) batch read)
 
 -- ---- one of a list
+
+-- the position that the URL of a request refers to
+pub referred-record : (batch : List Record) (i : ℕ) (r : Record) → slice_get batch i ≡ Some r → referred_at batch i ≡ option_and_then (position_of batch) r.reference
+referred-record batch i r here = ap (λ (o : Option Record). option_and_then (position_of batch) (option_and_then (λ (q : Record). q.reference) o)) here
 
 pub same-record : (rs : List Record) (i : ℕ) (x r : Record) → slice_get rs i ≡ Some x → slice_get rs i ≡ Some r → x ≡ r
 same-record rs i x r one other = ap (λ (o : Option Record). unwrap_or o r) (sym one ∙ other)

@@ -1,4 +1,12 @@
 -- What public clauses cite, and has to be believed.
 pub mod Parts
--- For private clauses: nothing to believe.
+pub mod Repeats
+pub mod Units
+pub mod Locations
+pub mod Rests
+pub mod Faults
+pub mod Laws
+pub mod Texts
+-- For invariants and private clauses: nothing to believe.
 pub mod Pieces
+pub mod Marks

@@ -1,15 +1,15 @@
 -- What is to be sent of each request of a batch (OData JSON Format 4.01, section 19.1): where its parts lie in a text, and
 -- where its body lies in the document.
-use Rattle.std.specs.Prelude.{◌≡◌, ◌+◌, ℕ, List, [], ◌∷◌, ◌++◌, length, map, Option, Some, None, option_and_then, ⊤, string_bytes, if◌then◌else◌}
+use Rattle.std.specs.Prelude.{◌≡◌, ◌+◌, ℕ, List, ◌++◌, length, map, Option, Some, None, option_and_then, ⊤, string_bytes}
 use Rattle.std.specs.List.{AllZip}
 use Rattle.serde_json.specs.Data.{Data, object}
 use Rattle.serde_json.specs.Written.{compact_text}
 use Rattle.odb_names.specs.Methods.{http_name}
-use Rattle.odb_names.specs.Segments.{is_in_segment}
 use Rattle.odb_doc.specs.Documents.{IsJson}
 use Rattle.odb_doc.specs.canonical.Canonical.{header_members}
 use Rattle.odb_doc.specs.batch.Records.{Record, IsBatchOf}
 use Rattle.odb_doc.specs.batch.Shapes.{elements}
+use Rattle.odb_doc.specs.batch.UrlRests.{url_rest}
 use Rattle.odb_check.specs.Units.{position_of}
 use Rattle.odb_spans.specs.Spans.{EachSpan, HasBodyAt, IsPlaceOfBody}
 use Rattle.odb_spans.specs.declared.span.Span.{Span}
@@ -31,26 +31,9 @@ HasPartIf text None (Some span) = ⊥
 HasPartIf text (Some part) None = ⊥
 HasPartIf text (Some part) (Some span) = HasPart text part span
 
--- the URL from its first `/`, `?` or `#` on
-abbrev pub past_segment : List ℕ → List ℕ
-past_segment [] = []
-past_segment (byte ∷ url) = if is_in_segment byte then past_segment url else byte ∷ url
-
--- what follows the id that the URL refers to, which is its first segment; the whole URL if it refers to no request
-abbrev pub rest_after : Option (List ℕ) → List ℕ → List ℕ
-rest_after None url = url
-rest_after (Some id) url = past_segment url
-
-abbrev pub url_rest : Record → List ℕ
-url_rest r = rest_after r.reference r.url
-
 -- the headers as a JSON object: names in lower case, in byte order
 abbrev pub headers_text : Record → List ℕ
 headers_text r = compact_text (object (header_members r.headers))
-
--- the position of the request that the URL refers to, if it refers to one
-abbrev pub reference_of : List Record → Record → Option ℕ
-reference_of batch r = option_and_then (position_of batch) r.reference
 
 -- where the parts of a request of the batch lie in the text
 pub record HasParts (batch : List Record) (text : List ℕ) (r : Record) (parts : RequestParts) : Type 0 where
@@ -58,7 +41,7 @@ pub record HasParts (batch : List Record) (text : List ℕ) (r : Record) (parts 
   pub method : HasPart text (http_name r.method) parts.method
   pub url : HasPart text r.url parts.url
   pub rest : HasPart text (url_rest r) parts.rest
-  pub reference : parts.reference ≡ reference_of batch r
+  pub reference : parts.reference ≡ option_and_then (position_of batch) r.reference
   pub headers : HasPart text (headers_text r) parts.headers
   pub group : HasPartIf text r.group parts.group
 

@@ -1,14 +1,30 @@
-//! What is to be sent of each request of a batch, for who performs the batch or hands it on.
+//! What of an OData JSON batch is sent, and what may be sent again.
 //!
 //! A client of HTTP takes a method, a URL, headers and a body. [`requests_of`] returns where these lie for each
 //! request of a planned batch: the body as bytes of the document, which stay as the client wrote them, and
-//! all else in one text. It also splits a URL that refers to another request: `$a/Lines?x=1` refers to `a`, and the
-//! rest is `/Lines?x=1`.
+//! all else in one text.
+//!
+//! A service may leave requests unperformed: after a failed dependency, or because it had no capacity. They are the
+//! rest of the batch, by the responses that the service gave. [`rest_of`] returns which requests these are, and
+//! [`rest_text`] the batch that a client may send of them, with the bytes of their bodies. What holds of every rest
+//! is in [`laws`].
 #![tactic(auto)]
 
+mod fault;
+pub mod laws;
+mod locations;
+mod names;
 mod parts;
 mod piece;
+mod repeat;
 mod requests;
+mod rest;
+mod text;
+mod units;
+mod urls;
 
-pub use parts::{RequestParts, rest_of};
+pub use fault::RestFault;
+pub use parts::RequestParts;
 pub use requests::{Requests, requests_of};
+pub use rest::{Rest, rest_of};
+pub use text::rest_text;

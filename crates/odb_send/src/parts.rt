@@ -3,13 +3,13 @@
 ghost use Rattle.std.specs.Prelude.{◌≡◌, ◌≤◌, ◌<◌, ℕ, List, length, slice_get, Some, IfOk, OnOk, string_bytes};
 ghost use Rattle.odb_doc.specs.batch.Records.{Record, record_of};
 ghost use Rattle.odb_check.specs.Plans.{plan_records};
-ghost use Rattle.odb_send.specs.Parts.{HasPart, HasPartIf, HasParts, headers_text, reference_of, url_rest};
+ghost use Rattle.odb_doc.specs.batch.UrlRests.{url_rest};
+ghost use Rattle.odb_send.specs.Parts.{HasPart, HasParts, headers_text};
 ghost use Rattle.odb_send.specs.Pieces.{Extends};
 
 use crate::piece::{push_part, push_part_if};
 use odb_check::Plan;
 use odb_doc::Request;
-use odb_names::after_first_segment;
 use odb_spans::Span;
 use std::alloc::{AllocError, Global};
 
@@ -37,7 +37,11 @@ pub struct RequestParts {
 }
 
 /// Appends the headers of a request, and returns where they lie.
-fn push_headers(alloc: Global, text: &mut String, request: &Request<'_>) -> Result<Span, AllocError>
+fn push_headers_part(
+    alloc: Global,
+    text: &mut String,
+    request: &Request<'_>,
+) -> Result<Span, AllocError>
     ensures text { OnOk result (Extends (string_bytes text.old) (string_bytes text.new)) }
     ensures part { IfOk result (HasPart (string_bytes text.new)
         (headers_text (record_of request.now))) }
@@ -50,20 +54,6 @@ fn push_headers(alloc: Global, text: &mut String, request: &Request<'_>) -> Resu
     })
 }
 
-/// Returns the part of the URL of a request after the id that it refers to: `/Lines?x=1` of `$a/Lines?x=1`. It is
-/// the whole URL if that refers to no request (OData JSON Format 4.01, section 19.1).
-pub fn rest_of<'a>(request: &Request<'a>) -> &'a str
-    ensures { result.now ≡ url_rest (record_of request.now) }
-{
-    match &request.reference {
-        Some(_) => {
-            let length = after_first_segment(request.url).len();
-            &request.url[request.url.len() - length..]
-        }
-        None => request.url,
-    }
-}
-
 /// Returns where the rest of the URL lies, by where the URL lies.
 fn rest_in(request: &Request<'_>, url: Span) -> Span
     requires { length (record_of request.now).url ≤ url.end }
@@ -71,18 +61,8 @@ fn rest_in(request: &Request<'_>, url: Span) -> Span
         → HasPart text (url_rest (record_of request.now)) result }
 {
     Span {
-        start: url.end - rest_of(request).len(),
+        start: url.end - request.url_rest().len(),
         end: url.end,
-    }
-}
-
-/// Returns the position of the request that the URL refers to, if any.
-fn reference_in(plan: &Plan<'_>, request: &Request<'_>) -> Option<u32>
-    ensures { result ≡ reference_of (plan_records plan.now) (record_of request.now) }
-{
-    match &request.reference {
-        Some(id) => plan.position_of(id.as_str()),
-        None => None,
     }
 }
 
@@ -104,14 +84,14 @@ pub(crate) fn push_request(
     let id = push_part(text, request.id)?;
     let method = push_part(text, request.method.http_name())?;
     let url = push_part(text, request.url)?;
-    let headers = push_headers(alloc, text, request)?;
+    let headers = push_headers_part(alloc, text, request)?;
     let group = push_part_if(text, request.group)?;
     Ok(RequestParts {
         id,
         method,
         url,
         rest: rest_in(request, url),
-        reference: reference_in(plan, request),
+        reference: plan.referred(i),
         headers,
         group,
         body,

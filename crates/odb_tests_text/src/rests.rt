@@ -3,7 +3,7 @@
 use odb_check::check;
 use odb_doc::{Batch, parse};
 use odb_reply::{Responses, match_responses};
-use odb_rest::{rest_of, rest_text};
+use odb_send::{rest_of, rest_text};
 use odb_testing::fail::Fail as Failed;
 use std::alloc::Global;
 use std::rt::HostRuntime;

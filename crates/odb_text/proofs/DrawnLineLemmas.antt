@@ -26,7 +26,7 @@ use Rattle.odb_sched.specs.run.State.{State}
 use Rattle.odb_text.specs.DrawnLines.{before_lines, clusters_of, lines_of, mark_of, marked, nodes_of}
 use Rattle.odb_text.specs.Drawings.{arrow_end, arrow_line, arrow_start, below_line, cluster_line, drawing_text, greatest_level, level_line, lines_at, node_line, rank_line, rank_start, request_label, request_lines, row_end, row_lines, row_name}
 use Rattle.odb_text.specs.Rows.{end_row, row_at}
-use Rattle.odb_text.specs.Shown.{quoted, shown}
+use Rattle.odb_text.specs.Labels.{quoted, shown}
 use Rattle.odb_text.specs.Lines.{id_text}
 use Rattle.odb_text.specs.Traces.{step_line, trace_text, undo_line}
 use Rattle.odb_text.proofs.PlanTextLemmas.{AreLines, AreNamed, IsLine, Lack, elements-named, has, has-words, id-form, joined, joined-below, lacks-append, lacks-name, line-is, lines-below}

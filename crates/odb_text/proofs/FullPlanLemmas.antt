@@ -12,7 +12,7 @@ use Rattle.odb_check.specs.Needs.{needs_at}
 use Rattle.odb_spans.specs.declared.span.Span.{Span}
 use Rattle.odb_text.specs.FullPlans.{full_planned, full_some, span_value}
 use Rattle.odb_text.specs.Results.{need_values}
-use Rattle.odb_text.specs.ResultParts.{body_part, element, front_part, group_part, id_part, reference_part, string_part, url_part}
+use Rattle.odb_text.specs.ResultParts.{body_part, element, before_needs_part, group_part, id_part, reference_part, string_part, url_part}
 
 -- the text of a request by its members
 abbrev text_of : Option Span → Option (List ℕ) → Data → List ℕ → ℕ → List ℕ → List Data → Option (List ℕ) → List ℕ → List ℕ → List ℕ
@@ -49,7 +49,7 @@ full-text (Some body) (Some group) headers id level method needs (Some reference
 
 -- the text of the request at a position, after its opening brace
 abbrev request_text : List Record → ℕ → Option Span → Record → List ℕ
-request_text batch i body r = front_part body (level_at batch i) r ++ (codes ",\"needs\":[" ++ (items_text false (items_of (need_values batch (needs_at batch i))) ++ url_part r))
+request_text batch i body r = before_needs_part body (level_at batch i) r ++ (codes ",\"needs\":[" ++ (items_text false (items_of (need_values batch (needs_at batch i))) ++ url_part r))
 
 full-at : (batch : List Record) (i : ℕ) (body : Option Span) (found : Option Record) (r : Record) → found ≡ Some r → compact_text (full_some batch i body found) ≡ codes "{" ++ request_text batch i body r
 full-at batch i body found r is = rw is (full-text body r.group (object (header_members r.headers)) r.id (level_at batch i) (http_name r.method) (need_values batch (needs_at batch i)) r.reference _ r.url)

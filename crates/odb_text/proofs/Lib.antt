@@ -1,6 +1,6 @@
 mod DrawingLemmas
 mod RowLemmas
-mod ShownLemmas
+mod LabelLemmas
 mod ResultLemmas
 mod FullPlanLemmas
 mod FaultLemmas

@@ -4,7 +4,7 @@ use Rattle.std.specs.Prelude.{◌==◌}
 use Rattle.std.specs.Char.{digit_char}
 use Rattle.std.proofs.lemmas.Bool.{cases_eq, cases_lt, le-ltb, ne_eqb}
 use Rattle.json.specs.Print.{escape, escape_byte, escape_letter}
-use Rattle.odb_text.specs.Shown.{IsOneString, ends_last, is_nothing, quoted}
+use Rattle.odb_text.specs.Labels.{IsOneString, ends_last, is_nothing, quoted}
 
 abbrev IsPlain : ℕ → Type 0
 IsPlain x = ((x == 34) ≡ false) × ((x == 92) ≡ false)

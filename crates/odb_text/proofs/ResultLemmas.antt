@@ -1,6 +1,5 @@
 -- The results as JSON: their texts are those of their parts.
-use Rattle.std.proofs.Common.{◌≡◌, ◌∙◌, ℕ, zero, suc, List, [], ◌∷◌, ◌++◌, length, Bool, true, false, nat_lt, Option, Some, None, option_map, option_and_then, unwrap_or, slice_get, decimal, refl, sym, ap, codes, arith, append_assoc, append-nil, lt-ltb}
-use Rattle.std.proofs.lemmas.Option.{get_or_from_slice_get}
+use Rattle.std.proofs.Common.{◌≡◌, ◌∙◌, ℕ, zero, suc, List, [], ◌∷◌, ◌++◌, length, Bool, true, false, nat_lt, Option, Some, None, option_map, option_and_then, unwrap_or, get_or, slice_get, decimal, refl, sym, ap, codes, arith, append_assoc, append-nil, lt-ltb}
 use Rattle.serde_json.specs.Data.{Data, string, number, unsigned, array, object, put, no_members}
 use Rattle.serde_json.specs.View.{items_of}
 use Rattle.serde_json.specs.Written.{compact_text, comma_if, items_text}
@@ -99,12 +98,11 @@ matched_text : (id : List ℕ) (status : ℕ) → compact_text (object (put (cod
 unfolding serde_json_on_literals
 matched_text id status = simp append_assoc
 
-pub matched-parts : (batch : List Record) (statuses : List ℕ) (i : ℕ) (request : Record) (status : ℕ) → slice_get batch i ≡ Some request → slice_get statuses i ≡ Some status
-    → element (matched batch statuses) i ≡ comma_if (nat_lt 0 i) ++ (string_part (codes "{\"id\":") request.id ++ (codes ",\"status\":" ++ (decimal status ++ codes "}")))
+pub matched-parts : (batch : List Record) (statuses : List ℕ) (i : ℕ) (request : Record) → slice_get batch i ≡ Some request
+    → element (matched batch statuses) i ≡ comma_if (nat_lt 0 i) ++ (string_part (codes "{\"id\":") request.id ++ (codes ",\"status\":" ++ (decimal (get_or statuses i 0) ++ codes "}")))
 unfolding element matched
-matched-parts batch statuses i request status here there =
-    rw (here, get_or_from_slice_get statuses i status 0 there) (ap (λ text. comma_if (nat_lt 0 i) ++ text) (matched_text request.id status))
+matched-parts batch statuses i request here = rw here (ap (λ text. comma_if (nat_lt 0 i) ++ text) (matched_text request.id (get_or statuses i 0)))
 
-pub status-parts : (batch : List Record) (statuses : List ℕ) (i : ℕ) (request : Record) (status : ℕ) → slice_get batch i ≡ Some request → slice_get statuses i ≡ Some status
-    → status_line batch statuses i ≡ request.id ++ (codes " " ++ (decimal status ++ codes "\n"))
-status-parts batch statuses i request status here there = rw (here, get_or_from_slice_get statuses i status 0 there) (simp append_assoc)
+pub status-parts : (batch : List Record) (statuses : List ℕ) (i : ℕ) (request : Record) → slice_get batch i ≡ Some request
+    → status_line batch statuses i ≡ request.id ++ (codes " " ++ (decimal (get_or statuses i 0) ++ codes "\n"))
+status-parts batch statuses i request here = rw here (simp append_assoc)

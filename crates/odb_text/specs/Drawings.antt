@@ -13,7 +13,7 @@ use Rattle.odb_check.specs.Needs.{needs_at}
 use Rattle.odb_check.specs.Texts.{newline}
 use Rattle.odb_check.specs.Units.{unit_at}
 use Rattle.odb_text.specs.Rows.{end_row, first_of_unit, row_at}
-use Rattle.odb_text.specs.Shown.{quoted, shown}
+use Rattle.odb_text.specs.Labels.{quoted, shown}
 
 -- the identifier, and below it the method and the URL
 abbrev pub request_label : Record → List ℕ

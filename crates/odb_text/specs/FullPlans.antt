@@ -5,13 +5,13 @@ use Rattle.serde_json.specs.Data.{Data, unsigned, number, string, array, object,
 use Rattle.serde_json.specs.View.{items_of}
 use Rattle.odb_names.specs.Methods.{http_name}
 use Rattle.odb_doc.specs.batch.Records.{Record}
+use Rattle.odb_doc.specs.batch.UrlRests.{url_rest}
 use Rattle.odb_doc.specs.canonical.Canonical.{header_members, with_some}
 use Rattle.odb_check.specs.declared.need.Need.{Need}
 use Rattle.odb_check.specs.Firsts.{list_below}
 use Rattle.odb_check.specs.Levels.{level_at}
 use Rattle.odb_check.specs.Needs.{needs_at}
 use Rattle.odb_spans.specs.declared.span.Span.{Span}
-use Rattle.odb_send.specs.Parts.{url_rest}
 use Rattle.odb_text.specs.Results.{need_values}
 
 -- `{"length":L,"offset":O}`: the bytes of the span

@@ -3,7 +3,7 @@ pub mod Lines
 pub mod Places
 pub mod Drawings
 pub mod Rows
-pub mod Shown
+pub mod Labels
 pub mod Results
 pub mod FullPlans
 pub mod Traces

@@ -4,8 +4,6 @@ use Rattle.std.specs.Fmt.{decimal}
 use Rattle.odb_check.specs.Firsts.{joined_below}
 use Rattle.odb_check.specs.Positions.{id_at}
 use Rattle.odb_check.specs.Texts.{newline}
-use Rattle.odb_sched.specs.run.State.{State}
-use Rattle.odb_reply.specs.Responses.{response_text}
 use Rattle.odb_doc.specs.Refusals.{Printed, printed}
 use Rattle.odb_doc.specs.batch.Records.{Record}
 use Rattle.odb_doc.specs.declared.fault.Place.{Place}
@@ -73,7 +71,3 @@ status_line rs statuses i = id_text rs i ++ codes " " ++ decimal (slice_index st
 -- a line for each request, with the status of its response
 abbrev pub status_lines : List Record → List ℕ → List ℕ
 status_lines rs statuses = joined_below (length rs) (status_line rs statuses)
-
--- the response as a line
-abbrev pub response_line : State → List ℕ
-response_line state = response_text state ++ newline ∷ []

@@ -6,10 +6,10 @@ use Rattle.odb_names.specs.Methods.{http_name}
 use Rattle.odb_doc.specs.Headers.{Header}
 use Rattle.odb_doc.specs.Refusals.{Printed}
 use Rattle.odb_doc.specs.batch.Records.{Record}
+use Rattle.odb_doc.specs.batch.UrlRests.{url_rest}
 use Rattle.odb_doc.specs.canonical.Canonical.{header_members}
 use Rattle.odb_spans.specs.declared.position.Position.{Position}
 use Rattle.odb_spans.specs.declared.span.Span.{Span}
-use Rattle.odb_send.specs.Parts.{url_rest}
 use Rattle.odb_text.specs.Lines.{PrintedAt, place_text}
 
 -- a piece, and then the text of a string
@@ -35,8 +35,8 @@ abbrev pub headers_part : List Header → List ℕ
 headers_part headers = codes "\"headers\":" ++ (compact_text (object (header_members headers)) ++ codes ",")
 
 -- the members `body`, `group`, `headers`, `id`, `level` and `method` of a request
-abbrev pub front_part : Option Span → ℕ → Record → List ℕ
-front_part body level r = body_part body ++ (group_part r.group ++ (headers_part r.headers ++ (id_part r.id level ++ string_part (codes "\"method\":") (http_name r.method))))
+abbrev pub before_needs_part : Option Span → ℕ → Record → List ℕ
+before_needs_part body level r = body_part body ++ (group_part r.group ++ (headers_part r.headers ++ (id_part r.id level ++ string_part (codes "\"method\":") (http_name r.method))))
 
 -- a comma and the member `reference`, if the URL refers to a request
 abbrev pub reference_part : Option (List ℕ) → List ℕ

@@ -8,10 +8,10 @@ ghost use Rattle.odb_check.specs.PlanGraph.{IsNeed};
 ghost use Rattle.odb_check.specs.Plans.{plan_records, plan_graph};
 ghost use Rattle.odb_text.specs.Drawings as drawings;
 ghost use Rattle.odb_text.specs.Rows.{AreEnds, end_row, row_at};
-ghost use Rattle.odb_text.specs.Shown.{shown};
+ghost use Rattle.odb_text.specs.Labels.{shown};
 
+use crate::label::push_shown;
 use crate::rows::{Row, first_of_unit, rows_of};
-use crate::shown::push_shown;
 use odb_check::{Need, Plan};
 use odb_doc::Request;
 use odb_doc::text::push_quoted;

@@ -5,14 +5,13 @@ ghost use Rattle.odb_doc.specs.batch.Records.{record_of};
 ghost use Rattle.odb_check.specs.Plans.{plan_records};
 ghost use Rattle.odb_text.specs.FullPlans.{full_plan_value, full_planned};
 ghost use Rattle.odb_text.specs.Results.{json_line};
-ghost use Rattle.odb_text.specs.ResultParts.{body_part, element, front_part, headers_part, reference_part, url_part};
+ghost use Rattle.odb_text.specs.ResultParts.{body_part, element, before_needs_part, headers_part, reference_part, url_part};
 
 use crate::plan::{push_group, push_id, push_needs};
 use crate::results::push_string;
 use odb_check::Plan;
 use odb_doc::Request;
 use odb_doc::text::push_open;
-use odb_send::rest_of;
 use odb_spans::Span;
 use std::alloc::{AllocError, Global};
 use std::fmt::Write;
@@ -60,7 +59,7 @@ fn push_url(alloc: Global, text: &mut String, request: &Request<'_>) -> Result<(
         ++ url_part (record_of request.now)) }
 {
     push_reference(alloc, text, request)?;
-    push_string(alloc, text, ",\"rest\":", rest_of(request))?;
+    push_string(alloc, text, ",\"rest\":", request.url_rest())?;
     push_string(alloc, text, ",\"url\":", request.url)?;
     text.push_str("}")
 }
@@ -76,7 +75,7 @@ fn body_at(bodies: &[Option<Span>], i: u32) -> Option<Span>
 }
 
 /// Appends the members `body`, if there is a body, `group`, if there is a group, `headers`, `id`, `level` and `method`.
-fn push_front(
+fn push_before_needs(
     alloc: Global,
     text: &mut String,
     request: &Request<'_>,
@@ -84,7 +83,7 @@ fn push_front(
     body: Option<Span>,
 ) -> Result<(), AllocError>
     ensures { OnOk result (string_bytes text.new ≡ string_bytes text.old
-        ++ front_part body level (record_of request.now)) }
+        ++ before_needs_part body level (record_of request.now)) }
 {
     push_body(text, body)?;
     push_group(alloc, text, request.group)?;
@@ -108,7 +107,7 @@ fn push_full(
     let _count = plan.len();
     let request = plan.request(i);
     push_open(text, i > 0)?;
-    push_front(alloc, text, request, plan.level(i), body_at(bodies, i))?;
+    push_before_needs(alloc, text, request, plan.level(i), body_at(bodies, i))?;
     text.push_str(",\"needs\":[")?;
     push_needs(alloc, text, plan, plan.needs(i))?;
     push_url(alloc, text, request)

@@ -20,7 +20,7 @@ ghost use Rattle.odb_sched.specs.run.State.{State};
 ghost use Rattle.odb_text.specs.DrawnLines.{clusters_of, lines_of, marked, nodes_of};
 ghost use Rattle.odb_text.specs.Drawings.{arrow_line, arrow_start, drawing_text, rank_line};
 ghost use Rattle.odb_text.specs.Rows.{row_at};
-ghost use Rattle.odb_text.specs.Shown.{IsOneString, quoted};
+ghost use Rattle.odb_text.specs.Labels.{IsOneString, quoted};
 ghost use Rattle.odb_text.specs.Traces.{step_line, trace_text, undo_line};
 ghost use Rattle.odb_text.specs.SamePlans.{IsSamePlan};
 ghost use Rattle.odb_text.specs.Results.{counts_value, fault_value, json_line, match_value, plan_value};

@@ -10,6 +10,7 @@
 mod drawing;
 mod faults;
 mod full_plan;
+mod label;
 pub mod laws;
 mod lines;
 mod located;
@@ -17,7 +18,6 @@ mod place;
 mod plan;
 mod results;
 mod rows;
-mod shown;
 mod trace;
 
 pub use drawing::drawing_text;

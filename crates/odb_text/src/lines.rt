@@ -2,12 +2,10 @@
 
 ghost use Rattle.std.specs.Prelude.{◌≡◌, ◌<◌, ◌++◌, length, IfOk, OnOk, string_bytes};
 ghost use Rattle.odb_check.specs.Plans.{plan_records};
-ghost use Rattle.odb_reply.specs.Fits.{statuses};
 ghost use Rattle.odb_text.specs.Lines as lines;
 
 use odb_check::Plan;
 use odb_doc::Place;
-use odb_reply::Table;
 use std::alloc::{AllocError, Global};
 use std::fmt::Write;
 
@@ -48,31 +46,36 @@ fn fit_line(alloc: Global, responses: u32) -> Result<String, AllocError>
 }
 
 /// Appends the id of a request and the status of its response as a line.
-fn push_status(text: &mut String, plan: &Plan<'_>, table: &Table, i: u32) -> Result<(), AllocError>
+fn push_status(
+    text: &mut String,
+    plan: &Plan<'_>,
+    statuses: &[u16],
+    i: u32,
+) -> Result<(), AllocError>
     requires within { i < length (plan_records plan.now) }
-    requires table { length (statuses table.now) ≡ length (plan_records plan.now) }
+    requires statuses { length statuses.now ≡ length (plan_records plan.now) }
     ensures { OnOk result (string_bytes text.new
-        ≡ string_bytes text.old ++ lines.status_line (plan_records plan.now) (statuses table.now) i) }
+        ≡ string_bytes text.old ++ lines.status_line (plan_records plan.now) statuses.now i) }
 {
     let id = plan.request(i).id;
-    let status = table.status(i);
+    let status = statuses[i as usize];
     write!(text, "{id} {status}\n").map_err(|_| AllocError)
 }
 
 /// Returns the line of responses that fit their batch, `ok N responses`, and then for each request a line
-/// `ID STATUS`, in the order of the batch. The table must be one of this plan.
+/// `ID STATUS`, in the order of the batch. `statuses` has the status of each request.
 ///
 /// # Errors
 ///
 /// `AllocError` if an allocation fails.
-pub fn match_lines(alloc: Global, plan: &Plan<'_>, table: &Table) -> Result<String, AllocError>
-    requires { length (statuses table.now) ≡ length (plan_records plan.now) }
+pub fn match_lines(alloc: Global, plan: &Plan<'_>, statuses: &[u16]) -> Result<String, AllocError>
+    requires { length statuses.now ≡ length (plan_records plan.now) }
     ensures { IfOk result (λ text. string_bytes text ≡ lines.fit_line (length (plan_records plan.now))
-        ++ lines.status_lines (plan_records plan.now) (statuses table.now)) }
+        ++ lines.status_lines (plan_records plan.now) statuses.now) }
 {
     let mut text = fit_line(alloc, plan.len())?;
     for i in 0..plan.len() {
-        push_status(&mut text, plan, table, i)?;
+        push_status(&mut text, plan, statuses, i)?;
     }
     Ok(text)
 }

@@ -2,7 +2,6 @@
 
 ghost use Rattle.std.specs.Prelude.{◌≡◌, ◌<◌, ◌++◌, length, IfOk, OnOk, string_bytes};
 ghost use Rattle.odb_check.specs.Plans.{plan_records};
-ghost use Rattle.odb_reply.specs.Fits.{statuses};
 ghost use Rattle.odb_doc.specs.Refusals.{printed};
 ghost use Rattle.odb_text.specs.Results.{fault_value, json_line, counts_value, match_value, matched};
 ghost use Rattle.odb_text.specs.ResultParts.{element, fault_part, string_part};
@@ -11,7 +10,6 @@ use crate::lines::place_text;
 use odb_check::Plan;
 use odb_doc::Refusal;
 use odb_doc::text::{push_if, push_quoted};
-use odb_reply::Table;
 use std::alloc::{AllocError, Global};
 use std::fmt::Write;
 
@@ -74,36 +72,36 @@ fn push_matched(
     alloc: Global,
     text: &mut String,
     plan: &Plan<'_>,
-    table: &Table,
+    statuses: &[u16],
     i: u32,
 ) -> Result<(), AllocError>
     requires within { i < length (plan_records plan.now) }
-    requires table { length (statuses table.now) ≡ length (plan_records plan.now) }
+    requires statuses { length statuses.now ≡ length (plan_records plan.now) }
     ensures { OnOk result (string_bytes text.new ≡ string_bytes text.old
-        ++ element (matched (plan_records plan.now) (statuses table.now)) i) }
+        ++ element (matched (plan_records plan.now) statuses.now) i) }
 {
     push_if(text, i > 0, ",")?;
     push_string(alloc, text, "{\"id\":", plan.request(i).id)?;
-    let status = table.status(i);
+    let status = statuses[i as usize];
     write!(text, ",\"status\":{status}}}").map_err(|_| AllocError)
 }
 
 /// Returns the status of each request as a line of JSON: `{"responses":[{"id":ID,"status":STATUS},..]}`, in the
-/// order of the batch. The table must be one of this plan.
+/// order of the batch. `statuses` has the status of each request.
 ///
 /// Takes O(n) time for a text of n bytes.
 ///
 /// # Errors
 ///
 /// `AllocError` if an allocation fails.
-pub fn match_json(alloc: Global, plan: &Plan<'_>, table: &Table) -> Result<String, AllocError>
-    requires { length (statuses table.now) ≡ length (plan_records plan.now) }
+pub fn match_json(alloc: Global, plan: &Plan<'_>, statuses: &[u16]) -> Result<String, AllocError>
+    requires { length statuses.now ≡ length (plan_records plan.now) }
     ensures { IfOk result (λ text. string_bytes text
-        ≡ json_line (match_value (plan_records plan.now) (statuses table.now))) }
+        ≡ json_line (match_value (plan_records plan.now) statuses.now)) }
 {
     let mut text = String::from_str(alloc, "{\"responses\":[")?;
     for i in 0..plan.len() {
-        push_matched(alloc, &mut text, plan, table, i)?;
+        push_matched(alloc, &mut text, plan, statuses, i)?;
     }
     text.push_str("]}\n")?;
     Ok(text)

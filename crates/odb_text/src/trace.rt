@@ -1,4 +1,4 @@
-//! The trace of a replay: its steps, and which requests have to be undone.
+//! The trace of a finished run: its steps, and which requests have to be undone.
 
 ghost use Rattle.std.specs.Prelude.{◌≡◌, ◌<◌, ◌++◌, All, IfOk, OnOk, string_bytes};
 ghost use Rattle.odb_sched.specs.run.Answers.{reported, status_of};
@@ -8,7 +8,6 @@ ghost use Rattle.odb_sched.specs.run.Choosing.{position_in};
 ghost use Rattle.odb_text.specs.Traces as traces;
 
 use odb_doc::status::FAILED_DEPENDENCY;
-use odb_exec::Trace;
 use odb_sched::{Done, Step};
 use std::alloc::{AllocError, Global};
 use std::fmt::Write;
@@ -76,39 +75,44 @@ fn push_undone(text: &mut String, done: &Done<'_>, positions: &[u32]) -> Result<
     Ok(())
 }
 
-/// Appends the trace of an execution if it is wanted.
+/// Appends the trace of a finished run if it is wanted.
 fn push_trace(
     alloc: Global,
     text: &mut String,
-    trace: &Trace<'_>,
+    done: &Done<'_>,
+    steps: &[Step],
     traced: bool,
 ) -> Result<(), AllocError>
-    requires { All (λ step. position_in step < size trace.now.done) trace.now.steps.items }
-    ensures { OnOk result (string_bytes text.new ≡ string_bytes text.old
-        ++ traces.trace_part traced trace.now.done trace.now.steps.items) }
+    requires { All (λ step. position_in step < size done.now) steps.now }
+    ensures { OnOk result (string_bytes text.new
+        ≡ string_bytes text.old ++ traces.trace_part traced done.now steps.now) }
 {
     if !traced {
         return Ok(());
     }
-    let undone = trace.done.undone(alloc)?;
-    push_steps(text, &trace.done, &trace.steps)?;
-    push_undone(text, &trace.done, &undone)
+    let undone = done.undone(alloc)?;
+    push_steps(text, done, steps)?;
+    push_undone(text, done, &undone)
 }
 
-/// Returns the trace of an execution if it is wanted, and else the empty text.
+/// Returns the trace of a finished run if it is wanted, and else the empty text. `steps` are the steps of the run.
 ///
 /// A trace has a line for each step, `start ID` or `report ID STATUS`, and then a line `undo ID` for each
-/// request that has to be undone. The steps must be of requests of this execution.
+/// request that has to be undone.
 ///
 /// # Errors
 ///
 /// `AllocError` if an allocation fails.
-pub fn trace_part(alloc: Global, trace: &Trace<'_>, traced: bool) -> Result<String, AllocError>
-    requires { All (λ step. position_in step < size trace.now.done) trace.now.steps.items }
-    ensures { IfOk result (λ text. string_bytes text
-        ≡ traces.trace_part traced trace.now.done trace.now.steps.items) }
+pub fn trace_part(
+    alloc: Global,
+    done: &Done<'_>,
+    steps: &[Step],
+    traced: bool,
+) -> Result<String, AllocError>
+    requires { All (λ step. position_in step < size done.now) steps.now }
+    ensures { IfOk result (λ text. string_bytes text ≡ traces.trace_part traced done.now steps.now) }
 {
     let mut text = String::new(alloc);
-    push_trace(alloc, &mut text, trace, traced)?;
+    push_trace(alloc, &mut text, done, steps, traced)?;
     Ok(text)
 }

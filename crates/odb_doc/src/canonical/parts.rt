@@ -62,19 +62,23 @@ impl Request<'_> {
         text.push_str("{")?;
         push_members(alloc, text, self.headers.as_slice())
     }
-}
 
-/// Appends the member `headers`, if there are headers.
-fn push_headers(alloc: Global, text: &mut String, headers: &[Header<'_>]) -> Result<(), AllocError>
-    ensures { OnOk result (string_bytes text.new ≡ string_bytes text.old
-        ++ member_part (codes "\"headers\":") (headers_value (map lent_header headers.now))) }
-{
-    if headers.is_empty() {
-        return Ok(());
+    /// Appends the member `headers` and a comma, if there are headers.
+    ///
+    /// # Errors
+    ///
+    /// If an allocation fails; the text may have received a part of the member.
+    pub fn push_headers_member(&self, alloc: Global, text: &mut String) -> Result<(), AllocError>
+        ensures { OnOk result (string_bytes text.new ≡ string_bytes text.old
+            ++ member_part (codes "\"headers\":") (headers_value (record_of self.now).headers)) }
+    {
+        if self.headers.is_empty() {
+            return Ok(());
+        }
+        text.push_str("\"headers\":{")?;
+        push_members(alloc, text, self.headers.as_slice())?;
+        text.push_str(",")
     }
-    text.push_str("\"headers\":{")?;
-    push_members(alloc, text, headers)?;
-    text.push_str(",")
 }
 
 /// Appends request `i`, with a comma first unless it is the first request.
@@ -94,6 +98,6 @@ pub(crate) fn push_request(
     push_group(alloc, text, request.group)?;
     push_body(alloc, text, request.body)?;
     push_names(alloc, text, request.names.as_slice())?;
-    push_headers(alloc, text, request.headers.as_slice())?;
+    request.push_headers_member(alloc, text)?;
     push_request_end(alloc, text, request.id, request.method, request.url)
 }

@@ -11,16 +11,16 @@ ghost use Rattle.odb_doc.specs.batch.Records.{Record, IsBatchOf};
 ghost use Rattle.odb_doc.specs.canonical.CanonicalLaws.{IsDocumentOf};
 ghost use Rattle.odb_reply.specs.Fits.{Fits, IsTableOf, places, statuses};
 ghost use Rattle.odb_reply.specs.ResponseDocuments.{entries};
-ghost use Rattle.odb_rest.specs.Laws.{MayBeSent};
-ghost use Rattle.odb_rest.specs.Locations.{recorded};
-ghost use Rattle.odb_rest.specs.Rests.{IsRestOf};
+ghost use Rattle.odb_send.specs.Laws.{MayBeSent};
+ghost use Rattle.odb_send.specs.Locations.{recorded};
+ghost use Rattle.odb_send.specs.Rests.{IsRestOf};
 ghost use Rattle.odb_send.specs.Parts.{IsBatchIn};
 
 use odb_check::{CheckFault, Plan, check};
 use odb_doc::{Batch, DocFault, parse};
 use odb_reply::{Responses, Table};
-use odb_rest::laws::{every_rest, every_text, every_unit};
-use odb_rest::{Rest, rest_of, rest_text};
+use odb_send::laws::{every_rest, every_text, every_unit};
+use odb_send::{Rest, rest_of, rest_text};
 use serde_json::Value;
 use std::alloc::Global;
 

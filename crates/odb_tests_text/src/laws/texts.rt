@@ -12,7 +12,7 @@ ghost use Rattle.odb_text.specs.Drawings.{arrow_line};
 ghost use Rattle.odb_text.specs.DrawnLines.{marked, nodes_of};
 ghost use Rattle.odb_text.specs.Results.{fault_value, plan_value};
 ghost use Rattle.odb_text.specs.SamePlans.{IsSamePlan};
-ghost use Rattle.odb_text.specs.Shown.{IsOneString};
+ghost use Rattle.odb_text.specs.Labels.{IsOneString};
 
 use odb_check::{Plan, check};
 use odb_doc::text::push_quoted;

@@ -12,7 +12,7 @@ use Rattle.odb_reply.specs.Readable.{AnswersBy, IsReadable}
 use Rattle.odb_reply.specs.ResponseDocuments.{IsResponseDocument}
 use Rattle.odb_reply.specs.Responses.{response_value}
 use Rattle.odb_engine.specs.Halts.{Halted}
-use Rattle.odb_text.specs.Lines.{response_line}
+use Rattle.odb_engine.specs.ResponseLines.{response_line}
 use Rattle.odb_engine.specs.Runs.{IsLeastOfRun, end_of}
 use Rattle.odb_engine.specs.Runs.IsLeastOfRun.{OfEnd}
 use Rattle.odb_engine.proofs.EngineLemmas.{at-exit, exit-error, halted-by}

@@ -5,7 +5,7 @@ use Rattle.odb_check.specs.Plans.{plan_records}
 use Rattle.odb_engine.specs.declared.ending.Ended.TheVariants.{Done, Refused}
 use Rattle.odb_engine.specs.Forms.{fault_text}
 use Rattle.odb_engine.specs.Halts.{Found}
-use Rattle.odb_text.specs.Lines.{response_line}
+use Rattle.odb_engine.specs.ResponseLines.{response_line}
 use Rattle.odb_engine.specs.Runs.{IsFaultOfEvents, IsLeastOfRun, RunsValue}
 use Rattle.odb_engine.proofs.EngineLemmas.{exit-error, Halted-weaker, reports}
 use Rattle.odb_engine.proofs.run.ran.Goals as goal

@@ -1,9 +1,9 @@
 -- The parts of one request.
-use Rattle.std.proofs.Common.{ℕ, List, string_bytes, subst}
+use Rattle.std.proofs.Common.{◌∙◌, ℕ, List, string_bytes, subst}
 use Rattle.odb_doc.specs.batch.Records.{record_of}
 use Rattle.odb_check.specs.Plans.{plan_records}
 use Rattle.odb_send.specs.Parts.{HasPart}
-use Rattle.odb_send.proofs.PartLemmas.{kept-part, of-same, same-record, twice}
+use Rattle.odb_send.proofs.PartLemmas.{kept-part, of-same, referred-record, same-record, twice}
 use Rattle.odb_send.proofs.parts.push_request.Goals as goal
 
 pub returns-clause-parts : goal.returns-clause-parts
@@ -13,7 +13,7 @@ returns-clause-parts c = λ r at.
     let after_id = string_bytes c.push_part.new.text in
     let after_method = string_bytes c.push_part-2.new.text in
     let after_url = string_bytes c.push_part-3.new.text in
-    let after_headers = string_bytes c.push_headers.new.text in
+    let after_headers = string_bytes c.push_headers_part.new.text in
     let end = string_bytes c.push_part_if.new.text in
     let from_url = twice after_url after_headers end c.in_ok-headers.ensures.text c.in_ok-group.ensures.text in
     let from_method = twice after_method after_url end c.in_ok-url.ensures.text from_url in
@@ -23,7 +23,7 @@ returns-clause-parts c = λ r at.
       method = kept-part after_method end _ _ from_method (subst (λ (name : List ℕ). HasPart after_method name c.in_ok-method.method) c.http_name.ensures c.in_ok-method.ensures.part);
       url = kept-part after_url end _ _ from_url c.in_ok-url.ensures.part;
       rest = kept-part after_url end _ _ from_url (c.rest_in.ensures after_url c.in_ok-url.ensures.part);
-      reference = c.reference_in.ensures;
+      reference = c.referred.ensures ∙ referred-record batch c.args.i x c.request-request.ensures.value;
       headers = kept-part after_headers end _ _ c.in_ok-group.ensures.text c.in_ok-headers.ensures.part;
       group = c.in_ok-group.ensures.part;
     })

@@ -20,8 +20,7 @@ returns c =
     let before = string_bytes c.args.text.now in
     let parts = requests_left-parts rs c.args.i r c.request-request.ensures.value in
     let names = rw c.as_slice.ensures at c.in_ok-push_names.ensures in
-    let headers = rw c.as_slice-2.ensures.value at c.in_ok-push_headers.ensures in
     let group = member_part (codes "\"atomicityGroup\":") (option_map string r.group) in
     let body = member_part (codes "\"body\":") r.body in
     on_ok_weaker c.push_request_end.result
-    (λ end. ap (λ text. before ++ text) parts ∙ appended before _ _ _ _ _ _ (comma_if (nat_lt 0 c.args.i)) (codes "{") group body _ _ _ _ c.in_ok-push_open.ensures c.in_ok-push_group.ensures c.in_ok-push_body.ensures names headers end) c.push_request_end.ensures
+    (λ end. ap (λ text. before ++ text) parts ∙ appended before _ _ _ _ _ _ (comma_if (nat_lt 0 c.args.i)) (codes "{") group body _ _ _ _ c.in_ok-push_open.ensures c.in_ok-push_group.ensures c.in_ok-push_body.ensures names c.in_ok-push_headers_member.ensures end) c.push_request_end.ensures

@@ -5,7 +5,7 @@ use Rattle.odb_check.specs.Plans.{plan_records}
 use Rattle.odb_check.specs.Units.{unit_at, unit_count}
 use Rattle.odb_reply.specs.Fits.{places, statuses}
 use Rattle.odb_reply.specs.ResponseDocuments.{entries}
-use Rattle.odb_rest.specs.Locations.{recorded}
+use Rattle.odb_send.specs.Locations.{recorded}
 use Rattle.odb_tests_text.proofs.laws.rests.is_sent.Goals as goal
 
 pub returns : goal.returns

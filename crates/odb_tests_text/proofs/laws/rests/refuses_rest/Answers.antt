@@ -3,8 +3,8 @@ use Rattle.serde_json.specs.View.{view}
 use Rattle.odb_check.specs.Plans.{plan_records}
 use Rattle.odb_doc.specs.canonical.CanonicalLaws.{IsDocumentOf}
 use Rattle.odb_reply.specs.Fits.{places, statuses}
-use Rattle.odb_rest.specs.Locations.{recorded}
-use Rattle.odb_rest.specs.Rests.{records_in}
+use Rattle.odb_send.specs.Locations.{recorded}
+use Rattle.odb_send.specs.Rests.{records_in}
 use Rattle.odb_tests_text.proofs.laws.rests.refuses_rest.Goals as goal
 
 pub returns : goal.returns

@@ -1,5 +1,0 @@
-use Rattle.std.proofs.Common.{rules}
-use Rattle.odb_reply.proofs.reply.ReplyFaultFromDeviceFault.from.Goals as goal
-
-pub returns : goal.returns
-returns c = search rules

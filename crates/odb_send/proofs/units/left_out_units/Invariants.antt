@@ -1,0 +1,7 @@
+use Rattle.odb_check.specs.Plans.{plan_records}
+use Rattle.odb_reply.specs.Fits.{statuses}
+use Rattle.odb_send.specs.Marks.{AreLeftOut}
+use Rattle.odb_send.proofs.units.left_out_units.Given as goal
+
+abbrev pub invariant-loop-i : goal.invariant-loop-i
+invariant-loop-i l = AreLeftOut (plan_records l.plan) (statuses l.table) l.i l.units.items

@@ -1,0 +1,54 @@
+use Rattle.std.proofs.Common.{◌≡◌, ◌∙◌, ◌<◌, None, Some, length, get_or, refl, sym, ap, subst, arith}
+use Rattle.std.specs.Prelude.{string_bytes}
+use Rattle.std.proofs.lemmas.Option.{slice_get-get_or}
+use Rattle.std.proofs.lemmas.Bool.{true≢false}
+use Rattle.odb_doc.specs.batch.Records.{record_of}
+use Rattle.odb_check.specs.Plans.{plan_records}
+use Rattle.odb_send.specs.Locations.{texts_of}
+use Rattle.odb_reply.specs.BodyTexts.{text_at}
+use Rattle.odb_send.specs.Rests.{IsPlain}
+use Rattle.odb_send.specs.Rests.IsUrl.{same}
+use Rattle.odb_send.proofs.UrlLemmas.{referred_within, url_made, lacks_recorded, lacks_plain, recorded_at}
+use Rattle.odb_send.proofs.urls.url_of.Goals as goal
+
+pub returns-in_default-clause-url : goal.returns-in_default-clause-url
+returns-in_default-clause-url c = same c.in_default.ensures
+
+pub bounds : goal.bounds
+bounds c = omega (arith, referred_within (plan_records c.args.plan.now) c.args.i c.in-Some.p c.in-Some.ensures.refers, c.requires.locations)
+
+pub returns-in_default-locations-clause-lacks : goal.returns-in_default-locations-clause-lacks
+returns-in_default-locations-clause-lacks c =
+    let rs = plan_records c.args.plan.now in
+    let found = c.args.locations.now in
+    let p = c.in-Some.p in
+    let within : p < length found = omega (arith, referred_within rs c.args.i p c.in-Some.ensures.refers, c.requires.locations) in
+    let none : get_or found p None ≡ None = c.in_default-locations.is in
+    let recorded : text_at (texts_of found) p ≡ None = recorded_at found p None (slice_get-get_or found p None within ∙ ap Some none) in
+    (refl, lacks_recorded rs c.args.kept.now (text_at (texts_of found)) c.args.i p c.in-Some.ensures recorded)
+
+pub returns-then-branch-clause-url : goal.returns-then-branch-clause-url
+returns-then-branch-clause-url c =
+    let rs = plan_records c.args.plan.now in
+    let found = c.args.locations.now in
+    let p = c.in-Some.p in
+    let location = c.in-Some-locations.location in
+    let made = string_bytes c.in_ok-made.made in
+    let within : p < length found = omega (arith, referred_within rs c.args.i p c.in-Some.ensures.refers, c.requires.locations) in
+    let some : get_or found p None ≡ Some location = c.in-Some-locations.is in
+    let recorded : text_at (texts_of found) p ≡ Some location.now = recorded_at found p (Some location) (slice_get-get_or found p None within ∙ ap Some some) in
+    let plain : IsPlain made = subst IsPlain c.as_str.ensures.value (c.in_ok-is_plain.ensures.0 c.if-branch.true) in
+    url_made rs c.args.kept.now (text_at (texts_of found)) c.args.i p (record_of c.request.result.now) location.now made c.in-Some.ensures c.request.ensures.value recorded c.in_ok-made.ensures plain
+
+pub returns-else-branch-clause-lacks : goal.returns-else-branch-clause-lacks
+returns-else-branch-clause-lacks c =
+    let rs = plan_records c.args.plan.now in
+    let found = c.args.locations.now in
+    let p = c.in-Some.p in
+    let location = c.in-Some-locations.location in
+    let made = string_bytes c.in_ok-made.made in
+    let within : p < length found = omega (arith, referred_within rs c.args.i p c.in-Some.ensures.refers, c.requires.locations) in
+    let some : get_or found p None ≡ Some location = c.in-Some-locations.is in
+    let recorded : text_at (texts_of found) p ≡ Some location.now = recorded_at found p (Some location) (slice_get-get_or found p None within ∙ ap Some some) in
+    let bad : ¬ IsPlain made = λ plain. true≢false (sym (c.in_ok-is_plain.ensures.1 (subst IsPlain (sym c.as_str.ensures.value) plain)) ∙ c.if-branch.false) in
+    (refl, lacks_plain rs c.args.kept.now (text_at (texts_of found)) c.args.i p (record_of c.request.result.now) location.now made c.in-Some.ensures c.request.ensures.value recorded c.in_ok-made.ensures bad)

@@ -1,0 +1,57 @@
+-- For invariants and private clauses: the marks of units while the requests are gone through.
+use Rattle.std.specs.Prelude.{◌≡◌, ◌<◌, ◌&&◌, ℕ, Bool, true, false, not, List, length, Contains, Option, None, Some, IfSome, All, IsUtf8, ◌≤◌, drop}
+use Rattle.odb_doc.specs.batch.Records.{Record}
+use Rattle.odb_check.specs.declared.need.Need.{Need}
+use Rattle.odb_check.specs.Needs.{needs_at}
+use Rattle.odb_check.specs.Units.{unit_at, unit_count}
+use Rattle.odb_send.specs.declared.fault.RestFault.{RestFault}
+use Rattle.odb_send.specs.declared.fault.RestFault.TheVariants as faults
+use Rattle.odb_send.specs.Faults.{LacksLocation}
+use Rattle.odb_send.specs.Repeats.{may_repeat_at}
+use Rattle.odb_reply.specs.BodyTexts.{text_at}
+use Rattle.odb_send.specs.Rests.{IsUrl, is_kept, select}
+use Rattle.odb_send.specs.Texts.{joined, text_of_request}
+use Rattle.odb_spans.specs.Spans.{bytes_of}
+use Rattle.odb_spans.specs.declared.span.Span.{Span}
+use Rattle.odb_send.specs.Units.{IsLeftOut, marked, unit_needed}
+
+-- the marks of units that are left out, once the first n requests are known
+pub record AreLeftOut (rs : List Record) (statuses : List ℕ) (n : ℕ) (units : List Bool) : Type 0 where
+  pub count : length units ≡ unit_count rs
+  pub sound : (u : ℕ) → marked units u ≡ true → IsLeftOut rs statuses u
+  pub own : (i : ℕ) → i < n → may_repeat_at rs statuses i ≡ false → marked units (unit_at rs i) ≡ true
+  pub needing : (i : ℕ) (need : Need) → i < n → Contains (needs_at rs i) need → marked units (unit_needed rs need) ≡ true → marked units (unit_at rs i) ≡ true
+
+-- the marks of the first n units that are neither done nor left out
+pub record AreKept (done left : List Bool) (n : ℕ) (units : List Bool) : Type 0 where
+  pub count : length units ≡ n
+  pub each : (u : ℕ) → u < n → marked units u ≡ (not (marked done u) && not (marked left u))
+
+-- the fault is that the URL at i lacks a Location. Out of memory says nothing.
+abbrev pub IsLacking : List Record → List Bool → (ℕ → Option (List ℕ)) → ℕ → RestFault → Type 0
+IsLacking rs kept locations i (faults.NoLocation at) = (at ≡ i) × LacksLocation rs kept locations i
+IsLacking rs kept locations i faults.OutOfMemory = Unit {0}
+
+-- the first n requests have the URLs that they get in the rest
+pub record AreUrls (rs : List Record) (kept : List Bool) (locations : ℕ → Option (List ℕ)) (n : ℕ) (urls : List (Option (List ℕ))) : Type 0 where
+  pub count : length urls ≡ n
+  pub each : (i : ℕ) → i < n → IsUrl rs kept locations i (text_at urls i)
+
+-- the span is one of the document, and its bytes are a text
+pub record IsTextIn (document : List ℕ) (span : Span) : Type 0 where
+  pub order : span.start ≤ span.end
+  pub within : span.end ≤ length document
+  pub utf8 : IsUtf8 (bytes_of document span)
+
+-- each span that there is, is one of a text
+abbrev pub AreTexts : List ℕ → List (Option Span) → Type 0
+AreTexts document spans = All (λ span. IfSome span (IsTextIn document)) spans
+
+-- the URL of a request in the rest
+abbrev pub url_in : Option (List ℕ) → Record → List ℕ
+url_in None r = r.url
+url_in (Some url) r = url
+
+-- the text of the requests from a position on, with a comma first if something stands before
+unfoldable pub texts_left : List Record → List Bool → List (Option (List ℕ)) → List (Option (List ℕ)) → Bool → ℕ → List ℕ
+texts_left rs units moved bodies later i = joined later (select (is_kept rs units) (text_of_request rs units moved bodies) i (drop i rs))

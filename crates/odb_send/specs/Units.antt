@@ -1,0 +1,39 @@
+-- Which units of a batch are done, which are left out, and which are in the rest (OData JSON Format 4.01, sections 19.1 and
+-- 19.4). A unit is an atomicity group, or a request without one.
+use Rattle.std.specs.Prelude.{◌≡◌, ◌↔◌, ◌<◌, ℕ, Bool, true, false, List, length, Contains, slice_index, slice_index_or}
+use Rattle.odb_doc.specs.Statuses.{is_success}
+use Rattle.odb_doc.specs.batch.Records.{Record}
+use Rattle.odb_check.specs.declared.need.Need.{Need}
+use Rattle.odb_check.specs.declared.need.Need.TheVariants.{One, Group}
+use Rattle.odb_check.specs.Needs.{needs_at}
+use Rattle.odb_check.specs.Units.{unit_at, unit_count}
+use Rattle.odb_send.specs.Repeats.{may_repeat_at}
+
+-- a unit is done if all its requests were answered with 200 to 299
+abbrev pub IsDone : List Record → List ℕ → ℕ → Type 0
+IsDone rs statuses u = (i : ℕ) → i < length rs → unit_at rs i ≡ u → is_success (slice_index statuses i) ≡ true
+
+-- the unit of what is needed
+abbrev pub unit_needed : List Record → Need → ℕ
+unit_needed rs (One r) = unit_at rs r
+unit_needed rs (Group u) = u
+
+-- a unit is left out if one of its requests may not be sent again, or needs something of a unit that is left out
+pub data IsLeftOut (rs : List Record) (statuses : List ℕ) : ℕ → Type 0 where
+  own : (i : ℕ) → i < length rs → may_repeat_at rs statuses i ≡ false → IsLeftOut rs statuses (unit_at rs i)
+  needing : (i : ℕ) (need : Need) → i < length rs → Contains (needs_at rs i) need → IsLeftOut rs statuses (unit_needed rs need) → IsLeftOut rs statuses (unit_at rs i)
+
+-- a unit is in the rest if it is neither done nor left out
+pub record IsInRest (rs : List Record) (statuses : List ℕ) (u : ℕ) : Type 0 where
+  pub known : u < unit_count rs
+  pub not_done : ¬ IsDone rs statuses u
+  pub not_left_out : ¬ IsLeftOut rs statuses u
+
+-- the mark of a unit
+abbrev pub marked : List Bool → ℕ → Bool
+marked units u = slice_index_or units u false
+
+-- a mark for each unit, which says whether this is true of it
+pub record AreMarksOf (rs : List Record) (P : ℕ → Type 0) (units : List Bool) : Type 0 where
+  pub count : length units ≡ unit_count rs
+  pub each : (u : ℕ) → u < unit_count rs → (marked units u ≡ true) ↔ P u

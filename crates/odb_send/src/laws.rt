@@ -1,0 +1,73 @@
+//! What is true of the rest of every batch (OData JSON Format 4.01, sections 19.1 and 19.4).
+//!
+//! The laws are clauses of functions that change nothing. They speak of the words that the clauses of
+//! [`crate::rest_of`], of [`crate::rest_text`] and of [`odb_reply::match_responses`] use.
+
+ghost use Rattle.std.specs.Prelude.{◌≡◌, ◌↔◌, ◌++◌, [], ℕ, List, Option, Some, codes};
+ghost use Rattle.serde_json.specs.Data.{Data};
+ghost use Rattle.serde_json.specs.Read.{read};
+ghost use Rattle.odb_check.specs.LeastNameFault.{HasGoodNames};
+ghost use Rattle.odb_doc.specs.batch.LeastFault.{IsWellShaped};
+ghost use Rattle.odb_doc.specs.batch.Records.{Record};
+ghost use Rattle.odb_doc.specs.canonical.Canonical.{canonical_value};
+ghost use Rattle.odb_doc.specs.canonical.CanonicalLaws.{IsDocumentOf};
+ghost use Rattle.odb_reply.specs.Fits.{Fits, IsTableOf};
+ghost use Rattle.odb_reply.specs.ResponseDocuments.{Entry};
+ghost use Rattle.odb_send.specs.declared.rest.Rest.{Rest};
+ghost use Rattle.odb_send.specs.Laws.{HasSucceeded, IsPartOfPlan, MayBeSent};
+ghost use Rattle.odb_send.specs.Rests.{IsRestOf, kept, records_in};
+ghost use Rattle.odb_send.specs.Texts.{IsTextOf};
+ghost use Rattle.odb_send.specs.Units.{IsDone, IsInRest, IsLeftOut};
+ghost use Rattle.odb_send.specs.Parts.{IsBatchIn};
+
+/// The names of a rest fit together, so that [`odb_check::check`] returns a plan of it. That plan is the plan of the
+/// batch over the requests in the rest: they have their order, their units, and those of their dependencies that are
+/// in the rest. A unit in the rest needs nothing that is left out. If all requests of the batch have succeeded, the
+/// rest has no request.
+pub fn every_rest()
+    ensures accepted { (batch : List Record) (statuses : List ℕ) (locations : ℕ → Option (List ℕ))
+        (rest : Rest) → HasGoodNames batch → IsRestOf batch statuses locations rest
+        → HasGoodNames (records_in batch rest) }
+    ensures plan { (batch : List Record) (statuses : List ℕ) (locations : ℕ → Option (List ℕ))
+        (rest : Rest) → HasGoodNames batch → IsRestOf batch statuses locations rest
+        → IsPartOfPlan batch (kept rest) (records_in batch rest) }
+    ensures nothing { (batch : List Record) (statuses : List ℕ) (locations : ℕ → Option (List ℕ))
+        (rest : Rest) → IsRestOf batch statuses locations rest → HasSucceeded batch statuses
+        → records_in batch rest ≡ [] }
+    ensures may_be_sent { (batch : List Record) (statuses : List ℕ)
+        (locations : ℕ → Option (List ℕ)) (rest : Rest) → HasGoodNames batch
+        → IsRestOf batch statuses locations rest
+        → (u : ℕ) → IsInRest batch statuses u → MayBeSent batch statuses u }
+{}
+
+/// By responses that fit a batch, a unit that is done is not left out, and each unit that may be sent is in the
+/// rest. So each unit is either done, or in the rest, or left out.
+pub fn every_unit()
+    ensures apart { (batch : List Record) (responses : List Entry) (places statuses : List ℕ)
+        → HasGoodNames batch → Fits batch responses → IsTableOf batch responses places statuses
+        → (u : ℕ) → IsLeftOut batch statuses u → ¬ IsDone batch statuses u }
+    ensures all { (batch : List Record) (responses : List Entry) (places statuses : List ℕ)
+        → HasGoodNames batch → Fits batch responses → IsTableOf batch responses places statuses
+        → (u : ℕ) → MayBeSent batch statuses u → IsInRest batch statuses u }
+{}
+
+/// What the text of a rest is read as, whatever numbers its bodies hold (OData JSON Format 4.01, section 19.1).
+///
+/// What `serde_json` reads from the text, also with a newline at its end, is the canonical value of the requests of
+/// the rest. So each body is the value that the document of the batch has for it. If that document has no fault of
+/// shape, the text has none, and it is the batch of these requests. [`every_rest`] says of their names that they fit
+/// together, so that [`odb_check::check`] returns a plan of what is read.
+pub fn every_text()
+    ensures value { (document : List ℕ) (d : Data) (batch : List Record) (rest : Rest) (text : List ℕ)
+        → IsBatchIn document d batch → IsTextOf document d batch rest text
+        → read text ≡ Some (canonical_value (records_in batch rest)) }
+    ensures line { (document : List ℕ) (d : Data) (batch : List Record) (rest : Rest) (text : List ℕ)
+        → IsBatchIn document d batch → IsTextOf document d batch rest text
+        → read (text ++ codes "\n") ≡ Some (canonical_value (records_in batch rest)) }
+    ensures document { (document : List ℕ) (d : Data) (batch : List Record) (statuses : List ℕ)
+        (locations : ℕ → Option (List ℕ)) (rest : Rest) (text : List ℕ)
+        → IsBatchIn document d batch → IsWellShaped d → IsRestOf batch statuses locations rest
+        → IsTextOf document d batch rest text → IsDocumentOf text (records_in batch rest) }
+{
+    odb_names::laws::one_reading();
+}

@@ -1,0 +1,79 @@
+//! Which units of a batch are done, and which are left out of the rest.
+
+ghost use Rattle.std.specs.Prelude.{◌≡◌, ◌<◌, length, IfOk};
+ghost use Rattle.std.specs.List.{list_any};
+ghost use Rattle.odb_check.specs.Needs.{needs_at};
+ghost use Rattle.odb_check.specs.Plans.{plan_records};
+ghost use Rattle.odb_check.specs.PlanGraph.{IsNeedAmong};
+ghost use Rattle.odb_check.specs.Units as all;
+ghost use Rattle.odb_reply.specs.Fits.{statuses};
+ghost use Rattle.odb_send.specs.Units.{AreMarksOf, IsInRest, IsLeftOut, marked, unit_needed};
+
+use crate::repeat::may_repeat;
+use odb_check::{Need, Plan};
+use odb_reply::Table;
+use std::alloc::{AllocError, Global};
+
+/// Returns whether the unit of what is needed has a mark.
+pub(crate) fn is_marked(plan: &Plan<'_>, units: &[bool], need: Need) -> bool
+    requires need { IsNeedAmong (length (plan_records plan.now)) (all.unit_count (plan_records plan.now)) need }
+    requires count { length units.now ≡ all.unit_count (plan_records plan.now) }
+    ensures { result ≡ marked units.now (unit_needed (plan_records plan.now) need) }
+{
+    match need {
+        Need::One(r) => units[plan.unit_of(r) as usize],
+        Need::Group(u) => units[u as usize],
+    }
+}
+
+/// Returns whether a request needs something of a unit that has a mark.
+fn needs_marked(plan: &Plan<'_>, units: &[bool], i: u32) -> bool
+    requires request { i < length (plan_records plan.now) }
+    requires count { length units.now ≡ all.unit_count (plan_records plan.now) }
+    ensures { result ≡ list_any (λ need. marked units.now (unit_needed (plan_records plan.now) need))
+        (needs_at (plan_records plan.now) i) }
+{
+    odb_check::laws::every_plan(plan);
+    for need in plan.needs(i) {
+        if is_marked(plan, units, *need) {
+            return true;
+        }
+    }
+    false
+}
+
+/// Returns for each unit whether it is left out: what it needs is in it or in a unit before it.
+fn left_out_units(alloc: Global, plan: &Plan<'_>, table: &Table) -> Result<Vec<bool>, AllocError>
+    requires { length (statuses table.now) ≡ length (plan_records plan.now) }
+    ensures { IfOk result (λ units. AreMarksOf (plan_records plan.now)
+        (IsLeftOut (plan_records plan.now) (statuses table.now)) units.items) }
+{
+    odb_check::laws::every_plan(plan);
+    let mut units = vec![in alloc; false; plan.unit_count() as usize]?;
+    for i in 0..plan.len() {
+        let repeats = may_repeat(plan.request(i).method, table.status(i));
+        if !repeats || needs_marked(plan, &units, i) {
+            units[plan.unit_of(i) as usize] = true;
+        }
+    }
+    Ok(units)
+}
+
+/// Returns for each unit whether it is in the rest: it is neither done nor left out.
+pub(crate) fn kept_units(
+    alloc: Global,
+    plan: &Plan<'_>,
+    table: &Table,
+) -> Result<Vec<bool>, AllocError>
+    requires { length (statuses table.now) ≡ length (plan_records plan.now) }
+    ensures { IfOk result (λ units. AreMarksOf (plan_records plan.now)
+        (IsInRest (plan_records plan.now) (statuses table.now)) units.items) }
+{
+    let done = table.succeeded_units(alloc, plan)?;
+    let left_out = left_out_units(alloc, plan, table)?;
+    let mut kept = Vec::with_capacity(alloc, done.len())?;
+    for u in 0..done.len() {
+        kept.push(!done[u] && !left_out[u])?;
+    }
+    Ok(kept)
+}

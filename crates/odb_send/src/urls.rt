@@ -1,0 +1,93 @@
+//! The URLs of requests whose URL refers to a request that is not in the rest.
+
+ghost use Rattle.std.specs.Prelude.{◌≡◌, ◌<◌, ◌↔◌, ℕ, length, IsTrue, IfOk, IfErr, MatchOption, option_map, string_bytes};
+ghost use Rattle.odb_reply.specs.BodyTexts.{text_at};
+ghost use Rattle.odb_send.specs.Locations.{texts_of};
+ghost use Rattle.odb_send.specs.Marks.{IsLacking};
+ghost use Rattle.odb_check.specs.Plans.{plan_records};
+ghost use Rattle.odb_check.specs.Units as all;
+ghost use Rattle.odb_send.specs.Rests as rests;
+
+use crate::fault::RestFault;
+use odb_check::Plan;
+use odb_names::{Front, after_first_segment, front, is_nested_batch};
+use std::alloc::{AllocError, Global};
+
+/// Returns the Location, and what follows the first segment of the URL.
+fn joined(alloc: Global, location: &str, url: &str) -> Result<String, AllocError>
+    ensures { IfOk result (λ made. rests.IsJoined location.now url.now (string_bytes made)) }
+{
+    let after = after_first_segment(url).len();
+    let (_, rest) = url.split_at(url.len() - after);
+    let mut made = String::from_str(alloc, location)?;
+    made.push_str(rest)?;
+    Ok(made)
+}
+
+/// Returns whether the URL refers to no request, reserves no name, and names no batch.
+fn is_plain(alloc: Global, url: &str) -> Result<bool, AllocError>
+    ensures { IfOk result (λ plain. IsTrue plain ↔ rests.IsPlain url.now) }
+{
+    match front(alloc, url)? {
+        Front::Plain => Ok(!is_nested_batch(alloc, url)?),
+        _ => Ok(false),
+    }
+}
+
+/// Returns whether the request at a position is in the rest.
+pub(crate) fn is_kept(plan: &Plan<'_>, kept: &[bool], i: u32) -> bool
+    requires request { i < length (plan_records plan.now) }
+    requires count { length kept.now ≡ all.unit_count (plan_records plan.now) }
+    ensures { result ≡ rests.is_kept (plan_records plan.now) kept.now i }
+{
+    kept[plan.unit_of(i) as usize]
+}
+
+/// Returns the position that the URL of a request of the rest refers to, if that is not in the rest.
+fn left_position(plan: &Plan<'_>, kept: &[bool], i: u32) -> Option<u32>
+    requires request { i < length (plan_records plan.now) }
+    requires count { length kept.now ≡ all.unit_count (plan_records plan.now) }
+    ensures { MatchOption result ((p : ℕ) → ¬ rests.Leaves (plan_records plan.now) kept.now i p)
+        (λ p. rests.Leaves (plan_records plan.now) kept.now i p) }
+{
+    odb_check::laws::every_plan(plan);
+    if !is_kept(plan, kept, i) {
+        return None;
+    }
+    let p = plan.referred(i)?;
+    if is_kept(plan, kept, p) {
+        None
+    } else {
+        Some(p)
+    }
+}
+
+/// Returns the URL that request `i` gets in the rest, `None` if its URL stays, or F90 if no Location makes one.
+pub(crate) fn url_of(
+    alloc: Global,
+    plan: &Plan<'_>,
+    kept: &[bool],
+    locations: &[Option<&str>],
+    i: u32,
+) -> Result<Option<String>, RestFault>
+    requires request { i < length (plan_records plan.now) }
+    requires count { length kept.now ≡ all.unit_count (plan_records plan.now) }
+    requires locations { length locations.now ≡ length (plan_records plan.now) }
+    ensures url { IfOk result (λ url. rests.IsUrl (plan_records plan.now) kept.now
+        (text_at (texts_of locations.now)) i (option_map string_bytes url)) }
+    ensures lacks { IfErr result (IsLacking (plan_records plan.now) kept.now
+        (text_at (texts_of locations.now)) i) }
+{
+    let Some(p) = left_position(plan, kept, i) else {
+        return Ok(None);
+    };
+    let Some(location) = locations[p as usize] else {
+        return Err(RestFault::NoLocation { at: i as usize });
+    };
+    let made = joined(alloc, location, plan.request(i).url)?;
+    if is_plain(alloc, made.as_str())? {
+        Ok(Some(made))
+    } else {
+        Err(RestFault::NoLocation { at: i as usize })
+    }
+}
