@@ -3,7 +3,7 @@
 use crate::names;
 use crate::parser::program;
 use clap::{ArgMatches, Error};
-use odb_engine::{Form, LineWork, Task, Work};
+use odb_engine::{Form, Task, Work};
 use odb_sched::{MAX_WIDTH, Mode, Order, Policy};
 use std::alloc::{AllocError, Global};
 
@@ -32,8 +32,6 @@ impl<'a> Origin<'a> {
 pub enum Action {
     /// A work, which may also be done on each line of a log.
     Work(Work),
-    /// Check a batch and write all its faults, which may also be done on each line of a log.
-    CheckAll,
     /// Write the rest of a batch, by whether an error stops the service.
     Rest(Mode),
 }
@@ -42,7 +40,7 @@ pub enum Action {
 #[derive(Clone, Copy)]
 pub struct LogOptions {
     /// What is done on each line.
-    pub work: LineWork,
+    pub work: Work,
     /// Whether each answer is written at once.
     pub flush: bool,
     /// Whether each fault has the number of its line.
@@ -146,7 +144,9 @@ fn order_of(args: &ArgMatches<'_>) -> Order {
 /// Returns the task of the command of this name, or `None` if it is not a command over documents.
 fn task_of(name: &str, args: &ArgMatches<'_>) -> Result<Option<Task>, BadArguments> {
     let task = match name {
-        names::CHECK => Task::Check,
+        names::CHECK => Task::Check {
+            all: args.get_flag(names::ALL),
+        },
         names::PLAN if args.get_flag(names::DOT) => Task::Draw,
         names::PLAN => Task::Plan,
         names::CANON => Task::Canon,
@@ -170,7 +170,6 @@ fn task_of(name: &str, args: &ArgMatches<'_>) -> Result<Option<Task>, BadArgumen
 /// Returns what the command of this name does, or `None` if it is not a command over documents.
 fn action_of(name: &str, args: &ArgMatches<'_>) -> Result<Option<Action>, BadArguments> {
     let action = match name {
-        names::CHECK if args.get_flag(names::ALL) => Action::CheckAll,
         names::PLAN if args.get_flag(names::FULL) => Action::Work(Work::FullPlan),
         names::REST => Action::Rest(mode_of(args)),
         _ => {
@@ -193,23 +192,21 @@ fn origin_of<'a>(args: &ArgMatches<'a>, id: &str) -> Origin<'a> {
 fn second_of<'a>(args: &ArgMatches<'a>, action: Action) -> Origin<'a> {
     let task = match action {
         Action::Rest(_) => return origin_of(args, names::RESPONSES),
-        Action::CheckAll | Action::Work(Work::FullPlan) => return Origin::Nowhere,
+        Action::Work(Work::FullPlan) => return Origin::Nowhere,
         Action::Work(Work::Task(task)) => task,
     };
     match task {
         Task::Match { .. } => origin_of(args, names::RESPONSES),
         Task::Replay { .. } => origin_of(args, names::OUTCOMES),
         Task::Run { .. } => origin_of(args, names::EVENTS),
-        Task::Check | Task::Plan | Task::Draw | Task::Canon => Origin::Nowhere,
+        Task::Check { .. } | Task::Plan | Task::Draw | Task::Canon => Origin::Nowhere,
     }
 }
 
 /// Returns how a log is answered, if a command is asked for that. There is no log for a rest.
 fn log_of(args: &ArgMatches<'_>, action: Action) -> Option<LogOptions> {
-    let work = match action {
-        Action::Work(work) => LineWork::Work(work),
-        Action::CheckAll => LineWork::CheckAll,
-        Action::Rest(_) => return None,
+    let Action::Work(work) = action else {
+        return None;
     };
     args.get_flag(names::LINES).then_some(LogOptions {
         work,
@@ -223,7 +220,7 @@ fn log_of(args: &ArgMatches<'_>, action: Action) -> Option<LogOptions> {
 fn form_of(args: &ArgMatches<'_>, action: Action) -> Form {
     let is_json = match action {
         Action::Work(Work::FullPlan) => true,
-        Action::CheckAll | Action::Work(Work::Task(Task::Plan | Task::Match { .. })) => {
+        Action::Work(Work::Task(Task::Check { all: true } | Task::Plan | Task::Match { .. })) => {
             args.get_flag(names::LINES)
         }
         _ => false,
@@ -304,7 +301,7 @@ impl<'a> CommandLine<'a> {
         match found.subcommand() {
             Some((name, matches)) => asked_by(alloc, name, matches),
             None => {
-                let check = Action::Work(Work::Task(Task::Check));
+                let check = Action::Work(Work::Task(Task::Check { all: false }));
                 Ok(CommandLine::Answer(job_of(&found, check)?))
             }
         }

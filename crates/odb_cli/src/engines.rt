@@ -8,8 +8,8 @@ use crate::devices::{open, writer_of};
 use crate::ending::{Status, finish};
 use odb_check::Seed;
 use odb_engine::{
-    Disposal, Ended, EngineFault, Form, LineWork, Names, PairWork, Setup, Work, answer_task,
-    check_all_batch, full_plan_batch, locate_batch, locate_pair, rest_batch,
+    Disposal, Ended, EngineFault, Form, Names, PairWork, Setup, Work, answer_task, full_plan_batch,
+    locate_batch, locate_pair, rest_batch,
 };
 use odb_io::{Input, Output};
 use std::alloc::Global;
@@ -62,12 +62,7 @@ fn locate<I: Read, S: Read, W: Write>(
     let work = match job.action {
         Action::Rest(mode) => PairWork::Rest(mode),
         Action::Work(Work::Task(task)) if task.takes_second() => PairWork::Task(task),
-        Action::Work(work) => {
-            return locate_batch(alloc, first, output, name, LineWork::Work(work), setup);
-        }
-        Action::CheckAll => {
-            return locate_batch(alloc, first, output, name, LineWork::CheckAll, setup);
-        }
+        Action::Work(work) => return locate_batch(alloc, first, output, name, work, setup),
     };
     let names = Names {
         batch: name,
@@ -91,7 +86,6 @@ fn answer<I: Read, S: Read, W: Write>(
 {
     match job.action {
         Action::Work(Work::Task(task)) => answer_task(alloc, first, second, output, task, setup),
-        Action::CheckAll => check_all_batch(alloc, first, output, setup),
         Action::Work(Work::FullPlan) => full_plan_batch(alloc, first, output, setup),
         Action::Rest(mode) => rest_batch(alloc, first, second, output, mode, setup),
     }

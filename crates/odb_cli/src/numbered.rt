@@ -1,8 +1,7 @@
 //! The command on each line of a log, which can number the faults, and print where they are.
 
 use odb_engine::{
-    Answer, Ended, EngineFault, Form, LineCommand, LineWork, Setup, answer_line, answer_located,
-    check_all_in_memory,
+    Answer, Ended, EngineFault, Form, LineCommand, Setup, Work, answer_line, answer_located,
 };
 use odb_io::Output;
 use std::alloc::{AllocError, Global};
@@ -12,7 +11,7 @@ use std::io::Write;
 /// What is done on each line, which may print the number of the line with a fault.
 #[derive(Drop)]
 pub struct NumberedLines<'n> {
-    work: LineWork,
+    work: Work,
     setup: Setup,
     /// Whether each fault has the number of its line.
     numbered: bool,
@@ -63,7 +62,7 @@ impl<'n> NumberedLines<'n> {
     ghost use Rattle.odb_cli.specs.LineWorks.{OfLine};
 
     /// Makes the command, before the first line.
-    pub fn new(work: LineWork, setup: Setup, numbered: bool, located: Option<&'n str>) -> Self {
+    pub fn new(work: Work, setup: Setup, numbered: bool, located: Option<&'n str>) -> Self {
         NumberedLines {
             work,
             setup,
@@ -81,10 +80,7 @@ impl<'n> NumberedLines<'n> {
         if let Some(name) = self.located {
             return answer_located(alloc, line, name, Some(number), self.work, self.setup);
         }
-        match self.work {
-            LineWork::Work(work) => answer_line(alloc, line, work, self.setup),
-            LineWork::CheckAll => check_all_in_memory(alloc, line, self.setup),
-        }
+        answer_line(alloc, line, self.work, self.setup)
     }
 
     /// Returns the number of the next line, counted from 1.

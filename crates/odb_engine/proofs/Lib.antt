@@ -2,7 +2,6 @@ mod ReadLemmas
 mod SourceLemmas
 pub mod EngineLemmas
 pub mod MemoryLemmas
-pub mod AnswerLemmas
 mod ReplayLemmas
 mod RunLemmas
 mod RunLawLemmas
@@ -31,3 +30,4 @@ mod AllFaultLemmas
 mod FirstFaultLemmas
 mod VerdictLemmas
 mod LocatedLemmas
+mod ListLawLemmas

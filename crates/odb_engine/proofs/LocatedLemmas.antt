@@ -1,5 +1,5 @@
 -- Faults with where they are, and what is written of two documents.
-use Rattle.std.proofs.Common.{◌≡◌, ◌∙◌, ◌↔◌, ◌<◌, ◌+◌, ℕ, zero, suc, arith, Bool, true, false, List, [], ◌∷◌, ◌++◌, length, take, get_or, map, cond, Option, None, Some, Result, Ok, Err, option_map, inl, inr, refl, sym, ap, subst}
+use Rattle.std.proofs.Common.{◌≡◌, ◌∙◌, ◌↔◌, ◌<◌, ◌+◌, ℕ, zero, suc, arith, Bool, true, false, List, [], ◌∷◌, ◌++◌, length, take, get_or, map, cond, Option, None, Some, Result, Ok, Err, IfErr, IfOk, option_map, inl, inr, refl, sym, ap, subst}
 use Rattle.std.specs.List.{All, AllZip}
 use Rattle.std.proofs.lemmas.List.{map-append, take_more}
 use Rattle.std.proofs.lemmas.List.Elements.{All-nil, All-append, All-cons}
@@ -26,9 +26,10 @@ use Rattle.odb_engine.specs.declared.halt.Halt.{Halt}
 use Rattle.odb_engine.specs.declared.halt.Halt.TheVariants as halts
 use Rattle.odb_engine.specs.Cascade.{Answers, IsLeast, IsLeastOfBatch, WritesIn, at_place}
 use Rattle.odb_engine.specs.Forms.{fault_text}
-use Rattle.odb_engine.specs.Halts.{Found}
+use Rattle.odb_engine.specs.declared.answer.Answer.{Answer}
+use Rattle.odb_engine.specs.Halts.{Found, Halted}
 use Rattle.odb_engine.specs.Answered.{LocatesEither, LocatesFault, LocatesFound}
-use Rattle.odb_engine.specs.Located.{AreLocated, HasPosition, IsInEither, Locates, numbered}
+use Rattle.odb_engine.specs.Located.{AreLocated, HasPosition, IsInEither, Locates, LocatesAll, PrintsAll, numbered}
 use Rattle.odb_engine.proofs.EngineLemmas.{FoundText, halt_in}
 use Rattle.odb_engine.proofs.RestLemmas.{least-answers}
 
@@ -135,3 +136,10 @@ same-halt halt first other Failed is same read = (
   λ e. let read_halt : halt ≡ halts.Read = sym (ap halt_in same) ∙ ap halt_in e in read.0 (subst (λ (h : Halt). first ≡ Err h) read_halt is),
   λ f. let read_halt : halt ≡ halts.Read = sym (ap halt_in is) ∙ ap halt_in (read.1 f) in subst (λ (h : Halt). other ≡ Err h) read_halt same,
 )
+
+-- all faults are printed with where they are
+pub locates-all : {E : Type 0} (P : WritesIn) (Are : List Printed → Type 0) (name : List ℕ) (number : Option ℕ) (document : List ℕ) (form : Form) (refusal : Refusal) (refusals : List Printed) (found : FoundText) (result : Result Answer E) → found ≡ Err (halts.Refused refusal) → Found P form found
+    → IfErr found (Halted (λ _. Are refusals)) → IfOk result (λ answer. PrintsAll name number document form refusals answer.ended answer.text.items) → IfOk result (λ answer. LocatesAll P Are name number document form answer.ended answer.text.items)
+locates-all P Are name number document form refusal refusals found (Ok answer) is so are prints =
+    inr (record { line = _; refused = subst (Found P form) is so; refusals = refusals; all = subst (λ (r : FoundText). IfErr r (Halted (λ _. Are refusals))) is are; prints = prints })
+locates-all P Are name number document form refusal refusals found (Err error) is so are prints = tt

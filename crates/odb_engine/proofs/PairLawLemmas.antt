@@ -1,5 +1,6 @@
 -- What a task writes of a line with two documents is what it writes of the two documents.
-use Rattle.std.proofs.Common.{◌≡◌, true, ℕ, List, Some, inl, inr, refl, sym, subst}
+use Rattle.std.proofs.Common.{◌≡◌, ◌↔◌, Bool, true, false, ℕ, List, Some, inl, inr, refl, sym, subst}
+use Rattle.std.proofs.lemmas.Bool.{false≢true}
 use Rattle.serde_json.specs.Data.{Data, array, item, no_items}
 use Rattle.odb_doc.specs.declared.fault.Place.{Place}
 use Rattle.odb_doc.specs.declared.fault.Place.TheVariants as places
@@ -11,12 +12,16 @@ use Rattle.odb_engine.specs.declared.form.Form.{Form}
 use Rattle.odb_engine.specs.declared.task.Task.{Task}
 use Rattle.odb_engine.specs.declared.task.Task.TheVariants as tasks
 use Rattle.odb_engine.specs.Cascade.{Answers, AnswersValue, OfDocument, WritesIn}
+use Rattle.odb_engine.specs.declared.lines.work.Work.TheVariants as works
+use Rattle.odb_engine.specs.AllFaults.{AreFaultsIn, Lists}
+use Rattle.odb_engine.specs.Contents.{Given}
 use Rattle.odb_engine.specs.Contents.Given.{ByReader, InHand, InMemory}
+use Rattle.odb_engine.specs.FullPlans.{OfWholeLine}
 use Rattle.odb_engine.specs.Inputs.{IsDocumentOf}
 use Rattle.odb_engine.specs.Matches.{MatchesValue}
 use Rattle.odb_engine.specs.Replays.{ReplaysValue}
 use Rattle.odb_engine.specs.Runs.{RunsValue}
-use Rattle.odb_engine.specs.Tasks.{AnswersPair, InLine, IsLineOf, OfLine, OfTask, takes_second}
+use Rattle.odb_engine.specs.Tasks.{AnswersPair, InLine, IsLineOf, OfDocuments, OfLine, OfTask, lists_all, takes_second}
 use Rattle.odb_engine.proofs.EngineLemmas.{of-value}
 use Rattle.odb_engine.proofs.LawLemmas.{refused_no_value}
 use Rattle.odb_engine.proofs.MemoryLemmas.{one_value, whole-document}
@@ -36,7 +41,7 @@ answers-weaker P Q value form ended text to (inr x) = inr (record { batch = x.ba
 module _ (second : List ℕ) (value : Data) (is : IsDocument second value) (form : Form) (ended : Ended) (text : List ℕ) (batch : List Record) where
   -- by a second document in memory as by its value
   in-memory : (task : Task) → OfTask task (InHand value) batch form ended text → OfTask task (InMemory second) batch form ended text
-  in-memory tasks.Check so = so
+  in-memory (tasks.Check all) so = so
   in-memory tasks.Plan so = so
   in-memory tasks.Draw so = so
   in-memory tasks.Canon so = so
@@ -45,7 +50,7 @@ module _ (second : List ℕ) (value : Data) (is : IsDocument second value) (form
   in-memory (tasks.Run policy) so = of-value places.Events (RunsValue policy batch) second value is form ended text so
 
   in-hand : (task : Task) → OfTask task (InMemory second) batch form ended text → OfTask task (InHand value) batch form ended text
-  in-hand tasks.Check so = so
+  in-hand (tasks.Check all) so = so
   in-hand tasks.Plan so = so
   in-hand tasks.Draw so = so
   in-hand tasks.Canon so = so
@@ -58,7 +63,7 @@ module _ (second : List ℕ) (value : Data) (is : IsDocument second value) (form
   whole = whole-document second (λ _. Unit {0}) (record { value = value; document = is; holds = tt })
 
   by-reader : (task : Task) → OfTask task (InMemory second) batch form ended text → OfTask task (ByReader (Some second)) batch form ended text
-  by-reader tasks.Check so = so
+  by-reader (tasks.Check all) so = so
   by-reader tasks.Plan so = so
   by-reader tasks.Draw so = so
   by-reader tasks.Canon so = so
@@ -67,7 +72,7 @@ module _ (second : List ℕ) (value : Data) (is : IsDocument second value) (form
   by-reader (tasks.Run policy) so = (second, whole, so)
 
   of-reader : (task : Task) → OfTask task (ByReader (Some second)) batch form ended text → OfTask task (InMemory second) batch form ended text
-  of-reader tasks.Check so = so
+  of-reader (tasks.Check all) so = so
   of-reader tasks.Plan so = so
   of-reader tasks.Draw so = so
   of-reader tasks.Canon so = so
@@ -111,3 +116,27 @@ module _ (task : Task) (takes : takes_second task ≡ true) (batch second line :
   readers-from so = pair-from (of-value places.Batch (AnswersValue (OfTask task (InMemory second))) batch is.batch_value is.batch_is form ended text
       (answers-weaker (OfTask task (ByReader (Some second))) (OfTask task (InMemory second)) is.batch_value form ended text (λ requests. of-reader second is.second_value is.second_is form ended text requests task)
       (value-of places.Batch (AnswersValue (OfTask task (ByReader (Some second)))) batch is.batch_value is.batch_is form ended text so)))
+
+-- ---- a task over two documents lists no faults
+
+pub second-alone : (task : Task) → takes_second task ≡ true → lists_all task ≡ false
+second-alone (tasks.Check all) takes = absurd (false≢true takes)
+second-alone tasks.Plan takes = refl
+second-alone tasks.Draw takes = refl
+second-alone tasks.Canon takes = refl
+second-alone (tasks.Match mode strict) takes = refl
+second-alone (tasks.Replay policy order traced) takes = refl
+second-alone (tasks.Run policy) takes = refl
+
+-- so what it writes is its result or the first fault
+pub whole-line : (task : Task) → takes_second task ≡ true → (line : List ℕ) (form : Form) (ended : Ended) (text : List ℕ) → OfWholeLine (works.Task task) line form ended text ↔ OfLine task line form ended text
+whole-line task takes line form ended text = (
+  subst (λ (all : Bool). Lists all (OfLine task line) (AreFaultsIn line) form ended text) (second-alone task takes),
+  subst (λ (all : Bool). Lists all (OfLine task line) (AreFaultsIn line) form ended text) (sym (second-alone task takes)),
+)
+
+pub whole-documents : (task : Task) → takes_second task ≡ true → (given : Given) (batch : List ℕ) (form : Form) (ended : Ended) (text : List ℕ) → OfDocuments task given batch form ended text ↔ Answers (OfTask task given) batch form ended text
+whole-documents task takes given batch form ended text = (
+  subst (λ (all : Bool). Lists all (Answers (OfTask task given) batch) (AreFaultsIn batch) form ended text) (second-alone task takes),
+  subst (λ (all : Bool). Lists all (Answers (OfTask task given) batch) (AreFaultsIn batch) form ended text) (sym (second-alone task takes)),
+)

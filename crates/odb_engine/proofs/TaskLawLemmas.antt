@@ -16,13 +16,16 @@ use Rattle.odb_engine.specs.Cascade.{Answers, AnswersValue, IsOne, OfDocument, W
 use Rattle.odb_engine.specs.Forms.{fault_text}
 use Rattle.odb_engine.specs.Contents.{Given, OfGiven}
 use Rattle.odb_engine.specs.Contents.Given.{ByReader, InHand, InMemory}
-use Rattle.odb_engine.specs.Tasks.{AnswersPair, InLine, OfLine, OfPair, OfTask, takes_second}
+use Rattle.odb_engine.specs.declared.lines.work.Work.TheVariants as works
+use Rattle.odb_engine.specs.FullPlans.{OfWholeLine}
+use Rattle.odb_engine.specs.Tasks.{AnswersPair, InLine, OfDocuments, OfLine, OfPair, OfTask, lists_all, takes_second}
 use Rattle.odb_engine.specs.Matches.{MatchesValue}
 use Rattle.odb_engine.specs.Replays.{ReplaysValue}
 use Rattle.odb_engine.specs.Runs.{RunsValue}
 use Rattle.odb_engine.proofs.CanonLawLemmas.{canonical_one}
 use Rattle.odb_engine.proofs.CourseLemmas.{AreOneRecord, HasOrder, replays_value_one}
 use Rattle.odb_engine.proofs.LawLemmas.{AreFunctional, answers_one, document_one, value_one}
+use Rattle.odb_engine.proofs.ListLawLemmas.{written-one}
 use Rattle.odb_engine.proofs.MatchLawLemmas.{AreOneMatch, matches_value_one}
 use Rattle.odb_engine.proofs.RunLawLemmas.{AreOneHistory, HaveOneCause, runs_value_one}
 use Rattle.odb_engine.proofs.SecondLemmas.{some_document_one}
@@ -91,7 +94,7 @@ given-one (InHand value) known place P form one = one value
 
 -- one text is written of a batch and a second document
 task-one : AreOneText → (task : Task) (form : Form) (given : Given) → IsKnown given → (batch : List Record) → HasGoodNames batch → IsOne (OfTask task given batch form)
-task-one law tasks.Check form given known batch good a b s t x y = (x.0 ∙ sym y.0, x.1 ∙ sym y.1)
+task-one law (tasks.Check all) form given known batch good a b s t x y = (x.0 ∙ sym y.0, x.1 ∙ sym y.1)
 task-one law tasks.Plan form given known batch good a b s t x y = (x.0 ∙ sym y.0, x.1 ∙ sym y.1)
 task-one law tasks.Draw form given known batch good a b s t x y = (x.0 ∙ sym y.0, x.1 ∙ sym y.1)
 task-one law tasks.Canon form given known batch good a b s t x y = canonical_one batch form a b s t x y
@@ -100,11 +103,14 @@ task-one law (tasks.Replay policy order traced) form given known batch good a b 
     given-one given known places.Outcomes (ReplaysValue (AllowsOrder order) policy traced batch) form (λ value. replays_value_one order (law.order order) law.recorded policy traced batch value form) a b s t x y
 task-one law (tasks.Run policy) form given known batch good a b s t x y = given-one given known places.Events (RunsValue policy batch) form (λ value. runs_value_one law.causes law.history policy batch good value form) a b s t x y
 
-pub answers-one : AreOneText → (task : Task) (form : Form) (given : Given) → IsKnown given → (bytes : List ℕ) → IsOne (Answers (OfTask task given) bytes form)
+answers-one : AreOneText → (task : Task) (form : Form) (given : Given) → IsKnown given → (bytes : List ℕ) → IsOne (Answers (OfTask task given) bytes form)
 answers-one law task form given known bytes = answers_one law.batch (OfTask task given) bytes form (task-one law task form given known)
 
-pub line-one : AreOneText → (task : Task) (form : Form) (line : List ℕ) → IsOne (OfLine task line form)
-line-one law task form line = at (takes_second task)
+pub documents-one : AreOneText → (task : Task) (form : Form) (given : Given) → IsKnown given → (bytes : List ℕ) → IsOne (OfDocuments task given bytes form)
+documents-one law task form given known bytes = written-one law.batch (lists_all task) (Answers (OfTask task given) bytes) bytes form (answers-one law task form given known bytes)
+
+pub line-one : AreOneText → (task : Task) (form : Form) (line : List ℕ) → IsOne (OfWholeLine (works.Task task) line form)
+line-one law task form line = written-one law.batch (lists_all task) (OfLine task line) line form (at (takes_second task))
   where
     at : (two : Bool) → IsOne (InLine two (OfTask task) line form)
     at false = answers-one law task form (InMemory []) tt line

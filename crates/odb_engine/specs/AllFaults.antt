@@ -1,5 +1,5 @@
--- All faults of a batch document as they are printed, and what is written of a document whose faults are all listed.
-use Rattle.std.specs.Prelude.{◌≡◌, ◌⊎◌, ℕ, List, [], ◌∷◌, Option}
+-- All faults of a batch document, and what is written where they are listed.
+use Rattle.std.specs.Prelude.{◌≡◌, ◌⊎◌, ℕ, Bool, true, false, List, [], ◌∷◌, Option}
 use Rattle.std.specs.List.{filter_map}
 use Rattle.serde_json.specs.Data.{Data}
 use Rattle.odb_doc.specs.declared.fault.Place.TheVariants.{Batch}
@@ -9,14 +9,11 @@ use Rattle.odb_doc.specs.batch.LeastFault.{IsWellShaped}
 use Rattle.odb_doc.specs.batch.ShapeFaults.{AreShapeFaults}
 use Rattle.odb_check.specs.AllNameFaults.{AreNameFaults}
 use Rattle.odb_check.specs.FaultTable.{check_row}
-use Rattle.odb_text.specs.Lines.{fault_lines}
-use Rattle.odb_text.specs.Results.{faults_value, json_line}
 use Rattle.odb_engine.specs.declared.ending.Ended.{Ended}
 use Rattle.odb_engine.specs.declared.ending.Ended.TheVariants.{Done, Refused}
 use Rattle.odb_engine.specs.declared.form.Form.{Form}
-use Rattle.odb_engine.specs.declared.form.Form.TheVariants.{Lines, Json}
-use Rattle.odb_engine.specs.Cascade.{Answers, HasBatch, HasValue, RefusesBytes, WritesIn}
-use Rattle.odb_engine.specs.Commands.{Counts}
+use Rattle.odb_engine.specs.Cascade.{HasBatch, HasValue, RefusesBytes, WritesIn}
+use Rattle.odb_engine.specs.Forms.{faults_text}
 
 -- the list has what is printed of such faults
 pub record ArePrinted {F : Type 0} (row : F → Option Printed) (Are : List F → Type 0) (refusals : List Printed) : Type 0 where
@@ -39,19 +36,20 @@ pub record HasOne (bytes : List ℕ) (refusals : List Printed) : Type 0 where
 abbrev pub AreFaultsIn : List ℕ → List Printed → Type 0
 AreFaultsIn bytes refusals = HasOne bytes refusals ⊎ HasValue bytes (λ value. AreFaultsOf value refusals)
 
--- what is printed of faults
-abbrev pub faults_text : Form → List Printed → List ℕ
-faults_text Lines refusals = fault_lines refusals
-faults_text Json refusals = json_line (faults_value refusals)
-
--- all faults of the bytes are printed in a form
-pub record PrintsFaults (bytes : List ℕ) (form : Form) (ended : Ended) (text : List ℕ) : Type 0 where
+-- where a command writes a fault, all such faults are printed
+pub record ReportsAll (P : WritesIn) (Are : List Printed → Type 0) (form : Form) (ended : Ended) (text : List ℕ) : Type 0 where
+  pub line : List ℕ
+  pub refused : P form Refused line
   pub refusals : List Printed
-  pub all : AreFaultsIn bytes refusals
+  pub all : Are refusals
   pub ends : ended ≡ Refused
   pub prints : text ≡ faults_text form refusals
 
--- what is written of a document: what check writes if it accepts it; and if it refuses it, all faults
-abbrev pub ChecksAll : List ℕ → WritesIn
-ChecksAll bytes form ended text =
-    ((ended ≡ Done) × Answers Counts bytes form Done text) ⊎ (((line : List ℕ) × Answers Counts bytes form Refused line) × PrintsFaults bytes form ended text)
+-- its result, or all of them
+abbrev pub ListsAll : WritesIn → (List Printed → Type 0) → WritesIn
+ListsAll P Are form ended text = ((ended ≡ Done) × P form Done text) ⊎ ReportsAll P Are form ended text
+
+-- what a command writes, or if all faults are listed its result or all of them
+abbrev pub Lists : Bool → WritesIn → (List Printed → Type 0) → WritesIn
+Lists false P Are = P
+Lists true P Are = ListsAll P Are

@@ -1,21 +1,21 @@
--- For private clauses: what is written of an answer in memory, what a check of all faults finds, and what is written of a
--- fault with where it is.
-use Rattle.std.specs.Prelude.{◌≡◌, ℕ, List, Result, Ok, Err, String, map, string_bytes, if◌then◌else◌}
+-- For private clauses: what is written of an answer in memory, of all faults, and of a fault with where it is.
+use Rattle.std.specs.Prelude.{◌≡◌, ℕ, Bool, true, false, List, Result, Ok, Err, String, map, string_bytes, if◌then◌else◌}
 use Rattle.std.specs.declared.alloc.Global.{Global}
 use Rattle.odb_doc.specs.Refusals.{Printed, printed}
+use Rattle.odb_doc.specs.batch.Records.{Record}
+use Rattle.odb_check.specs.AllNameFaults.{AreNameFaults}
+use Rattle.odb_check.specs.FaultTable.{check_row}
 use Rattle.odb_spans.specs.Positions.{Stands, is_in_batch}
 use Rattle.odb_spans.specs.declared.position.Position.{Position}
-use Rattle.odb_engine.specs.declared.all_faults.Verdict.{Verdict}
-use Rattle.odb_engine.specs.declared.all_faults.Verdict.TheVariants as verdicts
 use Rattle.odb_engine.specs.declared.answer.Answer.{Answer}
 use Rattle.odb_engine.specs.declared.ending.Ended.{Ended}
-use Rattle.odb_engine.specs.declared.ending.Ended.TheVariants.{Done, Refused}
+use Rattle.odb_engine.specs.declared.ending.Ended.TheVariants.{Refused}
 use Rattle.odb_engine.specs.declared.form.Form.{Form}
 use Rattle.odb_engine.specs.declared.halt.Halt.{Halt}
 use Rattle.odb_engine.specs.declared.halt.Halt.TheVariants as halts
-use Rattle.odb_engine.specs.AllFaults.{AreFaultsIn}
-use Rattle.odb_engine.specs.Cascade.{Answers, Prints, Writes}
-use Rattle.odb_engine.specs.Commands.{Counts}
+use Rattle.odb_engine.specs.AllFaults.{ArePrinted}
+use Rattle.odb_engine.specs.Cascade.{Prints, Writes}
+use Rattle.odb_engine.specs.Forms.{fault_text, faults_text}
 use Rattle.odb_engine.specs.Located.{located_text}
 
 -- what is written of an answer, if there is one
@@ -23,10 +23,21 @@ abbrev pub answer_found : Result Answer Halt → Writes
 answer_found (Ok answer) ended text = (ended ≡ answer.ended) × (text ≡ answer.text.items)
 answer_found (Err halt) ended text = ⊥
 
--- the text of a document that the check accepts, or all faults of one that it refuses
-abbrev pub IsVerdict : List ℕ → Form → Verdict → Type 0
-IsVerdict bytes form (verdicts.Accepted text) = Answers Counts bytes form Done (string_bytes text)
-IsVerdict bytes form (verdicts.Refused faults) = ((line : List ℕ) × Answers Counts bytes form Refused line) × AreFaultsIn bytes (map printed faults.items)
+-- the list has what is printed of all faults of the names of these requests
+abbrev pub AreNameFaultsOf : List Record → List Printed → Type 0
+AreNameFaultsOf batch refusals = ArePrinted check_row (AreNameFaults batch) refusals
+
+-- what is written of a fault, or of all these if they are listed
+abbrev pub refused_text : Bool → Form → List Printed → Printed → List ℕ
+refused_text false form refusals refusal = fault_text form refusal
+refused_text true form refusals refusal = faults_text form refusals
+
+-- what is written of what was found, or of all these faults if they are listed
+abbrev pub listed_found : Bool → Form → List Printed → Result (String Global) Halt → Writes
+listed_found all form refusals (Ok found) ended text = Prints (string_bytes found) ended text
+listed_found all form refusals (Err (halts.Refused refusal)) ended text = (ended ≡ Refused) × (text ≡ refused_text all form refusals (printed refusal))
+listed_found all form refusals (Err halts.Read) ended text = ⊥
+listed_found all form refusals (Err halts.OutOfMemory) ended text = ⊥
 
 -- a fault is printed with where it is, under this name
 pub record LocatesFault (IsAt : Position → Type 0) (form : Form) (name : List ℕ) (refusal : Printed) (ended : Ended) (text : List ℕ) : Type 0 where

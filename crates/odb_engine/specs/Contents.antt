@@ -6,6 +6,7 @@ use Rattle.odb_doc.specs.declared.fault.Place.{Place}
 use Rattle.odb_doc.specs.Documents.{IsDocument}
 use Rattle.odb_doc.specs.Refusals.{Printed}
 use Rattle.odb_doc.specs.batch.Records.{Record}
+use Rattle.odb_engine.specs.AllFaults.{AreFaultsIn, AreFaultsOf}
 use Rattle.odb_engine.specs.Cascade.{WritesIn, Accepts, AcceptsValue, OfDocument, RefusesBytes}
 use Rattle.odb_engine.specs.Inputs.{SomeDocument, WasRead}
 
@@ -49,6 +50,11 @@ OfGiven given place P form ended text = SomeContent given (λ content. OfContent
 abbrev pub AcceptsContent : Content → (List Record → Type 0) → Type 0
 AcceptsContent (Bytes bytes) P = Accepts bytes P
 AcceptsContent (Held value) P = AcceptsValue value P
+
+-- the list has all faults of the batch document
+abbrev pub AreFaultsOfContent : Content → List Printed → Type 0
+AreFaultsOfContent (Bytes bytes) refusals = AreFaultsIn bytes refusals
+AreFaultsOfContent (Held value) refusals = AreFaultsOf value refusals
 
 -- The second source is as it was, unless the first was read to the end of this document, and it is a batch that the check
 -- accepts.

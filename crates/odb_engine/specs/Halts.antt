@@ -1,5 +1,5 @@
 -- Why an engine halts before it writes, and what it writes of what it found.
-use Rattle.std.specs.Prelude.{◌≡◌, List, Option, Some, None, Result, Ok, Err, String, string_bytes}
+use Rattle.std.specs.Prelude.{◌≡◌, Bool, true, false, List, Option, Some, None, Result, Ok, Err, String, string_bytes}
 use Rattle.std.specs.declared.alloc.Global.{Global}
 use Rattle.odb_doc.specs.batch.Records.{Record}
 use Rattle.odb_check.specs.declared.fault.CheckFault.{CheckFault}
@@ -19,6 +19,12 @@ abbrev pub Halted : (Printed → Type 0) → Halt → Type 0
 Halted Is (halts.Refused refusal) = Is (refusals.printed refusal)
 Halted Is halts.Read = Unit {0}
 Halted Is halts.OutOfMemory = Unit {0}
+
+-- whether a document is refused
+abbrev pub is_refused : Halt → Bool
+is_refused (halts.Refused refusal) = true
+is_refused halts.Read = false
+is_refused halts.OutOfMemory = false
 
 -- a halt by a fault is one that may be written in this form
 abbrev pub Refuses : WritesIn → Form → Halt → Type 0

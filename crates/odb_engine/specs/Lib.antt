@@ -24,5 +24,6 @@ pub mod Requests
 pub mod lines
 -- For invariants and private clauses.
 pub mod Answered
+pub mod Accepted
 pub mod LabelTables
 pub mod LiveRuns

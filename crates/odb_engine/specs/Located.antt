@@ -13,18 +13,15 @@ use Rattle.odb_engine.specs.declared.ending.Ended.{Ended}
 use Rattle.odb_engine.specs.declared.ending.Ended.TheVariants.{Done, Refused}
 use Rattle.odb_engine.specs.declared.form.Form.{Form}
 use Rattle.odb_engine.specs.declared.form.Form.TheVariants.{Lines, Json}
-use Rattle.odb_engine.specs.declared.lines.work.LineWork.{LineWork}
-use Rattle.odb_engine.specs.declared.lines.work.LineWork.TheVariants as line_works
 use Rattle.odb_engine.specs.declared.lines.work.Work.{Work}
 use Rattle.odb_engine.specs.declared.lines.work.Work.TheVariants as works
 use Rattle.odb_engine.specs.declared.located.pair.PairWork.{PairWork}
 use Rattle.odb_engine.specs.declared.located.pair.PairWork.TheVariants as pair_works
-use Rattle.odb_engine.specs.AllFaults.{AreFaultsIn, ChecksAll}
+use Rattle.odb_engine.specs.AllFaults.{AreFaultsIn}
 use Rattle.odb_engine.specs.Cascade.{Answers, WritesIn}
-use Rattle.odb_engine.specs.Commands.{Counts}
 use Rattle.odb_engine.specs.Contents.Given.{InMemory}
 use Rattle.odb_engine.specs.Forms.{fault_text}
-use Rattle.odb_engine.specs.FullPlans.{OfWork}
+use Rattle.odb_engine.specs.FullPlans.{OfWork, work_lists}
 use Rattle.odb_engine.specs.Rests.{EndsLine, RestsIn}
 use Rattle.odb_engine.specs.Tasks.{OfTask, takes_second}
 
@@ -94,20 +91,26 @@ pub record PrintsAll (name : List ℕ) (number : Option ℕ) (document : List �
   pub ends : ended ≡ Refused
   pub prints : text ≡ all_located_text form name faults
 
--- what a work writes of a document, or of a line
-abbrev pub OfLineWork : LineWork → List ℕ → WritesIn
-OfLineWork (line_works.Work work) document = OfWork work document
-OfLineWork line_works.CheckAll document = ChecksAll document
+-- where a command writes a fault, all such faults of a document are printed with where they are
+pub record ReportsAllAt (P : WritesIn) (Are : List Printed → Type 0) (name : List ℕ) (number : Option ℕ) (document : List ℕ) (form : Form) (ended : Ended) (text : List ℕ) : Type 0 where
+  pub line : List ℕ
+  pub refused : P form Refused line
+  pub refusals : List Printed
+  pub all : Are refusals
+  pub prints : PrintsAll name number document form refusals ended text
 
--- the check of a batch writes its counts, or all its faults with where they are
-abbrev pub LocatesAll : List ℕ → Option ℕ → List ℕ → WritesIn
-LocatesAll name number document form ended text =
-    ((ended ≡ Done) × Answers Counts document form Done text) ⊎ (((line : List ℕ) × Answers Counts document form Refused line) × ((refusals : List Printed) × AreFaultsIn document refusals × PrintsAll name number document form refusals ended text))
+-- the result that a command writes, or all faults with where they are
+abbrev pub LocatesAll : WritesIn → (List Printed → Type 0) → List ℕ → Option ℕ → List ℕ → WritesIn
+LocatesAll P Are name number document form ended text = ((ended ≡ Done) × P form Done text) ⊎ ReportsAllAt P Are name number document form ended text
+
+-- the same, or with the first fault alone
+abbrev pub LocatesBy : Bool → Work → List ℕ → Option ℕ → List ℕ → WritesIn
+LocatesBy false work name number document = Locates (OfWork work document) (IsInDocument name number (is_pair work) document)
+LocatesBy true work name number document = LocatesAll (OfWork work document) (AreFaultsIn document) name number document
 
 -- what a work writes of a document, or of a line, with where the faults are
-abbrev pub LocatesWork : LineWork → List ℕ → Option ℕ → List ℕ → WritesIn
-LocatesWork (line_works.Work work) name number document = Locates (OfWork work document) (IsInDocument name number (is_pair work) document)
-LocatesWork line_works.CheckAll name number document = LocatesAll name number document
+abbrev pub LocatesWork : Work → List ℕ → Option ℕ → List ℕ → WritesIn
+LocatesWork work = LocatesBy (work_lists work) work
 
 -- ---- a batch document and a second document
 

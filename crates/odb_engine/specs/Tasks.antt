@@ -11,6 +11,7 @@ use Rattle.odb_engine.specs.declared.ending.Ended.{Ended}
 use Rattle.odb_engine.specs.declared.form.Form.{Form}
 use Rattle.odb_engine.specs.declared.task.Task.{Task}
 use Rattle.odb_engine.specs.declared.task.Task.TheVariants as tasks
+use Rattle.odb_engine.specs.AllFaults.{AreFaultsIn, Lists}
 use Rattle.odb_engine.specs.Cascade.{WritesIn, Answers, AnswersValue, OfDocument, Reports}
 use Rattle.odb_engine.specs.Commands.{Canonical, Counts, Drawings, Plans}
 use Rattle.odb_engine.specs.Contents.{Given, OfGiven}
@@ -21,7 +22,7 @@ use Rattle.odb_engine.specs.Runs.{RunsValue}
 
 -- what a task writes of the requests of a batch, by the second document if it takes one
 abbrev pub OfTask : Task → Given → List Record → WritesIn
-OfTask tasks.Check second batch = Counts batch
+OfTask (tasks.Check all) second batch = Counts batch
 OfTask tasks.Plan second batch = Plans batch
 OfTask tasks.Draw second batch = Drawings batch
 OfTask tasks.Canon second batch = Canonical batch
@@ -31,13 +32,27 @@ OfTask (tasks.Run policy) second batch = OfGiven second places.Events (RunsValue
 
 -- whether a task takes a second document
 abbrev pub takes_second : Task → Bool
-takes_second tasks.Check = false
+takes_second (tasks.Check all) = false
 takes_second tasks.Plan = false
 takes_second tasks.Draw = false
 takes_second tasks.Canon = false
 takes_second (tasks.Match mode strict) = true
 takes_second (tasks.Replay policy order traced) = true
 takes_second (tasks.Run policy) = true
+
+-- whether all faults of a batch document are listed
+abbrev pub lists_all : Task → Bool
+lists_all (tasks.Check all) = all
+lists_all tasks.Plan = false
+lists_all tasks.Draw = false
+lists_all tasks.Canon = false
+lists_all (tasks.Match mode strict) = false
+lists_all (tasks.Replay policy order traced) = false
+lists_all (tasks.Run policy) = false
+
+-- what a task writes of a batch document in memory, by the second document if it takes one
+abbrev pub OfDocuments : Task → Given → List ℕ → WritesIn
+OfDocuments task second batch = Lists (lists_all task) (Answers (OfTask task second) batch) (AreFaultsIn batch)
 
 -- F07
 abbrev pub not_pair : Printed

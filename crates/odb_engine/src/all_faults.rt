@@ -1,25 +1,30 @@
-//! All faults of a batch document, as they are printed.
+//! All faults of a batch document.
 
-ghost use Rattle.std.specs.Prelude.{◌≡◌, ◌∷◌, [], IfOk, map, string_bytes};
+ghost use Rattle.std.specs.Prelude.{◌≡◌, ◌≢◌, ◌⊎◌, ◌∷◌, [], true, Err, IfErr, IfOk, OnOk, map};
 ghost use Rattle.std.specs.List.{filter_map};
 ghost use Rattle.serde_json.specs.View.{view};
+ghost use Rattle.odb_check.specs.LeastNameFault.{HasGoodNames};
+ghost use Rattle.odb_check.specs.Plans.{plan_records};
+ghost use Rattle.odb_check.specs.Seeds.{IsSeeded};
+ghost use Rattle.odb_doc.specs.Faults.{document_row};
 ghost use Rattle.odb_doc.specs.Refusals.{printed};
-ghost use Rattle.odb_engine.specs.declared.ending.Ended.TheVariants as ends;
-ghost use Rattle.odb_engine.specs.AllFaults.{AreFaultsIn, AreFaultsOf, ChecksAll, faults_text};
-ghost use Rattle.odb_engine.specs.Answered.{IsVerdict};
+ghost use Rattle.odb_doc.specs.batch.Batches.{records};
+ghost use Rattle.odb_doc.specs.batch.LeastFault.{IsLeastFault, IsWellShaped};
+ghost use Rattle.odb_doc.specs.batch.Records.{IsBatchOf};
+ghost use Rattle.odb_engine.specs.declared.halt.Halt.TheVariants as halts;
+ghost use Rattle.odb_engine.specs.AllFaults.{AreFaultsIn, AreFaultsOf};
+ghost use Rattle.odb_engine.specs.Answered.{AreNameFaultsOf};
+ghost use Rattle.odb_engine.specs.Cascade.{HasFault};
+ghost use Rattle.odb_engine.specs.Halts.{Halted, RefusesNamesOf, is_refused};
 
-use crate::answer::Answer;
-use crate::command::text_in;
+use crate::command::plan_of;
 use crate::disposal::DropOrLeak;
-use crate::ending::Ended;
-use crate::form::Form;
 use crate::halt::Halt;
 use crate::input::value_in;
 use crate::setup::Setup;
-use crate::task::Task;
-use odb_check::name_faults;
+use odb_check::{Plan, name_faults};
+use odb_doc::laws::one_fault;
 use odb_doc::{Batch, Fault, Place, Refusal, shape_faults};
-use odb_text::{fault_lines, faults_json};
 use serde_json::Value;
 use std::alloc::{AllocError, Global};
 
@@ -36,39 +41,100 @@ fn refusals_of<F: Fault>(alloc: Global, faults: &[F]) -> Result<Vec<Refusal>, Al
     Ok(found)
 }
 
-/// Returns the faults of the names of the batch in a value that has no fault of shape.
-fn faults_of_names(alloc: Global, value: &Value, setup: Setup) -> Result<Vec<Refusal>, AllocError>
-    ensures { IfOk result (λ found. AreFaultsOf (view value.now) (map printed found.items)) }
-{
-    let Ok(batch) = Batch::read(alloc, value) else {
-        return Err(AllocError);
-    };
-    let batch = DropOrLeak {
-        value: batch,
-        disposal: setup.disposal,
-    };
-    let faults = name_faults(alloc, setup.seed, &batch.value)?;
-    refusals_of(alloc, &faults)
-}
-
-/// Returns the faults of the value of a batch document.
-fn faults_of(alloc: Global, value: &Value, setup: Setup) -> Result<Vec<Refusal>, AllocError>
+/// Returns the faults of shape of the value of a batch document that has some.
+fn shape_refusals(alloc: Global, value: &Value) -> Result<Vec<Refusal>, AllocError>
+    requires { ¬ IsWellShaped (view value.now) }
     ensures { IfOk result (λ found. AreFaultsOf (view value.now) (map printed found.items)) }
 {
     let faults = shape_faults(alloc, value)?;
-    if !faults.is_empty() {
-        return refusals_of(alloc, &faults);
-    }
-    faults_of_names(alloc, value, setup)
+    refusals_of(alloc, &faults)
 }
 
-/// Returns a list of one fault.
-fn only(alloc: Global, refusal: Refusal) -> Result<Vec<Refusal>, AllocError>
-    ensures { IfOk result (λ found. found.items ≡ refusal ∷ []) }
+/// Returns the faults of the names of a batch.
+fn name_refusals(alloc: Global, batch: &Batch<'_>, setup: Setup) -> Result<Vec<Refusal>, AllocError>
+    ensures { IfOk result (λ found. AreNameFaultsOf (records batch.now) (map printed found.items)) }
 {
-    let mut found = Vec::with_capacity(alloc, 1)?;
-    found.push(refusal)?;
-    Ok(found)
+    let faults = name_faults(alloc, setup.seed, batch)?;
+    refusals_of(alloc, &faults)
+}
+
+/// Lists the fault of a document that is refused as a whole, if all are listed. Returns the halt, or `OutOfMemory` if there is
+/// no memory for the list.
+pub(crate) fn noted(halt: Halt, all: bool, faults: &mut Vec<Refusal>) -> Halt
+    requires { faults.old.items ≡ [] }
+    ensures same { (result ≡ halt) ⊎ ((result ≡ halts.OutOfMemory) × (is_refused halt ≡ true)) }
+    ensures listed { all ≡ true → Halted (λ refusal. map printed faults.new.items ≡ refusal ∷ []) result }
+{
+    match halt {
+        Halt::Refused(refusal) if all => match faults.push(refusal) {
+            Ok(()) => halt,
+            Err(_) => Halt::OutOfMemory,
+        },
+        _ => halt,
+    }
+}
+
+/// Returns the batch in a value, and lists the faults of shape of one that has some if all are listed.
+pub(crate) fn batch_in<'a>(
+    alloc: Global,
+    value: &'a Value,
+    all: bool,
+    faults: &mut Vec<Refusal>,
+) -> Result<Batch<'a>, Halt>
+    ensures good { OnOk result (IsWellShaped (view value.now)) }
+    ensures records { IfOk result (λ batch. IsBatchOf (view value.now) (records batch)) }
+    ensures least { IfErr result (Halted (HasFault IsLeastFault document_row (view value.now))) }
+    ensures listed { all ≡ true → IfErr result (Halted (λ _. AreFaultsOf (view value.now) (map printed faults.new.items))) }
+    ensures read { result ≢ Err halts.Read }
+{
+    match Batch::read(alloc, value) {
+        Ok(batch) => Ok(batch),
+        Err(fault) => {
+            let halt = Halt::from(fault);
+            if all && halt.is_refused() {
+                one_fault();
+                *faults = shape_refusals(alloc, value)?;
+            }
+            Err(halt)
+        }
+    }
+}
+
+/// Returns the plan of a batch, and lists the faults of the names of one that has some if all are listed.
+pub(crate) fn plan_in<'a: 'b, 'b>(
+    alloc: Global,
+    batch: &'b Batch<'a>,
+    all: bool,
+    setup: Setup,
+    faults: &mut Vec<Refusal>,
+) -> Result<DropOrLeak<Plan<'b>>, Halt>
+    ensures good { OnOk result (HasGoodNames (records batch.now)) }
+    ensures plan { IfOk result (λ plan. plan_records plan.value ≡ records batch.now) }
+    ensures seed { IfOk result (λ plan. IsSeeded setup.seed.number plan.value) }
+    ensures least { IfErr result (Halted (RefusesNamesOf (records batch.now))) }
+    ensures listed { all ≡ true → IfErr result (Halted (λ _. AreNameFaultsOf (records batch.now) (map printed faults.new.items))) }
+    ensures read { result ≢ Err halts.Read }
+{
+    match plan_of(alloc, batch, setup) {
+        Ok(plan) => Ok(plan),
+        Err(halt) => {
+            if all {
+                *faults = name_refusals(alloc, batch, setup)?;
+            }
+            Err(halt)
+        }
+    }
+}
+
+/// Returns the faults of a document that is refused.
+fn list_of(halt: Halt, faults: Vec<Refusal>) -> Result<Vec<Refusal>, AllocError>
+    ensures { IfOk result (λ found. (is_refused halt ≡ true) × (found ≡ faults)) }
+{
+    if halt.is_refused() {
+        Ok(faults)
+    } else {
+        Err(AllocError)
+    }
 }
 
 /// Returns all faults of a batch document in memory: those of the first phase that has any, which are the
@@ -86,88 +152,22 @@ fn only(alloc: Global, refusal: Refusal) -> Result<Vec<Refusal>, AllocError>
 pub fn faults_in(alloc: Global, document: &[u8], setup: Setup) -> Result<Vec<Refusal>, AllocError>
     ensures { IfOk result (λ found. AreFaultsIn document.now (map printed found.items)) }
 {
+    let mut faults = Vec::new(alloc);
     let value = match value_in(alloc, document, Place::Batch) {
         Ok(value) => value,
-        Err(halt) => return only(alloc, halt.refusal()?),
+        Err(halt) => return list_of(noted(halt, true, &mut faults), faults),
     };
     let value = DropOrLeak {
         value,
         disposal: setup.disposal,
     };
-    faults_of(alloc, &value.value, setup)
-}
-
-/// Returns faults in a form.
-fn faults_text(alloc: Global, form: Form, refusals: &[Refusal]) -> Result<String, AllocError>
-    ensures { IfOk result (λ text. string_bytes text ≡ faults_text form (map printed refusals.now)) }
-{
-    match form {
-        Form::Lines => fault_lines(alloc, refusals),
-        Form::Json => faults_json(alloc, refusals),
-    }
-}
-
-/// Returns the answer that prints these faults.
-fn faults_answer(alloc: Global, form: Form, refusals: &[Refusal]) -> Result<Answer, AllocError>
-    ensures { IfOk result (λ answer. (answer.ended ≡ ends.Refused)
-        × (answer.text.items ≡ faults_text form (map printed refusals.now))) }
-{
-    let text = faults_text(alloc, form, refusals)?;
-    Ok(Answer {
-        ended: Ended::Refused,
-        text: text.into_bytes(),
-    })
-}
-
-/// What a check of all faults finds: the text for an accepted document, or all faults of a refused one.
-#[derive(Drop)]
-pub(crate) enum Verdict {
-    Accepted(String),
-    Refused(Vec<Refusal>),
-}
-
-/// Checks a batch document in memory. It is parsed once; the requests of a refused one are read twice.
-pub(crate) fn verdict_in(
-    alloc: Global,
-    document: &[u8],
-    setup: Setup,
-) -> Result<Verdict, AllocError>
-    ensures { IfOk result (IsVerdict document.now setup.form) }
-{
-    let value = match value_in(alloc, document, Place::Batch) {
-        Ok(value) => value,
-        Err(halt) => return Ok(Verdict::Refused(only(alloc, halt.refusal()?)?)),
+    let batch = match batch_in(alloc, &value.value, true, &mut faults) {
+        Ok(batch) => batch,
+        Err(halt) => return list_of(halt, faults),
     };
-    let value = DropOrLeak {
-        value,
+    let batch = DropOrLeak {
+        value: batch,
         disposal: setup.disposal,
     };
-    let (mut none, mut check): (&[u8], _) = (&[], Task::Check);
-    match text_in(alloc, &value.value, &mut none, &mut check, setup) {
-        Ok(text) => Ok(Verdict::Accepted(text)),
-        Err(Halt::Refused(_)) => Ok(Verdict::Refused(faults_of(alloc, &value.value, setup)?)),
-        Err(_) => Err(AllocError),
-    }
-}
-
-/// Checks a batch document in memory: returns what [`Task::Check`] writes if it is accepted, and else all its
-/// faults, as [`faults_in`] lists them, in the form of the setup.
-///
-/// An accepted document costs no more than the task does. One with a fault is parsed once, and its requests are
-/// read twice.
-///
-/// # Errors
-///
-/// `AllocError` if an allocation fails.
-pub fn check_all_in_memory(
-    alloc: Global,
-    document: &[u8],
-    setup: Setup,
-) -> Result<Answer, AllocError>
-    ensures { IfOk result (λ answer. ChecksAll document.now setup.form answer.ended answer.text.items) }
-{
-    match verdict_in(alloc, document, setup)? {
-        Verdict::Accepted(text) => Ok(Answer::done(text)),
-        Verdict::Refused(faults) => faults_answer(alloc, setup.form, &faults),
-    }
+    name_refusals(alloc, &batch.value, setup)
 }

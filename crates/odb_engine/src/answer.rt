@@ -1,20 +1,22 @@
 //! What a command writes, in memory.
 
-ghost use Rattle.std.specs.Prelude.{◌≡◌, ◌≤◌, ◌++◌, ◌↔◌, true, false, length, drop, IfOk, IsTrue, string_bytes};
-ghost use Rattle.odb_engine.specs.Cascade.{Answers};
+ghost use Rattle.std.specs.Prelude.{◌≡◌, ◌≤◌, ◌++◌, ◌↔◌, true, false, length, drop, map, IfOk, IsTrue, string_bytes};
+ghost use Rattle.odb_doc.specs.Refusals.{printed};
+ghost use Rattle.odb_engine.specs.Answered.{listed_found};
 ghost use Rattle.odb_engine.specs.Contents.Given.{InMemory};
 ghost use Rattle.odb_engine.specs.declared.ending.Ended.TheVariants.{Done};
-ghost use Rattle.odb_engine.specs.FullPlans.{OfWork};
+ghost use Rattle.odb_engine.specs.FullPlans.{OfWholeLine};
 ghost use Rattle.odb_engine.specs.Halts.{text_found};
-ghost use Rattle.odb_engine.specs.Tasks.{OfTask};
+ghost use Rattle.odb_engine.specs.Tasks.{OfDocuments};
 
-use crate::command::text_of;
-use crate::ending::{Ended, fault_text};
+use crate::command::{Command, text_of};
+use crate::ending::{Ended, fault_text, refused_text};
 use crate::form::Form;
 use crate::halt::Halt;
 use crate::lines::{Work, text_of_work};
 use crate::setup::Setup;
 use crate::task::Task;
+use odb_doc::Refusal;
 use std::alloc::{AllocError, Global};
 
 /// How a command ended, and the whole text that it wrote.
@@ -38,6 +40,37 @@ impl Answer {
         let (ended, text) = match found {
             Ok(text) => (Ended::Done, text),
             Err(halt) => (Ended::Refused, fault_text(alloc, form, halt.refusal()?)?),
+        };
+        Ok(Answer {
+            ended,
+            text: text.into_bytes(),
+        })
+    }
+
+    /// Returns what is written of what was found: the text, the fault in a form, or all faults if they are listed.
+    ///
+    /// # Errors
+    ///
+    /// `AllocError` if memory ran out, or if a read failed, which no read of memory does.
+    pub(crate) fn listed(
+        alloc: Global,
+        form: Form,
+        all: bool,
+        found: Result<String, Halt>,
+        faults: &[Refusal],
+    ) -> Result<Self, AllocError>
+        ensures { IfOk result (λ answer. listed_found all form (map printed faults.now) found
+            answer.ended answer.text.items) }
+    {
+        let (ended, text) = match found {
+            Ok(text) => (Ended::Done, text),
+            Err(halt) => {
+                let refusal = halt.refusal()?;
+                (
+                    Ended::Refused,
+                    refused_text(alloc, form, all, refusal, faults)?,
+                )
+            }
         };
         Ok(Answer {
             ended,
@@ -88,12 +121,21 @@ pub fn answer_in_memory(
     task: Task,
     setup: Setup,
 ) -> Result<Answer, AllocError>
-    ensures { IfOk result (λ answer. Answers (OfTask task (InMemory second.now)) batch.now setup.form
+    ensures { IfOk result (λ answer. OfDocuments task (InMemory second.now) batch.now setup.form
         answer.ended answer.text.items) }
 {
+    let all = task.lists_all();
     let (mut first, mut second, mut task) = (batch, second, task);
-    let found = text_of(alloc, &mut first, &mut second, &mut task, setup);
-    Answer::of(alloc, setup.form, found)
+    let mut faults = Vec::new(alloc);
+    let found = text_of(
+        alloc,
+        &mut first,
+        &mut second,
+        &mut task,
+        setup,
+        &mut faults,
+    );
+    Answer::listed(alloc, setup.form, all, found, &faults)
 }
 
 /// Does a task on a line of a log, or plans it in full: returns what is written of the document in it, or of the two
@@ -110,8 +152,9 @@ pub fn answer_line(
     work: Work,
     setup: Setup,
 ) -> Result<Answer, AllocError>
-    ensures { IfOk result (λ answer. OfWork work line.now setup.form answer.ended answer.text.items) }
+    ensures { IfOk result (λ answer. OfWholeLine work line.now setup.form answer.ended answer.text.items) }
 {
-    let found = text_of_work(alloc, line, work, setup);
-    Answer::of(alloc, setup.form, found)
+    let mut faults = Vec::new(alloc);
+    let found = text_of_work(alloc, line, work, setup, &mut faults);
+    Answer::listed(alloc, setup.form, work.lists_all(), found, &faults)
 }

@@ -60,5 +60,5 @@ pub fn check_batch<R: Read, W: Write>(
     ensures memory { result ≡ Err EngineFault.OutOfMemory → output.new ≡ output.old }
     ensures reads { ReadsFew R.remaining input.old input.new }
 {
-    answer_one(alloc, input, output, Task::Check)
+    answer_one(alloc, input, output, Task::Check { all: false })
 }

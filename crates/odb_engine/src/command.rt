@@ -1,6 +1,7 @@
 //! From the sources of the documents to the text that a command writes.
 
-ghost use Rattle.std.specs.Prelude.{◌≡◌, ◌≢◌, ◌↔◌, ◌⊎◌, false, Err, IfErr, IfOk, OnOk};
+ghost use Rattle.std.specs.Prelude.{◌≡◌, ◌≢◌, ◌↔◌, ◌⊎◌, [], true, false, map, Err, IfErr, IfOk, OnOk};
+ghost use Rattle.odb_doc.specs.Refusals.{printed};
 ghost use Rattle.odb_doc.specs.batch.Batches.{records};
 ghost use Rattle.odb_doc.specs.declared.fault.Place.TheVariants as places;
 ghost use Rattle.odb_check.specs.LeastNameFault.{HasGoodNames};
@@ -9,17 +10,19 @@ ghost use Rattle.odb_check.specs.Seeds.{IsSeeded};
 ghost use Rattle.odb_engine.specs.declared.halt.Halt.TheVariants as halts;
 ghost use Rattle.serde_json.specs.View.{view};
 ghost use Rattle.odb_engine.specs.Cascade.{AcceptsValue, AnswersValue};
-ghost use Rattle.odb_engine.specs.Contents.{IsAskedFor, OfContent, SomeContent};
+ghost use Rattle.odb_engine.specs.AllFaults.{AreFaultsOf, Lists};
+ghost use Rattle.odb_engine.specs.Contents.{AreFaultsOfContent, IsAskedFor, OfContent, SomeContent};
 ghost use Rattle.odb_engine.specs.Engines.{Ends};
 ghost use Rattle.odb_engine.specs.Halts.{Found, RefusesNamesOf, Halted};
 
+use crate::all_faults::{batch_in, noted, plan_in};
 use crate::disposal::DropOrLeak;
 use crate::ending::{Ended, EngineFault, end};
 use crate::halt::Halt;
 use crate::setup::Setup;
 use crate::source::Source;
 use odb_check::{Plan, check_with};
-use odb_doc::{Batch, Place};
+use odb_doc::{Batch, Place, Refusal};
 use odb_io::Output;
 use serde_json::Value;
 use std::alloc::Global;
@@ -29,12 +32,13 @@ use std::io::Write;
 ///
 /// [`answer_task`] is its engine. [`crate::Task`] has the commands of the program.
 pub trait Command {
-    ghost use Rattle.std.specs.Prelude.{◌≡◌, ◌↔◌, ℕ, List, Err};
+    ghost use Rattle.std.specs.Prelude.{◌≡◌, ◌↔◌, ℕ, Bool, true, List, Err};
     ghost use Rattle.odb_doc.specs.batch.Records.{Record};
     ghost use Rattle.odb_doc.specs.batch.Batches.{records};
     ghost use Rattle.odb_check.specs.Plans.{plan_records};
     ghost use Rattle.odb_check.specs.Seeds.{IsSeeded};
     ghost use Rattle.odb_engine.specs.declared.ending.Ended.{Ended};
+    ghost use Rattle.odb_engine.specs.declared.ending.Ended.TheVariants.{Refused};
     ghost use Rattle.odb_engine.specs.declared.form.Form.{Form};
     ghost use Rattle.odb_engine.specs.declared.halt.Halt.TheVariants as halts;
     ghost use Rattle.odb_engine.specs.Contents.{Given};
@@ -43,6 +47,14 @@ pub trait Command {
     /// How it ends by what the second source gives, for the requests of a batch, and what it has written then, in
     /// each form.
     ghost writes: { Self → Given → List Record → Form → Ended → List ℕ → Type 0 };
+
+    /// That all faults of a refused batch document are written, and not the first alone.
+    ghost lists_all: { Self → Bool };
+
+    /// Returns whether all faults of a refused batch document are written. Then it writes of each batch that the check
+    /// accepts.
+    fn lists_all(&self) -> bool
+        ensures { result ≡ lists_all self.now };
 
     /// Returns what is written of a batch and its plan, which was made with the seed of the setup. A command over
     /// one document leaves the second source as it is.
@@ -61,6 +73,9 @@ pub trait Command {
             result }
         ensures read { (result ≡ Err halts.Read) ↔ S.has_failed second.new }
         ensures second { S.reads_few second.old second.new };
+
+    ghost accepts: { (command : Self) → lists_all command ≡ true → (given : Given) (batch : List Record) (form : Form)
+        (text : List ℕ) → ¬ writes command given batch form Refused text };
 }
 
 /// Returns the plan of a batch. Here, and nowhere else, an engine uses the seed of its setup.
@@ -88,31 +103,37 @@ pub fn plan_of<'a: 'b, 'b>(
     })
 }
 
-/// Returns what a command writes of the batch in a value. The second source is read only if the check accepts it.
-pub(crate) fn text_in<S: Source, C: Command>(
+/// Returns what a command writes of the batch in a value. The second source is read only if the check accepts it. All
+/// faults of a batch that is refused are listed if the command writes them.
+fn text_in<S: Source, C: Command>(
     alloc: Global,
     value: &Value,
     second: &mut S,
     command: &mut C,
     setup: Setup,
+    faults: &mut Vec<Refusal>,
 ) -> Result<String, Halt>
     requires { S.is_fresh second.old }
     ensures found { Found (AnswersValue (C.writes command.old (S.given second.old)) (view value.now))
         setup.form result }
+    ensures listed { C.lists_all command.old ≡ true
+        → IfErr result (Halted (λ _. AreFaultsOf (view value.now) (map printed faults.new.items))) }
     ensures asked { (second.new ≡ second.old) ⊎ AcceptsValue (view value.now) (λ _. Unit {0}) }
     ensures read { (result ≡ Err halts.Read) ↔ S.has_failed second.new }
     ensures second { S.reads_few second.old second.new }
 {
+    let all = command.lists_all();
     let batch = DropOrLeak {
-        value: Batch::read(alloc, value)?,
+        value: batch_in(alloc, value, all, faults)?,
         disposal: setup.disposal,
     };
-    let plan = plan_of(alloc, &batch.value, setup)?;
+    let plan = plan_in(alloc, &batch.value, all, setup, faults)?;
     command.text(alloc, &batch.value, &plan.value, second, setup)
 }
 
 /// Returns what a command writes of the batch that the first source gives, by the second source if it takes a
-/// second document. The second source is read only if the check accepts the batch.
+/// second document. The second source is read only if the check accepts the batch. All faults of a batch document that is
+/// refused are listed in `faults`, which is empty before, if the command writes them.
 ///
 /// # Errors
 ///
@@ -124,26 +145,34 @@ pub fn text_of<R: Source, S: Source, C: Command>(
     second: &mut S,
     command: &mut C,
     setup: Setup,
+    faults: &mut Vec<Refusal>,
 ) -> Result<String, Halt>
     requires first { R.is_fresh first.old }
     requires second { S.is_fresh second.old }
-    ensures found { SomeContent (R.given first.old) (λ content. Found (OfContent places.Batch
+    requires faults { faults.old.items ≡ [] }
+    ensures found { SomeContent (R.given first.old) (λ content. (Found (OfContent places.Batch
         (AnswersValue (C.writes command.old (S.given second.old))) content) setup.form result
+        × (C.lists_all command.old ≡ true
+        → IfErr result (Halted (λ _. AreFaultsOfContent content (map printed faults.new.items)))))
         × IsAskedFor (R.was_read first.old first.new content) content second.old second.new) }
     ensures read { (result ≡ Err halts.Read) ↔ (R.has_failed first.new ⊎ S.has_failed second.new) }
     ensures first { R.reads_few first.old first.new }
     ensures second { S.reads_few second.old second.new }
 {
+    let value = match first.value(alloc, Place::Batch) {
+        Ok(value) => value,
+        Err(halt) => return Err(noted(halt, command.lists_all(), faults)),
+    };
     let value = DropOrLeak {
-        value: first.value(alloc, Place::Batch)?,
+        value,
         disposal: setup.disposal,
     };
-    text_in(alloc, &value.value, second, command, setup)
+    text_in(alloc, &value.value, second, command, setup, faults)
 }
 
 /// Does a task, or another command: writes what it writes of the batch that the first source gives, by the second
-/// source if it takes a second document; or the first fault. The second source is read only if the check accepts
-/// the batch.
+/// source if it takes a second document; or the first fault, or all faults of the batch document. The second source is read
+/// only if the check accepts the batch.
 ///
 /// The sources must be new, and the output must not have failed. The text is held in memory and written whole.
 ///
@@ -165,15 +194,17 @@ pub fn answer_task<R: Source, S: Source, W: Write, C: Command + Drop>(
     requires first { R.is_fresh first.old }
     requires second { S.is_fresh second.old }
     requires output { output.old.failed ≡ false }
-    ensures ends { SomeContent (R.given first.old) (λ content. Ends W.contents (OfContent places.Batch
-        (AnswersValue (C.writes task (S.given second.old))) content setup.form)
+    ensures ends { SomeContent (R.given first.old) (λ content. Ends W.contents
+        (Lists (C.lists_all task) (OfContent places.Batch
+        (AnswersValue (C.writes task (S.given second.old))) content) (AreFaultsOfContent content) setup.form)
         (R.has_failed first.new ⊎ S.has_failed second.new) output.old output.new result
         × IsAskedFor (R.was_read first.old first.new content) content second.old second.new) }
     ensures memory { result ≡ Err EngineFault.OutOfMemory → output.new ≡ output.old }
     ensures first { R.reads_few first.old first.new }
     ensures second { S.reads_few second.old second.new }
 {
-    let mut task = task;
-    let found = text_of(alloc, first, second, &mut task, setup);
-    end(alloc, setup.form, found, output)
+    let all = task.lists_all();
+    let (mut task, mut faults) = (task, Vec::new(alloc));
+    let found = text_of(alloc, first, second, &mut task, setup, &mut faults);
+    end(alloc, setup.form, all, found, &faults, output)
 }

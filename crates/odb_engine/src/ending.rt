@@ -1,18 +1,18 @@
 //! How a command ends, and which device failed it.
 
-ghost use Rattle.std.specs.Prelude.{◌≡◌, false, Err, IfOk, string_bytes};
+ghost use Rattle.std.specs.Prelude.{◌≡◌, false, map, Err, IfOk, string_bytes};
 ghost use Rattle.odb_doc.specs.Refusals.{printed};
 ghost use Rattle.odb_engine.specs.declared.ending.EngineFault.TheVariants as faults;
 ghost use Rattle.odb_engine.specs.declared.halt.Halt.TheVariants as halts;
 ghost use Rattle.odb_engine.specs.Engines.{Ends};
-ghost use Rattle.odb_engine.specs.Forms.{fault_text};
-ghost use Rattle.odb_engine.specs.Halts.{text_found};
+ghost use Rattle.odb_engine.specs.Answered.{listed_found, refused_text};
+ghost use Rattle.odb_engine.specs.Forms.{fault_text, faults_text};
 
 use crate::form::Form;
 use crate::halt::Halt;
 use odb_doc::Refusal;
 use odb_io::{DeviceFault, Output};
-use odb_text::{fault_json, fault_line};
+use odb_text::{fault_json, fault_line, fault_lines, faults_json};
 use std::alloc::{AllocError, Global};
 use std::io::Write;
 use thiserror::Error;
@@ -66,21 +66,56 @@ pub fn fault_text(alloc: Global, form: Form, refusal: Refusal) -> Result<String,
     }
 }
 
-/// Writes what was found, or the fault, and returns how the engine ended.
+/// Returns faults in a form.
+fn faults_text(alloc: Global, form: Form, refusals: &[Refusal]) -> Result<String, AllocError>
+    ensures { IfOk result (λ text. string_bytes text ≡ faults_text form (map printed refusals.now)) }
+{
+    match form {
+        Form::Lines => fault_lines(alloc, refusals),
+        Form::Json => faults_json(alloc, refusals),
+    }
+}
+
+/// Returns what is written of a refused document: its fault, or all faults if they are listed.
+pub(crate) fn refused_text(
+    alloc: Global,
+    form: Form,
+    all: bool,
+    refusal: Refusal,
+    faults: &[Refusal],
+) -> Result<String, AllocError>
+    ensures { IfOk result (λ text. string_bytes text
+        ≡ refused_text all form (map printed faults.now) (printed refusal)) }
+{
+    if all {
+        faults_text(alloc, form, faults)
+    } else {
+        fault_text(alloc, form, refusal)
+    }
+}
+
+/// Writes what was found, or the fault, or all faults if they are listed, and returns how the engine ended.
 pub fn end<W: Write>(
     alloc: Global,
     form: Form,
+    all: bool,
     found: Result<String, Halt>,
+    faults: &[Refusal],
     output: &mut Output<W>,
 ) -> Result<Ended, EngineFault>
     requires { output.old.failed ≡ false }
-    ensures ends { Ends W.contents (text_found form found) (found ≡ Err halts.Read)
+    ensures ends { Ends W.contents (listed_found all form (map printed faults.now) found) (found ≡ Err halts.Read)
         output.old output.new result }
     ensures memory { result ≡ Err EngineFault.OutOfMemory → output.new ≡ output.old }
 {
     let (ended, text) = match found {
         Ok(text) => (Ended::Done, text),
-        Err(Halt::Refused(refusal)) => (Ended::Refused, fault_text(alloc, form, refusal)?),
+        Err(Halt::Refused(refusal)) => {
+            (
+                Ended::Refused,
+                refused_text(alloc, form, all, refusal, faults)?,
+            )
+        }
         Err(Halt::Read) => return Err(EngineFault::Read),
         Err(Halt::OutOfMemory) => return Err(EngineFault::OutOfMemory),
     };

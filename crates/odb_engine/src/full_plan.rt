@@ -31,7 +31,16 @@ struct FullPlan<'d> {
 }
 
 impl<'d> Command for FullPlan<'d> {
+    ghost use Rattle.std.specs.Prelude.{false};
+    ghost use Rattle.odb_engine.specs.Accepted.{never_lists};
+
     ghost writes = { λ self _ batch. ShowsPlaces self.document.now batch };
+
+    ghost lists_all = { λ _. false };
+
+    fn lists_all(&self) -> bool {
+        false
+    }
 
     fn text<S: Source>(
         &mut self,
@@ -44,6 +53,8 @@ impl<'d> Command for FullPlan<'d> {
         let bodies = bodies_in(alloc, self.document)?;
         Ok(full_plan_json(alloc, plan, &bodies)?)
     }
+
+    ghost accepts = { λ _ lists given batch form text so. never_lists lists };
 }
 
 /// Returns the full plan of the batch in a document. It is JSON in each form.
@@ -57,7 +68,15 @@ pub(crate) fn full_plan_text(alloc: Global, document: &[u8], setup: Setup) -> Re
 {
     let (mut first, mut none): (_, &[u8]) = (document, &[]);
     let mut command = FullPlan { document };
-    text_of(alloc, &mut first, &mut none, &mut command, setup)
+    let mut faults = Vec::new(alloc);
+    text_of(
+        alloc,
+        &mut first,
+        &mut none,
+        &mut command,
+        setup,
+        &mut faults,
+    )
 }
 
 /// Returns the full plan of the batch in the document of a reader.
@@ -99,5 +118,5 @@ pub fn full_plan_batch<R: Read, W: Write>(
     ensures reads { ReadsFew R.remaining input.old input.new }
 {
     let found = full_plan_of(alloc, input, setup);
-    end(alloc, setup.form, found, output)
+    end(alloc, setup.form, false, found, &[], output)
 }

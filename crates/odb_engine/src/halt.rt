@@ -20,6 +20,14 @@ impl Halt {
     ghost use Rattle.std.specs.Prelude.{◌≡◌, Ok, IfOk};
     ghost use Rattle.odb_doc.specs.declared.refusal.Refusal.{Refusal};
     ghost use Rattle.odb_engine.specs.declared.halt.Halt.TheVariants as halts;
+    ghost use Rattle.odb_engine.specs.Halts.{is_refused};
+
+    /// Returns whether a document is refused.
+    pub(crate) fn is_refused(self) -> bool
+        ensures { result ≡ is_refused self }
+    {
+        matches!(self, Halt::Refused(_))
+    }
 
     /// Returns the fault of a refused document.
     ///

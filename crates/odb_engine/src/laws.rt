@@ -21,7 +21,9 @@ ghost use Rattle.odb_engine.specs.declared.form.Form.{Form};
 ghost use Rattle.odb_engine.specs.Contents.Given.{ByReader, InMemory};
 ghost use Rattle.odb_engine.specs.Inputs.{IsDocumentOf};
 ghost use Rattle.odb_engine.specs.declared.task.Task.{Task};
-ghost use Rattle.odb_engine.specs.Tasks.{IsLineOf, OfLine, OfTask, takes_second};
+ghost use Rattle.odb_engine.specs.FullPlans.{OfWholeLine};
+ghost use Rattle.odb_engine.specs.declared.lines.work.Work.TheVariants as works;
+ghost use Rattle.odb_engine.specs.Tasks.{IsLineOf, OfDocuments, takes_second};
 ghost use Rattle.odb_engine.specs.Live.{Live, Opens, RecordsOneMore, Shows, with_run};
 ghost use Rattle.odb_engine.specs.declared.ending.Ended.TheVariants.{Done};
 ghost use Rattle.odb_engine.specs.ReadAgain.{IsReadAgain};
@@ -33,7 +35,7 @@ ghost use Rattle.odb_engine.specs.Runs.{Runs};
 /// number (OData JSON Format 4.01, sections 19.1 and 19.2).
 ///
 /// It is what is printed of a refused document (`first`). A document is accepted if and only if it has no first
-/// fault (`exists`). Of the list of all faults the first is this one (`head`), and the list is empty if and only if the
+/// fault (`exists`). The list of all faults is one (`one`): the first is this one (`head`), and it is empty if and only if the
 /// document is accepted (`empty`). The relations are those of [`crate::check_batch`] and [`crate::faults_in`].
 pub fn every_verdict()
     ensures first { (bytes : List ℕ) (refusal : Printed) → IsLeast bytes refusal ↔ PrintsFirst bytes refusal }
@@ -43,7 +45,11 @@ pub fn every_verdict()
         → IfSome (slice_get refusals 0) (IsLeast bytes) }
     ensures empty { (bytes : List ℕ) (refusals : List Printed) → AreFaultsIn bytes refusals
         → (refusals ≡ []) ↔ Accepts bytes (λ _. Unit {0}) }
+    ensures one { (bytes : List ℕ) (refusals others : List Printed) → AreFaultsIn bytes refusals
+        → AreFaultsIn bytes others → refusals ≡ others }
 {
+    odb_doc::laws::one_fault();
+    odb_check::laws::one_fault();
     odb_doc::laws::one_batch();
     odb_doc::laws::some_batch();
 }
@@ -59,14 +65,15 @@ pub fn one_document()
 /// refused. Likewise for a line of a log, with one document or with two. So what a task writes is a function of
 /// the bytes and the form.
 ///
-/// The relation `OfTask` is that of [`crate::answer_task`], and `OfLine` that of [`crate::answer_line`]. `left` is what
-/// the second reader has left.
+/// The relation `OfDocuments` is that of [`crate::answer_task`], and `OfWholeLine` that of [`crate::answer_line`]. `left` is
+/// what the second reader has left.
 pub fn one_text()
     ensures task { (task : Task) (form : Form) (bytes left : List ℕ)
-        → IsOne (Answers (OfTask task (ByReader (Some left))) bytes form) }
+        → IsOne (OfDocuments task (ByReader (Some left)) bytes form) }
     ensures memory { (task : Task) (form : Form) (bytes second : List ℕ)
-        → IsOne (Answers (OfTask task (InMemory second)) bytes form) }
-    ensures line { (task : Task) (form : Form) (line : List ℕ) → IsOne (OfLine task line form) }
+        → IsOne (OfDocuments task (InMemory second) bytes form) }
+    ensures line { (task : Task) (form : Form) (line : List ℕ)
+        → IsOne (OfWholeLine (works.Task task) line form) }
 {
     odb_doc::laws::one_batch();
     odb_doc::laws::one_fault();
@@ -87,11 +94,13 @@ pub fn one_text()
 /// itself is a document too: so it has at most 16,777,216 bytes, and what is in it nests at most 126 deep.
 pub fn every_pair()
     ensures memory { (task : Task) (form : Form) (batch second line text : List ℕ) (ended : Ended)
-        → takes_second task ≡ true → IsLineOf batch second line → (OfLine task line form ended text)
-        ↔ (Answers (OfTask task (InMemory second)) batch form ended text) }
+        → takes_second task ≡ true → IsLineOf batch second line
+        → (OfWholeLine (works.Task task) line form ended text)
+        ↔ (OfDocuments task (InMemory second) batch form ended text) }
     ensures readers { (task : Task) (form : Form) (batch second line text : List ℕ) (ended : Ended)
-        → takes_second task ≡ true → IsLineOf batch second line → (OfLine task line form ended text)
-        ↔ (Answers (OfTask task (ByReader (Some second))) batch form ended text) }
+        → takes_second task ≡ true → IsLineOf batch second line
+        → (OfWholeLine (works.Task task) line form ended text)
+        ↔ (OfDocuments task (ByReader (Some second)) batch form ended text) }
 {}
 
 /// What a replay without a trace, or a run by recorded events, writes as its result is read again:

@@ -16,15 +16,14 @@
 //! does an [`EachLine`] on each line of an input. `live` opens a run that its caller drives, and
 //! [`requests_in`] returns what is to be sent of each request, and [`rest_in`] what may be sent again of a batch.
 //! [`full_plan_batch`] and [`rest_batch`] are commands over readers that need the bytes of the batch, so they are no tasks;
-//! nor is [`check_all_batch`], which writes all faults that [`faults_in`] lists. [`answer_located`], [`locate_batch`] and
-//! [`locate_pair`] do the same works, and report each fault with where it is in its document.
+//! [`answer_located`], [`locate_batch`] and [`locate_pair`] do the same works, and report each fault with where it is in its
+//! document.
 #![tactic(auto)]
 
 mod all_faults;
 mod answer;
 mod canon;
 mod check;
-mod check_all;
 mod command;
 mod disposal;
 mod ending;
@@ -48,11 +47,10 @@ mod setup;
 mod source;
 mod task;
 
-pub use all_faults::{check_all_in_memory, faults_in};
+pub use all_faults::faults_in;
 pub use answer::{Answer, answer_in_memory, answer_line};
 pub use canon::canon_batch;
 pub use check::check_batch;
-pub use check_all::check_all_batch;
 pub use command::{Command, answer_task, plan_of, text_of};
 pub use disposal::{Disposal, DropOrLeak};
 pub use ending::{Ended, EngineFault};
@@ -60,7 +58,7 @@ pub use form::Form;
 pub use full_plan::full_plan_batch;
 pub use halt::Halt;
 pub use input::value_in;
-pub use lines::{EachLine, LineCommand, LineInput, LineWork, Work, answer_lines};
+pub use lines::{EachLine, LineCommand, LineInput, Work, answer_lines};
 pub use live::{LiveRun, open_run};
 pub use located::{Names, PairWork, answer_located, locate_batch, locate_pair};
 pub use match_responses::match_batch;

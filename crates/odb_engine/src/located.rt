@@ -3,26 +3,24 @@
 //! A position can be found only in the bytes of a document, so the documents are held in memory. What a command writes
 //! of good documents is the same, and takes no more time.
 
-ghost use Rattle.std.specs.Prelude.{◌≡◌, ◌↔◌, false, Err, IfOk, IsTrue, None, map, string_bytes};
+ghost use Rattle.std.specs.Prelude.{◌≡◌, ◌↔◌, true, false, Err, IfOk, IsTrue, None, map, string_bytes};
 ghost use Rattle.odb_doc.specs.Refusals.{printed};
 ghost use Rattle.odb_text.specs.Lines.{printed_at};
 ghost use Rattle.odb_engine.specs.declared.halt.Halt.TheVariants as halts;
-ghost use Rattle.odb_engine.specs.declared.lines.work.LineWork.TheVariants as works;
-ghost use Rattle.odb_engine.specs.Answered.{LocatesFault};
+ghost use Rattle.odb_engine.specs.FullPlans.{work_lists};
+ghost use Rattle.odb_engine.specs.Answered.{LocatesFault, answer_found};
 ghost use Rattle.odb_engine.specs.Engines.{Ends};
 ghost use Rattle.odb_engine.specs.Inputs.{IsFresh, ReadsFew, SomeDocument};
-ghost use Rattle.odb_engine.specs.Located.{AreLocated, HasPosition, LocatesWork, PrintsAll, StandsIn, all_located_text, located_text, numbered};
+ghost use Rattle.odb_engine.specs.Located.{AreLocated, HasPosition, LocatesBy, LocatesWork, PrintsAll, StandsIn, all_located_text, located_text, numbered};
 
 mod pair;
 
-use crate::all_faults::{Verdict, verdict_in};
 use crate::answer::Answer;
-use crate::check_all::put_answer;
 use crate::ending::{Ended, EngineFault};
 use crate::form::Form;
 use crate::halt::Halt;
 use crate::input::read_document;
-use crate::lines::{LineWork, Work, text_of_work};
+use crate::lines::{Work, text_of_work};
 use crate::setup::Setup;
 use odb_doc::{Place, Refusal};
 use odb_io::{Input, Output};
@@ -128,10 +126,10 @@ fn answer_of_work(
     work: Work,
     setup: Setup,
 ) -> Result<Answer, AllocError>
-    ensures { IfOk result (λ answer. LocatesWork (works.Work work) name.now number document.now setup.form
+    ensures { IfOk result (λ answer. LocatesBy false work name.now number document.now setup.form
         answer.ended answer.text.items) }
 {
-    match text_of_work(alloc, document, work, setup) {
+    match text_of_work(alloc, document, work, setup, &mut Vec::new(alloc)) {
         Ok(text) => Ok(Answer::done(text)),
         Err(Halt::Refused(refusal)) => {
             locate(
@@ -189,27 +187,30 @@ fn located_answer(
     })
 }
 
-/// Checks a batch document in memory, and returns all its faults with where they are.
-fn check_all_located(
+/// Returns what a work writes of a document in memory, or all its faults with where they are.
+fn answer_of_all(
     alloc: Global,
     document: &[u8],
     name: &str,
     number: Option<usize>,
+    work: Work,
     setup: Setup,
 ) -> Result<Answer, AllocError>
-    ensures { IfOk result (λ answer. LocatesWork works.CheckAll name.now number document.now setup.form
+    requires { work_lists work ≡ true }
+    ensures { IfOk result (λ answer. LocatesBy true work name.now number document.now setup.form
         answer.ended answer.text.items) }
 {
-    match verdict_in(alloc, document, setup)? {
-        Verdict::Accepted(text) => Ok(Answer::done(text)),
-        Verdict::Refused(faults) => {
+    let mut faults = Vec::new(alloc);
+    match text_of_work(alloc, document, work, setup, &mut faults) {
+        Ok(text) => Ok(Answer::done(text)),
+        Err(Halt::Refused(_)) => {
             located_answer(alloc, document, name, number, setup.form, &faults)
         }
+        Err(_) => Err(AllocError),
     }
 }
 
-/// Does a work on a document in memory, or on a line of a log, as [`crate::answer_line`] and
-/// [`crate::check_all_in_memory`] do: returns what is written, in the form of the setup, and each fault with where it
+/// Does a work on a document in memory, or on a line of a log, as [`crate::answer_line`] does: returns what is written, in the form of the setup, and each fault with where it
 /// is in the document: after `NAME:LINE:COLUMN: `, or as the members `line`, `column` and `offset` of its JSON.
 ///
 /// `name` is that of the document, or of the log. If the document is a line of a log, `number` is that of the line,
@@ -224,16 +225,36 @@ pub fn answer_located(
     document: &[u8],
     name: &str,
     number: Option<usize>,
-    work: LineWork,
+    work: Work,
     setup: Setup,
 ) -> Result<Answer, AllocError>
     ensures { IfOk result (λ answer. LocatesWork work name.now number document.now setup.form
         answer.ended answer.text.items) }
 {
-    match work {
-        LineWork::Work(work) => answer_of_work(alloc, document, name, number, work, setup),
-        LineWork::CheckAll => check_all_located(alloc, document, name, number, setup),
+    if work.lists_all() {
+        answer_of_all(alloc, document, name, number, work, setup)
+    } else {
+        answer_of_work(alloc, document, name, number, work, setup)
     }
+}
+
+/// Writes an answer, and returns how the engine ended.
+pub(crate) fn put_answer<W: Write>(
+    found: Result<Answer, Halt>,
+    output: &mut Output<W>,
+) -> Result<Ended, EngineFault>
+    requires { output.old.failed ≡ false }
+    ensures ends { Ends W.contents (answer_found found) (found ≡ Err halts.Read)
+        output.old output.new result }
+    ensures memory { result ≡ Err EngineFault.OutOfMemory → output.new ≡ output.old }
+{
+    let answer = match found {
+        Ok(answer) => answer,
+        Err(Halt::Read) => return Err(EngineFault::Read),
+        Err(_) => return Err(EngineFault::OutOfMemory),
+    };
+    output.put_all(&answer.text)?;
+    Ok(answer.ended)
 }
 
 /// Returns what is written of the document of a reader.
@@ -241,7 +262,7 @@ fn answer_of<R: Read>(
     alloc: Global,
     input: &mut Input<R>,
     name: &str,
-    work: LineWork,
+    work: Work,
     setup: Setup,
 ) -> Result<Answer, Halt>
     requires { IsFresh input.old }
@@ -267,7 +288,7 @@ pub fn locate_batch<R: Read, W: Write>(
     input: &mut Input<R>,
     output: &mut Output<W>,
     name: &str,
-    work: LineWork,
+    work: Work,
     setup: Setup,
 ) -> Result<Ended, EngineFault>
     requires input { IsFresh input.old }

@@ -135,8 +135,17 @@ struct Replay<C> {
 }
 
 impl<'c> Command for Replay<&'c mut dyn Chooser> {
+    ghost use Rattle.std.specs.Prelude.{false};
+    ghost use Rattle.odb_engine.specs.Accepted.{never_lists};
+
     ghost writes = { λ self second batch. OfGiven second places.Outcomes (replays.ReplaysValue
         ((Chooser-dyn self.chooser.now).allows self.chooser.now.1) self.policy self.traced batch) };
+
+    ghost lists_all = { λ _. false };
+
+    fn lists_all(&self) -> bool {
+        false
+    }
 
     fn text<S: Source>(
         &mut self,
@@ -154,6 +163,8 @@ impl<'c> Command for Replay<&'c mut dyn Chooser> {
         };
         replayed_by(alloc, plan, value, &mut *self.chooser, replay)
     }
+
+    ghost accepts = { λ _ lists given batch form text so. never_lists lists };
 }
 
 /// Replays the batch in a document by the recorded outcomes in another: writes the response, after

@@ -189,5 +189,5 @@ pub fn rest_batch<R: Read, S: Read, W: Write>(
     ensures responses { ReadsFew S.remaining responses.old responses.new }
 {
     let found = rest_line(alloc, batch, responses, mode, setup);
-    end(alloc, setup.form, found, output)
+    end(alloc, setup.form, false, found, &[], output)
 }

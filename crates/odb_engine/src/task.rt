@@ -1,12 +1,11 @@
 //! The commands of the program as one enum, and what each writes.
 
 ghost use Rattle.std.specs.Prelude.{◌≡◌, [], false, Err, IsTrue};
-ghost use Rattle.odb_engine.specs.Cascade.{Answers};
 ghost use Rattle.odb_engine.specs.Contents.Given.{InMemory};
 ghost use Rattle.odb_engine.specs.declared.form.Form.TheVariants.{Lines};
 ghost use Rattle.odb_engine.specs.Inputs.{IsFresh, ReadsFew, SomeDocument};
 ghost use Rattle.odb_engine.specs.Engines.{Ends};
-ghost use Rattle.odb_engine.specs.Tasks.{OfTask, takes_second};
+ghost use Rattle.odb_engine.specs.Tasks.{OfDocuments, OfTask, takes_second};
 
 use crate::canon::canonical_text;
 use crate::check::counts_text;
@@ -29,8 +28,11 @@ use std::io::{Read, Write};
 /// What is done with a batch, and with a second document where one is named: a command, and its options.
 #[derive(Clone, Copy, Debug)]
 pub enum Task {
-    /// Check it, and count its requests and groups.
-    Check,
+    /// Check it, and count its requests and groups. If `all` is set, all faults of a batch document that is refused are
+    /// written, as [`crate::faults_in`] lists them.
+    Check {
+        all: bool,
+    },
     /// Write its units, levels and dependencies.
     Plan,
     /// Draw its plan, in the language DOT of Graphviz.
@@ -62,14 +64,26 @@ impl Task {
         ensures { result ≡ takes_second self }
     {
         match self {
-            Task::Check | Task::Plan | Task::Draw | Task::Canon => false,
+            Task::Check { .. } | Task::Plan | Task::Draw | Task::Canon => false,
             Task::Match { .. } | Task::Replay { .. } | Task::Run { .. } => true,
         }
     }
 }
 
 impl Command for Task {
+    ghost use Rattle.odb_engine.specs.Accepted.{lists_accepted};
+    ghost use Rattle.odb_engine.specs.Tasks as tasks;
+
     ghost writes = { OfTask };
+
+    ghost lists_all = { tasks.lists_all };
+
+    fn lists_all(&self) -> bool {
+        match *self {
+            Task::Check { all } => all,
+            _ => false,
+        }
+    }
 
     fn text<S: Source>(
         &mut self,
@@ -80,7 +94,7 @@ impl Command for Task {
         setup: Setup,
     ) -> Result<String, Halt> {
         match *self {
-            Task::Check => counts_text(alloc, plan, setup.form),
+            Task::Check { .. } => counts_text(alloc, plan, setup.form),
             Task::Plan => planned_text(alloc, plan, setup.form),
             Task::Draw => drawn_text(alloc, plan),
             Task::Canon => canonical_text(alloc, batch),
@@ -107,6 +121,8 @@ impl Command for Task {
             }
         }
     }
+
+    ghost accepts = { lists_accepted };
 }
 
 /// Does a task on the document of a reader alone, without a setup.
@@ -119,7 +135,7 @@ pub(crate) fn answer_one<R: Read, W: Write>(
     requires input { IsFresh input.old }
     requires output { output.old.failed ≡ false }
     ensures ends { SomeDocument (R.remaining input.old.reader) (λ bytes. Ends W.contents
-        (Answers (OfTask task (InMemory [])) bytes Lines) (IsTrue input.new.failed)
+        (OfDocuments task (InMemory []) bytes Lines) (IsTrue input.new.failed)
         output.old output.new result) }
     ensures memory { result ≡ Err EngineFault.OutOfMemory → output.new ≡ output.old }
     ensures reads { ReadsFew R.remaining input.old input.new }

@@ -3,9 +3,9 @@ use Rattle.std.specs.Prelude.{◌≡◌, ◌<◌, ◌≤◌, ℕ, List, ◌++◌
 use Rattle.odb_engine.specs.declared.ending.Ended.{Ended}
 use Rattle.odb_engine.specs.declared.ending.Ended.TheVariants.{Done, Refused}
 use Rattle.odb_engine.specs.declared.form.Form.{Form}
-use Rattle.odb_engine.specs.Cascade.{Writes, Answers}
+use Rattle.odb_engine.specs.Cascade.{Writes}
 use Rattle.odb_engine.specs.Contents.Given.{InMemory}
-use Rattle.odb_engine.specs.Tasks.{OfTask}
+use Rattle.odb_engine.specs.Tasks.{OfDocuments}
 use Rattle.odb_engine.specs.declared.task.Task.{Task}
 
 -- the status of an end
@@ -15,7 +15,7 @@ status_of Refused = 1
 
 -- what a task writes of the documents in these bytes, in a form; the second is one only if the task takes one
 abbrev pub Does : Task → Form → List ℕ → List ℕ → Writes
-Does task form batch second = Answers (OfTask task (InMemory second)) batch form
+Does task form batch second = OfDocuments task (InMemory second) batch form
 
 -- The items are at the start of the buffer, and the rest of it is as it was; or there is no room for them, and all of it is as it
 -- was. How many there are is returned in both cases.

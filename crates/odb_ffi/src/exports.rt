@@ -13,9 +13,8 @@
 //! With any other status than 0 and 1 `text` is unchanged. Names are looked up by hashes that start from
 //! `seed`; 0 is no seed, and look-ups take O(log n) comparisons. The documents are not copied.
 
-ghost use Rattle.std.specs.Prelude.{◌≡◌, [], false};
+ghost use Rattle.std.specs.Prelude.{◌≡◌, [], true, false};
 ghost use Rattle.odb_sched.specs.declared.policy.Mode.TheVariants as modes;
-ghost use Rattle.odb_engine.specs.AllFaults.{ChecksAll};
 ghost use Rattle.odb_engine.specs.declared.form.Form.TheVariants as forms;
 ghost use Rattle.odb_engine.specs.declared.task.Task.TheVariants as tasks;
 ghost use Rattle.odb_ffi.specs.Options as options;
@@ -23,7 +22,6 @@ ghost use Rattle.odb_ffi.specs.Rests.{RestLine};
 ghost use Rattle.odb_ffi.specs.Returns.{Does, Returns, ReturnsBy};
 
 use crate::answer::{answer, answer_as, wrong_option};
-use crate::check_all::{check_all, check_all_as};
 use crate::options::{match_of, mode_of, replay_of, run_of};
 use crate::rest::rest_as;
 use odb_engine::Form::Lines;
@@ -48,10 +46,11 @@ pub extern "C" fn odb_check(
     text_length: &mut usize,
     seed: u64,
 ) -> u32
-    ensures { Returns (Does tasks.Check forms.Lines batch.now [])
+    ensures { Returns (Does (tasks.Check false) forms.Lines batch.now [])
         result text_length.new text.old text.new }
 {
-    answer(alloc, batch, b"", Check, Lines, seed, text, text_length)
+    let check = Check { all: false };
+    answer(alloc, batch, b"", check, Lines, seed, text, text_length)
 }
 
 /// Does what [`odb_check`] does, and writes the text in a form.
@@ -65,10 +64,11 @@ pub extern "C" fn odb_check_as(
     seed: u64,
 ) -> u32
     ensures { ReturnsBy (options.IsForm form)
-        (λ form. Returns (Does tasks.Check form batch.now []))
+        (λ form. Returns (Does (tasks.Check false) form batch.now []))
         result text_length.new text.old text.new }
 {
-    answer_as(alloc, batch, b"", Check, form, seed, text, text_length)
+    let check = Check { all: false };
+    answer_as(alloc, batch, b"", check, form, seed, text, text_length)
 }
 
 /// Does what [`odb_check`] does, and of a batch that is refused writes all its faults, as `odb_batch check --all` does.
@@ -80,9 +80,11 @@ pub extern "C" fn odb_check_all(
     text_length: &mut usize,
     seed: u64,
 ) -> u32
-    ensures { Returns (ChecksAll batch.now forms.Lines) result text_length.new text.old text.new }
+    ensures { Returns (Does (tasks.Check true) forms.Lines batch.now [])
+        result text_length.new text.old text.new }
 {
-    check_all(alloc, batch, Lines, seed, text, text_length)
+    let check = Check { all: true };
+    answer(alloc, batch, b"", check, Lines, seed, text, text_length)
 }
 
 /// Does what [`odb_check_all`] does, and writes the text in a form.
@@ -96,10 +98,11 @@ pub extern "C" fn odb_check_all_as(
     seed: u64,
 ) -> u32
     ensures { ReturnsBy (options.IsForm form)
-        (λ form. Returns (ChecksAll batch.now form))
+        (λ form. Returns (Does (tasks.Check true) form batch.now []))
         result text_length.new text.old text.new }
 {
-    check_all_as(alloc, batch, form, seed, text, text_length)
+    let check = Check { all: true };
+    answer_as(alloc, batch, b"", check, form, seed, text, text_length)
 }
 
 /// Plans the batch in a document, as `odb_batch plan` does.

@@ -7,7 +7,7 @@
 //!
 //! [`exports`], [`place_exports`], [`request_exports`], [`run_exports`] and [`unit_exports`] have the exports alone. What they do
 //! over slices and numbers is beside them: `options` and `status` name the numbers, `answer` does a task and copies a text to
-//! the caller's buffer, `check_all` and `rest` give all faults and the rest of a batch, `live` and `units` drive a run, and
+//! the caller's buffer, `rest` gives the rest of a batch, `live` and `units` drive a run, and
 //! `requests` copies what is to be sent. [`request`] is that of one request, and [`position`] where an element begins. What
 //! needs a pointer is in `address`, [`handle`], `lent` and [`slot`].
 //! What holds of every list of calls on a live run is in [`laws`].
@@ -15,7 +15,6 @@
 
 mod address;
 mod answer;
-mod check_all;
 pub mod exports;
 mod filled;
 pub mod handle;

@@ -1,6 +1,6 @@
 //! All faults of a batch whose reader is slow or fails.
 
-use odb_engine::{Ended, EngineFault, Form, Setup, check_all_batch};
+use odb_engine::{Ended, EngineFault, Form, Setup, Task, answer_task};
 use odb_io::{Input, Output};
 use odb_testing::PAIR;
 use odb_testing::devices::{Pace, Slow, TURNS};
@@ -58,7 +58,8 @@ fn checked(
         form,
         ..Setup::plain()
     };
-    let ended = check_all_batch(alloc, &mut input, &mut output, setup);
+    let (mut none, check): (&[u8], _) = (&[], Task::Check { all: true });
+    let ended = answer_task(alloc, &mut input, &mut none, &mut output, check, setup);
     let written = output.into_inner();
     (
         ended,

@@ -147,8 +147,9 @@ fn is_written_again(alloc: Global, log: &[u8], task: Task, form: Form) -> bool {
 }
 
 /// The tasks of which a log is written in each form.
-const TASKS: [Task; 3] = [
-    Task::Check,
+const TASKS: [Task; 4] = [
+    Task::Check { all: false },
+    Task::Check { all: true },
     Task::Plan,
     Task::Match {
         mode: Mode::Continue,

@@ -1,7 +1,7 @@
 //! Faults with where they are: of a line in memory, and of documents whose readers are slow or fail.
 
 use odb_engine::{
-    Ended, EngineFault, LineWork, Names, PairWork, Setup, Task, Work, answer_located, locate_batch,
+    Ended, EngineFault, Names, PairWork, Setup, Task, Work, answer_located, locate_batch,
     locate_pair,
 };
 use odb_io::{Input, Output};
@@ -20,7 +20,7 @@ const NAMES: Names<'static> = Names {
     second: "served.json",
 };
 
-const CHECK: LineWork = LineWork::Work(Work::Task(Task::Check));
+const CHECK: Work = Work::Task(Task::Check { all: false });
 
 /// Matches `RESPONSES` against `PAIR` by readers of these paces. Returns how that ended, how often each reader was
 /// called, and whether this text was written.

@@ -2,12 +2,11 @@
 //! that fail. What the engines print is shown on the built program, in tests/cases/.
 
 ghost use Rattle.std.specs.Prelude.{◌≡◌, false, IfOk};
-ghost use Rattle.odb_engine.specs.Cascade.{Answers};
 ghost use Rattle.odb_engine.specs.Contents.Given.{ByReader};
 ghost use Rattle.odb_engine.specs.Engines.{WritesText};
 ghost use Rattle.odb_engine.specs.Inputs.{IsFresh, SomeDocument};
 ghost use Rattle.odb_engine.specs.declared.form.Form.TheVariants.{Lines};
-ghost use Rattle.odb_engine.specs.Tasks.{OfTask};
+ghost use Rattle.odb_engine.specs.Tasks.{OfDocuments};
 
 mod disposal;
 mod failures;
@@ -39,8 +38,9 @@ pub const FREE: Policy = Policy {
     width: 10_000,
 };
 
-pub const EXAMPLES: [Example; 9] = [
-    (Task::Check, "", "ok 2 requests 0 groups\n"),
+pub const EXAMPLES: [Example; 10] = [
+    (Task::Check { all: false }, "", "ok 2 requests 0 groups\n"),
+    (Task::Check { all: true }, "", "ok 2 requests 0 groups\n"),
     (
         Task::Plan,
         "",
@@ -122,10 +122,9 @@ pub fn called_plainly<R: Read, S: Read, W: Write>(
     requires output { output.old.failed ≡ false }
     ensures { IfOk result (λ ended. SomeDocument (R.remaining batch.old.reader) (λ bytes.
         WritesText (W.contents output.old.writer) (W.contents output.new.writer)
-        (Answers (OfTask task (ByReader (S.remaining second.old.reader))) bytes Lines ended))) }
+        (OfDocuments task (ByReader (S.remaining second.old.reader)) bytes Lines ended))) }
 {
     match task {
-        Task::Check => check_batch(alloc, batch, output),
         Task::Plan => plan_batch(alloc, batch, output),
         Task::Canon => canon_batch(alloc, batch, output),
         Task::Run { policy } => run_batch(alloc, batch, second, output, policy),
@@ -148,6 +147,7 @@ fn called<R: Read, S: Read, W: Write>(
     let (task, disposal) = how;
     if disposal == Disposal::Drop {
         return match task {
+            Task::Check { all: false } => check_batch(alloc, batch, output),
             Task::Replay {
                 policy,
                 mut order,

@@ -1,12 +1,14 @@
 //! A task on a line: it holds a batch document, or an array of a batch and a second document.
 
-ghost use Rattle.std.specs.Prelude.{◌≡◌, ◌≢◌, None, Err, IfSome};
+ghost use Rattle.std.specs.Prelude.{◌≡◌, ◌≢◌, [], true, map, None, Err, IfErr, IfSome};
 ghost use Rattle.serde_json.specs.Data.{Data};
 ghost use Rattle.serde_json.specs.View.{view};
 ghost use Rattle.odb_engine.specs.declared.halt.Halt.TheVariants as halts;
 ghost use Rattle.odb_engine.specs.Contents.Given.{InHand};
-ghost use Rattle.odb_engine.specs.Halts.{Found};
-ghost use Rattle.odb_engine.specs.Tasks.{OfLine, OfPair, OfTask};
+ghost use Rattle.odb_doc.specs.Refusals.{printed};
+ghost use Rattle.odb_engine.specs.AllFaults.{AreFaultsIn};
+ghost use Rattle.odb_engine.specs.Halts.{Found, Halted};
+ghost use Rattle.odb_engine.specs.Tasks.{OfLine, OfPair, OfTask, lists_all};
 ghost use Rattle.odb_spans.specs.Positions as spans;
 
 use crate::command::text_of;
@@ -42,7 +44,14 @@ fn pair_of(value: Value) -> Option<(Value, Value)>
 }
 
 /// Returns what a task writes of the two documents in a line.
-fn text_of_pair(alloc: Global, line: &[u8], task: Task, setup: Setup) -> Result<String, Halt>
+fn text_of_pair(
+    alloc: Global,
+    line: &[u8],
+    task: Task,
+    setup: Setup,
+    faults: &mut Vec<Refusal>,
+) -> Result<String, Halt>
+    requires { faults.old.items ≡ [] }
     ensures found { Found (OfPair (λ batch second. OfTask task (InHand second) batch) line.now)
         setup.form result }
     ensures read { result ≢ Err halts.Read }
@@ -51,23 +60,32 @@ fn text_of_pair(alloc: Global, line: &[u8], task: Task, setup: Setup) -> Result<
         return Err(NOT_PAIR);
     };
     let mut task = task;
-    text_of(alloc, &mut first, &mut second, &mut task, setup)
+    text_of(alloc, &mut first, &mut second, &mut task, setup, faults)
 }
 
 /// Returns what a task writes of a line: of the document in it, or of the two documents in it if the task takes
-/// two. The line may be any bytes; they are not copied.
+/// two. The line may be any bytes; they are not copied. `faults` is that of [`text_of`].
 ///
 /// # Errors
 ///
 /// `Refused` by F07 if a task over two documents is not given an array of two elements; else as
 /// [`text_of`]. Never `Read`.
-pub fn text_of_line(alloc: Global, line: &[u8], task: Task, setup: Setup) -> Result<String, Halt>
+pub fn text_of_line(
+    alloc: Global,
+    line: &[u8],
+    task: Task,
+    setup: Setup,
+    faults: &mut Vec<Refusal>,
+) -> Result<String, Halt>
+    requires { faults.old.items ≡ [] }
     ensures found { Found (OfLine task line.now) setup.form result }
+    ensures listed { lists_all task ≡ true → IfErr result (Halted (λ _.
+        AreFaultsIn line.now (map printed faults.new.items))) }
     ensures read { result ≢ Err halts.Read }
 {
     if task.takes_second() {
-        return text_of_pair(alloc, line, task, setup);
+        return text_of_pair(alloc, line, task, setup, faults);
     }
     let (mut line, mut none, mut task): (_, &[u8], _) = (line, &[], task);
-    text_of(alloc, &mut line, &mut none, &mut task, setup)
+    text_of(alloc, &mut line, &mut none, &mut task, setup, faults)
 }

@@ -1,11 +1,14 @@
 //! What is done on each line: a task, or the full plan.
 
-ghost use Rattle.std.specs.Prelude.{◌≡◌, ◌≢◌, Err};
+ghost use Rattle.std.specs.Prelude.{◌≡◌, ◌≢◌, [], true, map, Err, IfErr};
 ghost use Rattle.odb_engine.specs.declared.halt.Halt.TheVariants as halts;
-ghost use Rattle.odb_engine.specs.FullPlans.{OfWork};
-ghost use Rattle.odb_engine.specs.Halts.{Found};
+ghost use Rattle.odb_engine.specs.FullPlans.{OfWholeLine, OfWork, work_lists};
+ghost use Rattle.odb_doc.specs.Refusals.{printed};
+ghost use Rattle.odb_engine.specs.AllFaults.{AreFaultsIn};
+ghost use Rattle.odb_engine.specs.Halts.{Found, Halted};
 ghost use Rattle.odb_engine.specs.Located.{is_pair};
 
+use crate::command::Command;
 use crate::ending::{Ended, EngineFault, end};
 use crate::full_plan::full_plan_text;
 use crate::halt::Halt;
@@ -13,6 +16,7 @@ use crate::lines::command::LineCommand;
 use crate::lines::task::text_of_line;
 use crate::setup::Setup;
 use crate::task::Task;
+use odb_doc::Refusal;
 use odb_io::Output;
 use std::alloc::Global;
 use std::io::Write;
@@ -36,28 +40,39 @@ impl Work {
             Work::FullPlan => false,
         }
     }
+
+    /// Returns whether all faults of a batch document are written, and not the first alone.
+    pub(crate) fn lists_all(self) -> bool
+        ensures { result ≡ work_lists self }
+    {
+        match self {
+            Work::Task(task) => task.lists_all(),
+            Work::FullPlan => false,
+        }
+    }
 }
 
-/// What is done on each line of a log, or on one document.
-#[derive(Clone, Copy, Debug)]
-pub enum LineWork {
-    /// A work.
-    Work(Work),
-    /// Check a batch, and write all its faults.
-    CheckAll,
-}
-
-/// Returns what is written of a line. The line may be any bytes; they are not copied.
+/// Returns what is written of a line. The line may be any bytes; they are not copied. All faults of a batch document that is
+/// refused are listed in `faults`, which is empty before, if the work writes them.
 ///
 /// # Errors
 ///
 /// Those of the task; `Refused` by the first fault of the batch, or `OutOfMemory`. Never `Read`.
-pub fn text_of_work(alloc: Global, line: &[u8], work: Work, setup: Setup) -> Result<String, Halt>
+pub fn text_of_work(
+    alloc: Global,
+    line: &[u8],
+    work: Work,
+    setup: Setup,
+    faults: &mut Vec<Refusal>,
+) -> Result<String, Halt>
+    requires { faults.old.items ≡ [] }
     ensures found { Found (OfWork work line.now) setup.form result }
+    ensures listed { work_lists work ≡ true → IfErr result (Halted (λ _.
+        AreFaultsIn line.now (map printed faults.new.items))) }
     ensures read { result ≢ Err halts.Read }
 {
     match work {
-        Work::Task(task) => text_of_line(alloc, line, task, setup),
+        Work::Task(task) => text_of_line(alloc, line, task, setup, faults),
         Work::FullPlan => full_plan_text(alloc, line, setup),
     }
 }
@@ -70,7 +85,7 @@ pub struct EachLine {
 }
 
 impl LineCommand for EachLine {
-    ghost writes = { λ self line. OfWork self.work line self.setup.form };
+    ghost writes = { λ self line. OfWholeLine self.work line self.setup.form };
 
     fn answer<W: Write>(
         &self,
@@ -78,7 +93,9 @@ impl LineCommand for EachLine {
         line: &[u8],
         output: &mut Output<W>,
     ) -> Result<Ended, EngineFault> {
-        let found = text_of_work(alloc, line, self.work, self.setup);
-        end(alloc, self.setup.form, found, output)
+        let mut faults = Vec::new(alloc);
+        let found = text_of_work(alloc, line, self.work, self.setup, &mut faults);
+        let all = self.work.lists_all();
+        end(alloc, self.setup.form, all, found, &faults, output)
     }
 }

@@ -18,14 +18,13 @@ ghost use Rattle.odb_engine.specs.Located.{LocatesPair, OfPairWork};
 ghost use Rattle.odb_engine.specs.Rests.{EndsLine, RestsIn};
 
 use crate::answer::Answer;
-use crate::check_all::put_answer;
 use crate::command::{Command, plan_of};
 use crate::disposal::DropOrLeak;
 use crate::ending::{Ended, EngineFault};
 use crate::form::Form;
 use crate::halt::Halt;
 use crate::input::{read_document, value_in};
-use crate::located::locate;
+use crate::located::{locate, put_answer};
 use crate::rest::rest_written;
 use crate::setup::Setup;
 use crate::task::Task;

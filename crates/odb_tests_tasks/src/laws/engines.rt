@@ -3,11 +3,13 @@
 
 ghost use Rattle.std.specs.Prelude.{◌≡◌, false, Some, IfSome};
 ghost use Rattle.odb_sched.specs.declared.order.Order.TheVariants.{Last};
-ghost use Rattle.odb_engine.specs.Cascade.{Accepts, Answers};
+ghost use Rattle.odb_engine.specs.Cascade.{Accepts};
 ghost use Rattle.odb_engine.specs.Contents.Given.{ByReader, InMemory};
 ghost use Rattle.odb_engine.specs.Inputs.{SomeDocument};
 ghost use Rattle.odb_engine.specs.ReadAgain.{IsReadAgain};
-ghost use Rattle.odb_engine.specs.Tasks.{OfLine, OfTask};
+ghost use Rattle.odb_engine.specs.FullPlans.{OfWholeLine};
+ghost use Rattle.odb_engine.specs.Tasks.{OfDocuments};
+ghost use Rattle.odb_engine.specs.declared.lines.work.Work.TheVariants as works;
 ghost use Rattle.odb_engine.specs.declared.ending.Ended.TheVariants.{Done};
 ghost use Rattle.odb_engine.specs.declared.form.Form.TheVariants.{Lines};
 ghost use Rattle.odb_testing.specs.Readings.{AreOne};
@@ -26,7 +28,7 @@ pub type Written = (Ended, Vec<u8>);
 /// Does a task on the documents of two readers.
 pub fn written(alloc: Global, batch: &[u8], second: &[u8], task: Task) -> Option<Written>
     ensures { IfSome result (λ it. SomeDocument (Some batch.now) (λ bytes.
-        Answers (OfTask task (ByReader (Some second.now))) bytes Lines it.0 it.1.items)) }
+        OfDocuments task (ByReader (Some second.now)) bytes Lines it.0 it.1.items)) }
 {
     let mut output = Output::new(Vec::new(alloc));
     match called_plainly(
@@ -70,7 +72,7 @@ pub fn answered(
     task: Task,
     form: Form,
 ) -> Option<Written>
-    ensures { IfSome result (λ it. Answers (OfTask task (InMemory second.now)) batch.now form
+    ensures { IfSome result (λ it. OfDocuments task (InMemory second.now) batch.now form
         it.0 it.1.items) }
 {
     match answer_in_memory(alloc, batch, second, task, in_form(form)) {
@@ -97,7 +99,7 @@ fn answered_twice(
 
 /// Does a task on a line.
 pub fn line_answered(alloc: Global, line: &[u8], task: Task, form: Form) -> Option<Written>
-    ensures { IfSome result (λ it. OfLine task line.now form it.0 it.1.items) }
+    ensures { IfSome result (λ it. OfWholeLine (works.Task task) line.now form it.0 it.1.items) }
 {
     match answer_line(alloc, line, Work::Task(task), in_form(form)) {
         Ok(answer) => Some((answer.ended, answer.text)),
@@ -201,6 +203,8 @@ fn tasks_write_one_text_of_the_same_bytes(rt: HostRuntime) {
     }
 }
 
+const CHECK: Task = Task::Check { all: false };
+
 /// The documents that are refused by this line of JSON, as documents in memory.
 const REFUSED: [(&str, &str); 2] = [
     (
@@ -216,7 +220,7 @@ const REFUSED: [(&str, &str); 2] = [
 #[test]
 fn tasks_write_one_line_of_json_of_a_fault(rt: HostRuntime) {
     for (batch, line) in &REFUSED {
-        let twice = answered_twice(rt.alloc(), batch.as_bytes(), &[], Task::Check, Form::Json);
+        let twice = answered_twice(rt.alloc(), batch.as_bytes(), &[], CHECK, Form::Json);
         assert!(rt; are_refused(&twice, line));
         let twice = line_answered_twice(rt.alloc(), batch.as_bytes(), Task::Plan, Form::Json);
         assert!(rt; are_refused(&twice, line));

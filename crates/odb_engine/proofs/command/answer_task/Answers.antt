@@ -1,8 +1,13 @@
-use Rattle.std.proofs.Common.{◌⊎◌}
+use Rattle.std.proofs.Common.{◌≡◌, ◌⊎◌, List, Err, map, subst, sym}
+use Rattle.odb_doc.specs.declared.refusal.Refusal.{Refusal}
+use Rattle.odb_doc.specs.Refusals.{printed}
 use Rattle.odb_doc.specs.declared.fault.Place.TheVariants.{Batch}
+use Rattle.odb_engine.specs.declared.halt.Halt.TheVariants as halts
+use Rattle.odb_engine.specs.Answered.{listed_found}
 use Rattle.odb_engine.specs.Cascade.{AnswersValue}
-use Rattle.odb_engine.specs.Contents.{OfContent}
-use Rattle.odb_engine.proofs.EngineLemmas.{Ends-found}
+use Rattle.odb_engine.specs.Contents.{AreFaultsOfContent, OfContent}
+use Rattle.odb_engine.specs.Engines.{Ends}
+use Rattle.odb_engine.proofs.AllFaultLemmas.{ends-listed}
 use Rattle.odb_engine.proofs.SourceLemmas.{some-weaker}
 use Rattle.odb_engine.proofs.command.answer_task.Goals as goal
 
@@ -10,9 +15,15 @@ pub returns-clause-ends : goal.returns-clause-ends
 returns-clause-ends g c =
     let P = AnswersValue (g.C.Command.writes c.args.task (g.S.Source.given c.args.second.now)) in
     let failed = g.R.Source.has_failed c.text_of-found.new.first ⊎ g.S.Source.has_failed c.text_of-found.new.second in
+    let form = c.args.setup.form in
+    let found = c.text_of-found.result in
+    let contents = g.W.Write.contents in
+    let ends = subst (λ all. Ends contents (listed_found all form (map printed c.deref.result.now) found) (found ≡ Err halts.Read) c.args.output.now c.end.new.output c.end.result) c.lists_all-all.ensures c.end.ensures.ends in
+    let ends_so = subst (λ (faults : List Refusal). Ends contents (listed_found (g.C.Command.lists_all c.args.task) form (map printed faults) found) (found ≡ Err halts.Read) c.args.output.now c.end.new.output c.end.result) c.deref.ensures.value ends in
     some-weaker (g.R.Source.given c.args.first.now) _ _
-    (λ content (found, asked). (
-      Ends-found g.W.Write.contents c.args.setup.form (OfContent Batch P content) failed c.args.output.now c.end.new.output c.text_of-found.result c.end.result found c.text_of-found.ensures.read c.end.ensures.ends,
+    (λ content (so, asked). (
+      ends-listed contents (g.C.Command.lists_all c.args.task) (OfContent Batch P content) (AreFaultsOfContent content) form (map printed c.text_of-found.new.faults.items) failed c.args.output.now c.end.new.output found c.end.result so.0 so.1
+          c.text_of-found.ensures.read ends_so,
       asked,
     ))
     c.text_of-found.ensures.found

@@ -1,7 +1,7 @@
 use Rattle.std.proofs.Common.{Some}
 use Rattle.odb_engine.specs.Contents.Given.{ByReader, InMemory}
 use Rattle.odb_engine.proofs.LawLemmas.{AreFunctional}
-use Rattle.odb_engine.proofs.TaskLawLemmas.{AreOneText, answers-one, line-one}
+use Rattle.odb_engine.proofs.TaskLawLemmas.{AreOneText, documents-one, line-one}
 use Rattle.odb_engine.proofs.MatchLawLemmas.{AreOneMatch}
 use Rattle.odb_engine.proofs.laws.one_text.Goals as goal
 
@@ -33,7 +33,7 @@ returns c =
       causes = record { one_refusal = c.every_cause.ensures.one_refusal; one_unknown = c.every_cause.ensures.one_unknown };
     } in
     record {
-      task = λ task form bytes left. answers-one law task form (ByReader (Some left)) tt bytes;
-      memory = λ task form bytes second. answers-one law task form (InMemory second) tt bytes;
+      task = λ task form bytes left. documents-one law task form (ByReader (Some left)) tt bytes;
+      memory = λ task form bytes second. documents-one law task form (InMemory second) tt bytes;
       line = line-one law;
     }

@@ -1,16 +1,12 @@
 use Rattle.std.proofs.Common.{ℕ, List, IfOk, subst}
-use Rattle.odb_engine.specs.Cascade.{Answers}
 use Rattle.odb_engine.specs.Contents.Given.{ByReader}
 use Rattle.odb_engine.specs.Engines.{WritesText}
 use Rattle.odb_engine.specs.Inputs.{SomeDocument}
 use Rattle.odb_engine.specs.declared.form.Form.{Form}
 use Rattle.odb_engine.specs.declared.form.Form.TheVariants.{Lines}
-use Rattle.odb_engine.specs.Tasks.{OfTask}
+use Rattle.odb_engine.specs.Tasks.{OfDocuments}
 use Rattle.odb_tests_tasks.proofs.LawLemmas.{written-of}
 use Rattle.odb_tests_tasks.proofs.engines.called_plainly.Goals as goal
-
-pub returns-in-Check : goal.returns-in-Check
-returns-in-Check g c = rw c.in-Check.is (written-of g.W.Write.contents c.args.output.now c.check_batch.new.output _ _ _ c.check_batch.result (λ bytes e. e.ended) c.check_batch.ensures.ends)
 
 pub returns-in-Plan : goal.returns-in-Plan
 returns-in-Plan g c = rw c.in-Plan.is (written-of g.W.Write.contents c.args.output.now c.plan_batch.new.output _ _ _ c.plan_batch.result (λ bytes e. e.ended) c.plan_batch.ensures.ends)
@@ -23,6 +19,6 @@ returns-in-Run g c = rw c.in-Run.is (written-of g.W.Write.contents c.args.output
 
 pub returns-in_default : goal.returns-in_default
 returns-in_default g c =
-    let W : Form → List ℕ → _ = λ form bytes. Answers (OfTask c.args.task (ByReader (g.S.Read.remaining c.args.second.now.reader))) bytes form in
+    let W : Form → List ℕ → _ = λ form bytes. OfDocuments c.args.task (ByReader (g.S.Read.remaining c.args.second.now.reader)) bytes form in
     subst (λ form. IfOk c.answer_task.result (λ ended. SomeDocument (g.R.Read.remaining c.args.batch.now.reader) (λ bytes. WritesText (g.W.Write.contents c.args.output.now.writer) (g.W.Write.contents c.answer_task.new.output.writer) (λ text. W form bytes ended text)))) c.plain.ensures.form
     (written-of g.W.Write.contents c.args.output.now c.answer_task.new.output (λ bytes. W c.plain.result.form bytes) _ _ c.answer_task.result (λ bytes e. e.0.ended) c.answer_task.ensures.ends)

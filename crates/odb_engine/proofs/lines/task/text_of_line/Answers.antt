@@ -1,6 +1,8 @@
-use Rattle.std.proofs.Common.{◌≡◌, true, false, sym, subst, rules}
+use Rattle.std.proofs.Common.{◌≡◌, ◌∙◌, true, false, sym, subst, rules}
+use Rattle.std.proofs.lemmas.Bool.{true≢false}
 use Rattle.odb_engine.specs.Halts.{Found}
 use Rattle.odb_engine.specs.Tasks.{InLine, OfTask, takes_second}
+use Rattle.odb_engine.proofs.PairLawLemmas.{second-alone}
 use Rattle.odb_engine.proofs.lines.task.text_of_line.Goals as goal
 
 pub returns-then-takes_second-clause-found : goal.returns-then-takes_second-clause-found
@@ -11,4 +13,12 @@ returns-then-takes_second-clause-found c =
 pub returns-clause-found : goal.returns-clause-found
 returns-clause-found c =
     let one : takes_second c.args.task ≡ false = search rules in
-    subst (λ two. Found (InLine two (OfTask c.args.task) c.args.line.now) c.args.setup.form c.text_of.result) (sym one) c.text_of.ensures.found.0
+    subst (λ two. Found (InLine two (OfTask c.args.task) c.args.line.now) c.args.setup.form c.text_of.result) (sym one) c.text_of.ensures.found.0.0
+
+pub returns-then-takes_second-clause-listed : goal.returns-then-takes_second-clause-listed
+returns-then-takes_second-clause-listed c lists =
+    let two : takes_second c.args.task ≡ true = search rules in
+    absurd (true≢false (sym lists ∙ second-alone c.args.task two))
+
+pub returns-clause-listed : goal.returns-clause-listed
+returns-clause-listed c = c.text_of.ensures.found.0.1

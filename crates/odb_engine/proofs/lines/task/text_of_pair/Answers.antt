@@ -21,4 +21,4 @@ returns-clause-found c =
     let first = view c.in-Some.first in
     let second = view c.in-Some.second in
     found-weaker (AnswersValue (OfTask c.args.task (InHand second)) first) (OfPair (λ batch second. OfTask c.args.task (InHand second) batch) c.args.line.now) form c.text_of.result
-    (λ ended text so. inr (record { value = _; document = c.in_ok-value_in.ensures.value; holds = inr (record { first = first; second = second; pair = rw (c.in-Some.first-is, c.in-Some.second-is) c.in-Some.ensures.pair; so = so }) })) c.text_of.ensures.found.0
+    (λ ended text so. inr (record { value = _; document = c.in_ok-value_in.ensures.value; holds = inr (record { first = first; second = second; pair = rw (c.in-Some.first-is, c.in-Some.second-is) c.in-Some.ensures.pair; so = so }) })) c.text_of.ensures.found.0.0

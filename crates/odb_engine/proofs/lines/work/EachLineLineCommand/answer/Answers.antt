@@ -1,9 +1,21 @@
-use Rattle.odb_engine.specs.FullPlans.{OfWork}
-use Rattle.odb_engine.proofs.EngineLemmas.{Ends-found}
+use Rattle.std.proofs.Common.{◌≡◌, List, Err, map, subst}
+use Rattle.odb_doc.specs.declared.refusal.Refusal.{Refusal}
+use Rattle.odb_doc.specs.Refusals.{printed}
+use Rattle.odb_engine.specs.declared.halt.Halt.TheVariants as halts
+use Rattle.odb_engine.specs.AllFaults.{AreFaultsIn}
+use Rattle.odb_engine.specs.Answered.{listed_found}
+use Rattle.odb_engine.specs.Engines.{Ends}
+use Rattle.odb_engine.specs.FullPlans.{OfWork, work_lists}
+use Rattle.odb_engine.proofs.AllFaultLemmas.{ends-listed}
 use Rattle.odb_engine.proofs.lines.work.EachLineLineCommand.answer.Goals as goal
 
 pub returns-clause-ends : goal.returns-clause-ends
 returns-clause-ends g c =
     let each = c.args.self.now in
-    Ends-found g.W.Write.contents each.setup.form (OfWork each.work c.args.line.now) ⊥ c.args.output.now c.end.new.output c.text_of_work-found.result c.end.result c.text_of_work-found.ensures.found
-    (c.text_of_work-found.ensures.read, λ none. absurd none) c.end.ensures.ends
+    let form = each.setup.form in
+    let found = c.text_of_work-found.result in
+    let contents = g.W.Write.contents in
+    let ends = subst (λ all. Ends contents (listed_found all form (map printed c.deref.result.now) found) (found ≡ Err halts.Read) c.args.output.now c.end.new.output c.end.result) c.lists_all-all.ensures c.end.ensures.ends in
+    let ends_so = subst (λ (faults : List Refusal). Ends contents (listed_found (work_lists each.work) form (map printed faults) found) (found ≡ Err halts.Read) c.args.output.now c.end.new.output c.end.result) c.deref.ensures.value ends in
+    ends-listed contents (work_lists each.work) (OfWork each.work c.args.line.now) (AreFaultsIn c.args.line.now) form (map printed c.text_of_work-found.new.faults.items) ⊥ c.args.output.now c.end.new.output found c.end.result
+    c.text_of_work-found.ensures.found c.text_of_work-found.ensures.listed (c.text_of_work-found.ensures.read, λ none. absurd none) ends_so
