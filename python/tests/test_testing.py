@@ -172,14 +172,14 @@ class TestScripted:
     @pytest.mark.parametrize("service, document, status, code", [
         (Scripted(limit=2), BATCH, 413, "BatchTooLong"),
         (Scripted(), {"requests": [7]}, 400, "F10"),
-        (Scripted(refusals=[503]), BATCH, 503, "Refused"),
+        (Scripted(schedule=[503]), BATCH, 503, "Refused"),
     ])  # fmt: skip
     def test_what_is_answered_as_a_whole(self, service, document, status, code):
         found, _, body = service.post(json.dumps(document).encode())
         assert (found, json.loads(body)["error"]["code"]) == (status, code)
 
-    def test_refusals_in_turn(self):
-        service = Scripted(retry_after=9, refusals=[429, 500])
+    def test_refusals_as_a_whole_in_turn(self):
+        service = Scripted(retry_after=9, schedule=[429, 500])
         found = [service.post(json.dumps(self.BATCH).encode())[:2] for _ in range(3)]
         kind = {"content-type": "application/json"}
         assert found == [(429, {**kind, "retry-after": "9"}), (500, kind), (200, kind)]

@@ -60,7 +60,7 @@ def check_sending(batch: Batch) -> List[int]:
 
 async def check_sending_async(batch: Batch) -> Results:
     await batch.send_async(post)  # type: ignore[arg-type]
-    return await batch.send_async(Scripted({"1": [429, Answer(200)]}, limit=20, mode="stop", refusals=[503]).post_async)
+    return await batch.send_async(Scripted({"1": [429, Answer(200)]}, limit=20, mode="stop", schedule=[503]).post_async)
 
 
 Scripted({"a": "200"})  # type: ignore[dict-item]

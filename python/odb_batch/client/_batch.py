@@ -20,6 +20,7 @@ from .._requests import Request, requests
 from ._names import Group, Name, Reference
 from ._parts import MOST, Parts
 from ._posting import Posted, read_posted
+from ._rest import rest as rest_of
 from ._results import Results
 
 #: Posts the bytes of a batch, and returns what that is answered.
@@ -303,7 +304,7 @@ class Batch:
                 else:
                     document = parts.send(answered)
         except StopIteration as end:
-            return _results_of(end)
+            return results_of(end)
 
     async def send_async(self, post: PostAsync, *, limit: int = MOST, mode: Mode = "continue") -> Results:
         """Does what :meth:`send` does by a coroutine function. If its task is cancelled, what was answered is lost."""
@@ -318,7 +319,7 @@ class Batch:
                 else:
                     document = parts.send(answered)
         except StopIteration as end:
-            return _results_of(end)
+            return results_of(end)
 
     def exchange(self, *, limit: int = MOST, mode: Mode = "continue") -> Generator[bytes, Posted, Results]:
         """Yields one part after another, and is sent what it was answered, for clients that :meth:`send` does not fit.
@@ -333,7 +334,8 @@ class Batch:
                 parts.fail(error)
             else:
                 parts.take(answered)
-        return Results(self, parts)
+        rest = lambda: self._rest(rest_of(parts.document, parts.responses()))
+        return Results(self, parts.document, parts.answers, rest, parts.error)
 
     def _rest(self, document: bytes) -> "Batch":
         """The batch of a document with requests of this one, for which the same references hold."""
@@ -342,7 +344,8 @@ class Batch:
         return batch
 
 
-def _results_of(end: StopIteration) -> Results:
+def results_of(end: StopIteration) -> Results:
+    """Returns the results in which :meth:`Batch.exchange` ends."""
     results: Results = end.value
     return results
 

@@ -64,7 +64,7 @@ def application(service, heard):
 
 
 def test_parts_of_twenty(client):
-    service, heard, batch = Scripted({"r30": [429, 201]}, limit=20, retry_after=7, refusals=[503]), [], Batch()
+    service, heard, batch = Scripted({"r30": [429, 201]}, limit=20, retry_after=7, schedule=[503]), [], Batch()
     order = batch.post("Orders", {})
     lines = [batch.post(f"{order}/Lines", {"Price": 9.99}, id=f"r{k}") for k in range(46)]
     with serving(application(service, heard)) as url:
@@ -100,7 +100,7 @@ def test_the_lending_library(client, limit, tmp_path):
     assert b'"Price":9.990' in results[read].body
     # What is in the group has changed the book, so its first ETag is an old one.
     assert [it.status for it in results] == [201, 200, 204, 201, 412] and results.error is None
-    assert str(RequestFailed(results[late])).startswith(f"{late.id} 412 ")
+    assert str(RequestFailed(results[late])).startswith(f"{late.id} (PATCH $1) 412 ")
 
 
 def posts_of_requests(url, timeout=60, **options):
@@ -148,7 +148,7 @@ def posting(request):
 def test_a_response_is_returned_as_it_is(posting):
     batch = Batch()
     order = batch.post("Orders", {"Price": Decimal("9.990")})
-    with serving(application(Scripted(refusals=[503], retry_after=7), [])) as url:
+    with serving(application(Scripted(schedule=[503], retry_after=7), [])) as url:
         refused = posting(url)(batch)
         results = posting(url)(refused.rest())
     assert refused[order].status == 503 and refused.retry_after == 7
