@@ -2,6 +2,7 @@
 
 // A batch that is made by calls. client.d.ts says what each takes and returns.
 
+const { BatchClient } = require('./batch_client.js')
 const { isJson, toJson } = require('./bodies.js')
 const { check, optionsOf, plan } = require('./commands.js')
 const { arrayOf, headersOf, kindOf } = require('./documents.js')
@@ -10,7 +11,8 @@ const { foldedOf, mediaTypeOf, readAnswer } = require('./messages.js')
 const { Parts } = require('./parts.js')
 const { OF_ETAGS } = require('./references.js')
 const { requests } = require('./requests.js')
-const { RequestFailed, Result, Results } = require('./results.js')
+const { restOf } = require('./rest.js')
+const { BatchFailed, RequestFailed, Result, Results } = require('./results.js')
 const { firstSegment } = require('./urls.js')
 
 const OF_REQUEST = ['after', 'headers', 'id']
@@ -93,6 +95,7 @@ function referredBy(url, headers) {
 }
 
 class Batch {
+  // The text of each request, with its id, its group or null, and its operation.
   #elements = []
   // The group of each request, or null, by its id, and of each group itself: what is taken as a name.
   #names = new Map()
@@ -172,7 +175,7 @@ class Batch {
   }
 
   document() {
-    return batchText(this.#elements)
+    return batchText(this.#elements.map(({ text }) => text))
   }
 
   check() {
@@ -188,7 +191,9 @@ class Batch {
       const answer = await answered(body).catch((error) => parts.fail(error))
       if (answer !== undefined) parts.take(answer)
     }
-    return new Results(parts, (named) => Named.nameIn(this.#origin, named), (document) => this.#restOf(document))
+    const requests = new Map(this.#elements.map((it) => [it.id, it]))
+    const sent = { document: parts.document, requests, nameOf: (named) => Named.nameIn(this.#origin, named) }
+    return new Results(sent, parts.answers, () => this.#restOf(restOf(parts.document, parts.responses())), parts)
   }
 
   /** The batch of a document with requests of this one, for which the same references hold. */
@@ -209,7 +214,9 @@ class Batch {
   }
 
   #append(request, needs) {
-    this.#elements.push(elementText(request, needs))
+    const { id, group, method, url } = request
+    const operation = `${method.toUpperCase()} ${url.split('?', 1)[0]}`
+    this.#elements.push({ id, group, operation, text: elementText(request, needs) })
     this.#take(request.id, request.group)
     if (request.group !== null) this.#takeGroup(request.group)
   }
@@ -254,4 +261,4 @@ class Batch {
   }
 }
 
-module.exports = { Batch, Group, Reference, RequestFailed, Result, Results }
+module.exports = { Batch, BatchClient, BatchFailed, Group, Reference, RequestFailed, Result, Results }
