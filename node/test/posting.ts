@@ -31,7 +31,9 @@ export function failures(found: Results): string[] {
     const order: Order | undefined = found.raiseForStatus().done[0]?.json(orderOf)
     return [found.reason, String(order), ...[...found.failed, ...found.left, ...found.unknown].map(({ operation }: Result) => operation)]
   } catch (error) {
-    return error instanceof BatchFailed ? error.errors.map(({ result }) => `${result.id} of ${error.results.size}`) : []
+    if (!(error instanceof BatchFailed)) throw error
+    const { errors, results }: BatchFailed = error
+    return errors.map(({ result }: RequestFailed) => `${result.id} of ${results.size}`)
   }
 }
 
