@@ -10,7 +10,7 @@ from decimal import Decimal
 import pytest
 
 from app import make_app
-from odb_batch.client import Batch, RequestFailed, headers
+from odb_batch.client import AsyncBatchClient, Batch, BatchClient, RequestFailed, headers
 from odb_batch.conformance import serving
 from odb_batch.testing import Scripted
 
@@ -242,3 +242,105 @@ def test_a_body_that_is_read_late_and_breaks_off():
     with breaking_off() as url:
         results = posts_of_requests(url, stream=True)(batch)
     assert results["1"].status == 502 and isinstance(results.error, requests.exceptions.ChunkedEncodingError)
+
+
+def client_of_requests(url, credentials=None, **options):
+    """Sends a batch by a client over requests; closes that."""
+    requests = pytest.importorskip("requests", reason="requests is not installed")
+    session = requests.Session()
+    session.auth = credentials
+
+    def send(batch):
+        with BatchClient(session, url, backoff=0, **options) as client:
+            return client.send(batch)
+
+    return send
+
+
+def client_of_httpx(url, credentials=None, **options):
+    """The same over httpx, whose client has the URL."""
+    httpx = pytest.importorskip("httpx", reason="httpx is not installed")
+
+    def send(batch):
+        with BatchClient(httpx.Client(base_url=url, auth=credentials), backoff=0, **options) as client:
+            results = client.send(batch)
+        with pytest.raises(RuntimeError, match="closed"):
+            client._session.post("X")
+        return results
+
+    return send
+
+
+def tasks_of_httpx(url, credentials=None, **options):
+    """The same in tasks."""
+    httpx = pytest.importorskip("httpx", reason="httpx is not installed")
+
+    async def send(batch):
+        async with AsyncBatchClient(httpx.AsyncClient(auth=credentials), url, backoff=0, **options) as client:
+            results = await client.send(batch)
+        assert client._session.is_closed
+        return results
+
+    return lambda batch: asyncio.run(send(batch))
+
+
+@pytest.fixture(params=[client_of_requests, client_of_httpx, tasks_of_httpx])
+def patient(request):
+    return request.param
+
+
+def gets(*ids):
+    batch = Batch()
+    for id in ids:
+        batch.get("A", id=id)
+    return batch
+
+
+def test_a_client_has_the_session_authenticate(patient):
+    seen = []
+
+    def answer(environ, start_response):
+        seen.append({name: environ.get(name) for name in ("PATH_INFO", "HTTP_AUTHORIZATION", "HTTP_PREFER", "HTTP_X_OWN")})
+        return application(service, [])(environ, start_response)
+
+    service = Scripted({"a": [503, 200]}, retry_after=0, schedule=[429])
+    with serving(answer) as url:
+        results = patient(f"{url}/odata/", credentials=("ada", "x"), headers={"X-Own": "1", "prefer": "own"})(gets("a", "b"))
+    assert [it.status for it in results] == [200, 200] and len(service.documents) == 3
+    wanted = {"PATH_INFO": "/odata/$batch", "HTTP_AUTHORIZATION": "Basic YWRhOng=", "HTTP_PREFER": "own", "HTTP_X_OWN": "1"}
+    assert seen == [wanted] * 3
+
+
+def test_a_client_whose_session_times_out(patient):
+    batch = gets("a")
+    batch.post("B", {}, id="b")
+    with silent() as url:
+        results = patient(url, timeout=0.2, attempts=1)(batch)
+    assert [it.status for it in results] == [504, 504] and [it.id for it in results.unknown] == ["b"]
+
+
+def test_a_client_that_has_no_connection(patient):
+    """Nothing was sent, so all may be sent again."""
+    batch = Batch()
+    batch.post("B", {})
+    with socket.create_server(("127.0.0.1", 0)) as server:
+        port = server.getsockname()[1]
+    results = patient(f"http://127.0.0.1:{port}/", attempts=2)(batch)
+    assert [it.status for it in results.left] == [503] and results.error.__cause__ is not None
+
+
+@pytest.mark.parametrize("url, wanted", [
+    ("https://host/odata", "https://host/odata/$batch"), ("https://host/odata/", "https://host/odata/$batch"),
+    ("https://host/odata/$batch", "https://host/odata/$batch"), ("https://host/?client=1", "https://host/$batch?client=1"),
+    ("", "$batch"),
+])  # fmt: skip
+def test_where_a_client_posts_to(url, wanted):
+    requests, found = pytest.importorskip("requests", reason="requests is not installed"), []
+
+    class Session(requests.Session):
+        def post(self, url, **options):
+            found.append(url)
+            raise OSError
+
+    BatchClient(Session(), url, attempts=1).send(gets("a"))
+    assert found == [wanted]
