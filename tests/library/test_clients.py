@@ -10,6 +10,7 @@ import sys
 import pytest
 
 from support.commands import run
+from support.embedding import text_of
 from support.program import EXAMPLES
 from support.servers import Server, skip_without, with_gunicorn
 
@@ -43,6 +44,7 @@ def test_ten_lines_of_javascript(service, module, tmp_path):
     packages = tmp_path / "node_modules"
     packages.mkdir()
     (packages / "odb-batch").symlink_to(module)
+    assert text_of("examples", "orders.js").partition("\n\n")[2] in text_of("node", "README.md")
     environment = {**os.environ, "NODE_PATH": str(packages)}
     run("node", os.path.join(EXAMPLES, "orders.js"), service.url, env=environment, wanted="300 requests: 300 done\n")
     check_each_once(service)
