@@ -31,15 +31,14 @@ function newId() {
   return Array.from(random.getRandomValues(new Uint8Array(16)), (it) => it.toString(16).padStart(2, '0')).join('')
 }
 
-/** Throws unless an option has one of its values. */
-function requireNumbers({ attempts, backoff, deadline, timeout }) {
+/** Throws unless the options have their values. */
+function requireNumbers({ attempts, backoff, ...milliseconds }) {
   if (!Number.isInteger(attempts) || attempts < 1) throw new RangeError(`attempts must be a whole number from 1, not ${String(attempts)}`)
-  for (const [name, it] of Object.entries({ deadline, timeout })) {
-    if (it !== Infinity && !(it > 0 && it <= MOST_MILLISECONDS)) {
-      throw new RangeError(`${name} must be a number of milliseconds above 0, not ${String(it)}`)
-    }
-  }
   if (!(backoff >= 0)) throw new RangeError(`backoff must be a number of milliseconds from 0, not ${String(backoff)}`)
+  for (const [name, it] of Object.entries(milliseconds)) {
+    const isRight = it === Infinity || (it > 0 && it <= MOST_MILLISECONDS)
+    if (!isRight) throw new RangeError(`${name} must be a number of milliseconds above 0, not ${String(it)}`)
+  }
 }
 
 /** The URL of the `$batch` of a service. */
@@ -52,14 +51,14 @@ class BatchClient {
   #patience
 
   constructor(url, options = {}) {
-    const { headers, repeatable = true, ...given } = optionsOf(options, OF_CLIENT)
-    const usual = { attempts: 8, backoff: 1000, deadline: Infinity, timeout: 60000, fetch: (...words) => fetch(...words) }
-    const found = Object.entries(given).filter(([, it]) => it !== undefined)
-    this.#patience = { ...usual, ...Object.fromEntries(found), url: batchUrl(url), headers: foldedOf(headers), keeps: repeatable ? undefined : false }
-    requireNumbers(this.#patience)
+    const { headers, repeatable = true, fetch = globalThis.fetch, ...given } = optionsOf(options, OF_CLIENT)
+    const { attempts = 8, backoff = 1000, deadline = Infinity, timeout = 60000 } = given
+    const numbers = { attempts, backoff, deadline, timeout }
+    requireNumbers(numbers)
+    this.#patience = { ...numbers, url: batchUrl(url), fetch, headers: foldedOf(headers), keeps: repeatable ? undefined : false }
   }
 
-  send(batch, options = {}) {
+  async send(batch, options = {}) {
     return new Sending(this.#patience, optionsOf(options, OF_SEND)).send(batch)
   }
 }
@@ -98,8 +97,8 @@ class Sending {
 
   /** The batch that is to be sent after a send, or null; notes why what is left is not. */
   #next(results) {
-    const of = [...results.failed, ...results.unknown].find(({ status }) => status >= 400 && status !== 424)
-    if (this.#options.mode === 'stop' && of !== undefined) this.#reason ||= `${of.id} has failed`
+    const error = [...results.failed, ...results.unknown].find(({ status }) => status >= 400 && status !== 424)
+    if (this.#options.mode === 'stop' && error !== undefined) this.#reason ||= `${error.id} has failed`
     try {
       const rest = results.rest()
       return this.#reason ? null : rest
@@ -117,28 +116,21 @@ class Sending {
   async #answered(part) {
     for (let sent = this.#idOf(), lost; ; ) {
       const asks = lost !== undefined && this.#patience.keeps === undefined
-      const answered = asks ? await this.#post({ ...part, body: NOTHING }, this.#idOf()) : await this.#post(part, sent)
-      if (isSuccess(answered)) {
-        if (!asks) return answered
+      const tried = asks ? await this.#post({ ...part, body: NOTHING }, this.#idOf()) : await this.#post(part, sent)
+      if (isSuccess(tried)) {
+        if (!asks) return tried
         if (this.#patience.keeps) continue
-      } else if (lost === undefined && ID in sent && isRejected(answered, [501])) {
+      } else if (lost === undefined && ID in sent && isRejected(tried, [501])) {
         sent = this.#idOf()
         continue
-      } else if (lost === undefined && !isLost(answered)) {
-        return this.#refused(answered)
+      } else if (lost === undefined && !isLost(tried)) {
+        if (tried.status < 500 && tried.status !== 429) this.#reason = `a part was answered ${tried.status} as a whole`
+        return valueOf(tried)
       }
-      lost ??= isRejected(answered, [409]) ? new Failure(new Refusal(504, 'InProgress', 'No answer came in time')) : answered
-      if (this.#patience.keeps === false || isRejected(answered, GIVEN_UP) || !(await this.#pause(secondsOf(answered.headers['retry-after'] ?? '')))) {
-        return valueOf(lost)
-      }
+      lost ??= tried.status === 409 ? new Failure(new Refusal(504, 'InProgress', 'No answer came in time')) : tried
+      const isOver = this.#patience.keeps === false || isRejected(tried, GIVEN_UP)
+      if (isOver || !(await this.#pause(secondsOf(tried.headers['retry-after'] ?? '')))) return valueOf(lost)
     }
-  }
-
-  /** An answer to a part as a whole, after which its requests are settled; notes if no other part would be taken. */
-  #refused(answered) {
-    const { status } = answered
-    if (status < 500 && !SETTLES_NOTHING.includes(status)) this.#reason = `a part was answered ${status} as a whole`
-    return valueOf(answered)
   }
 
   /** The headers of a part by which the service keeps it, if it keeps any. */
@@ -187,23 +179,20 @@ class Sending {
   }
 }
 
-/** An error in place of an answer. Without a connection nothing was performed: that is a 503. */
+/** An error in place of an answer, with the status and the headers that it stands for. Without a connection that is a 503. */
 class Failure {
   constructor(error) {
     const isUnsent = [error?.code, error?.cause?.code].some((it) => UNSENT.includes(it))
     const unreachable = new Refusal(503, 'Unreachable', 'there is no connection')
     this.error = isUnsent ? Object.assign(unreachable, { cause: error }) : error
-    // The answer that a refusal stands for; of another error nobody knows.
-    const { status, headers } = this.error instanceof Refusal ? this.error.answer : { headers: {} }
-    this.status = status
-    this.headers = headers
+    Object.assign(this, { headers: {} }, this.error instanceof Refusal && this.error.answer)
   }
 }
 
 /** Returns an answer, or throws the error in place of it. */
-function valueOf(answered) {
-  if (answered instanceof Failure) throw answered.error
-  return answered
+function valueOf(tried) {
+  if (tried instanceof Failure) throw tried.error
+  return tried
 }
 
 /** Whether a service that keeps batches has rejected one, by one of some statuses. */
@@ -212,8 +201,8 @@ function isRejected({ status, headers }, statuses) {
 }
 
 /** Whether nobody knows if a part was performed, or it is being performed. */
-function isLost(answered) {
-  return answered.status === undefined || UNSURE.includes(answered.status) || isRejected(answered, [409])
+function isLost(tried) {
+  return tried.status === undefined || UNSURE.includes(tried.status) || isRejected(tried, [409])
 }
 
 module.exports = { BatchClient }

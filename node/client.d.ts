@@ -96,7 +96,7 @@ export class Batch {
   /** Returns the document of the batch, as JSON. */
   document(): Bytes
 
-  /** Returns its counts. Throws a `Fault` if it is refused; the place says which request is wrong. */
+  /** Returns its counts. Throws a `Fault` if it is refused: the message has the code, the id of the request and what is wrong. */
   check(): Counts
 
   /**

@@ -7,6 +7,7 @@ const { isJson, toJson } = require('./bodies.js')
 const { check, optionsOf, plan } = require('./commands.js')
 const { arrayOf, headersOf, kindOf } = require('./documents.js')
 const { batchText, elementText } = require('./elements.js')
+const { Fault } = require('./faults.js')
 const { foldedOf, mediaTypeOf, readAnswer } = require('./messages.js')
 const { Parts } = require('./parts.js')
 const { OF_ETAGS } = require('./references.js')
@@ -94,6 +95,16 @@ function referredBy(url, headers) {
   return values.filter((it) => it.startsWith('$')).map((it) => it.slice(1))
 }
 
+/** Calls a function. The message of a fault names the request, not its position. */
+function naming(call) {
+  try {
+    return call()
+  } catch (error) {
+    if (error instanceof Fault) error.message = `${error.code} ${error.details}`
+    throw error
+  }
+}
+
 class Batch {
   // The text of each request, with its id, its group or null, and its operation.
   #elements = []
@@ -179,13 +190,13 @@ class Batch {
   }
 
   check() {
-    return check(this.document())
+    return naming(() => check(this.document()))
   }
 
   async send(post, options = {}) {
     const { mode, limit } = optionsOf(options, OF_SEND)
     if (typeof post !== 'function') throw new TypeError('what posts a batch must be a function')
-    const parts = new Parts(this.document(), { mode, limit })
+    const parts = naming(() => new Parts(this.document(), { mode, limit }))
     const answered = async (body) => readAnswer(await post({ method: 'POST', headers: headersOfBatch(mode), body }))
     for (let body; (body = parts.next()) !== undefined; ) {
       const answer = await answered(body).catch((error) => parts.fail(error))

@@ -129,11 +129,15 @@ test('posts with headers of its own, and waits no longer than it may', async () 
   assert.deepEqual([slow.error.name, gone.error.code, gone.error.cause.message], ['TimeoutError', 'Unreachable', 'fetch failed'])
 })
 
-test('refuses options with wrong values', () => {
+test('refuses options with wrong values', async () => {
   const wrong = [{ attempts: 0 }, { attempts: 1.5 }, { timeout: 0 }, { timeout: 2 ** 31 }, { deadline: -1 }, { backoff: -1 }]
   for (const it of wrong) assert.throws(() => new BatchClient(URL_OF_SERVICE, it), RangeError)
   assert.throws(() => new BatchClient(URL_OF_SERVICE, { retries: 1 }), TypeError)
-  assert.throws(() => new BatchClient(URL_OF_SERVICE).send(posts('a'), { limits: 1 }), TypeError)
+  await assert.rejects(new BatchClient(URL_OF_SERVICE).send(posts('a'), { limits: 1 }), TypeError)
+  await assert.rejects(new BatchClient(URL_OF_SERVICE).send(posts('a', 'a')), { name: 'Fault', message: /^F30 a: / })
+  const unknown = new Batch()
+  unknown.get('A', { id: 'x', after: 'nobody' })
+  assert.throws(() => unknown.check(), { name: 'Fault', message: /^F40 x: "nobody" in dependsOn is unknown\. UnknownName: / })
 })
 
 const HAPPENINGS = ['answer', 'answer', 'hang up', 'lose', 429, 503, 500, 502, 404, rejected(409), rejected(412)]

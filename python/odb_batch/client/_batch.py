@@ -14,6 +14,7 @@ from .._bodies import is_json, to_json
 from .._commands import Counts, Mode, check, plan
 from .._documents import Document, bytes_of
 from .._elements import batch_text, element_text
+from .._faults import Fault
 from .._messages import Answer, header_dict, media_type
 from .._preparation import CONDITIONS
 from .._requests import Request, requests
@@ -261,10 +262,11 @@ class Batch:
         """Checks the batch as :func:`odb_batch.check` does, and returns its counts.
 
         Raises:
-            Fault: The batch is refused. The place says which request is wrong.
+            Fault: The batch is refused. Its text begins with the code, the id of the request and what is wrong.
             MemoryError: An allocation failed.
         """
-        return check(self.document())
+        with _naming():
+            return check(self.document())
 
     def send(self, post: Post, *, limit: int = MOST, mode: Mode = "continue") -> Results:
         """Sends the batch, if need be in parts, and returns what each request was answered.
@@ -326,7 +328,8 @@ class Batch:
 
         The exception by which a part was not answered is thrown into it. The value in the end is the results.
         """
-        parts = Parts(self.document(), limit, mode)
+        with _naming():
+            parts = Parts(self.document(), limit, mode)
         while (document := parts.next()) is not None:
             try:
                 answered = read_posted((yield document))
@@ -342,6 +345,16 @@ class Batch:
         batch = Batch.read(document)
         batch._origin, batch._spent = self._origin, self._spent | self._names.keys()
         return batch
+
+
+@contextlib.contextmanager
+def _naming() -> Iterator[None]:
+    """Has the text of a fault name the request, not its position."""
+    try:
+        yield
+    except Fault as fault:
+        fault._is_of_builder = True
+        raise
 
 
 def results_of(end: StopIteration) -> Results:

@@ -2,8 +2,7 @@
 
 import asyncio
 import time
-from types import TracebackType
-from typing import Any, Mapping, Optional, Type, TypeVar
+from typing import Any, Mapping, Optional
 
 from .._commands import Mode
 from ._batch import Batch, results_of
@@ -11,9 +10,6 @@ from ._parts import MOST
 from ._patience import Patience, Post, Step
 from ._posting import post_by
 from ._results import Results
-
-_Client = TypeVar("_Client", bound="BatchClient")
-_AsyncClient = TypeVar("_AsyncClient", bound="AsyncBatchClient")
 
 
 class _Sender:
@@ -32,8 +28,7 @@ class _Sender:
         repeatable: bool = True,
     ) -> None:
         self._session, self._post_by = session, post_by(session, url)
-        keeps = None if repeatable else False
-        self._patience = Patience(headers, timeout, attempts, deadline, backoff, keeps)
+        self._patience = Patience(headers, timeout, attempts, deadline, backoff, None if repeatable else False)
 
 
 class BatchClient(_Sender):
@@ -101,12 +96,10 @@ class BatchClient(_Sender):
         if hasattr(self._session, "close"):
             self._session.close()
 
-    def __enter__(self: _Client) -> _Client:
+    def __enter__(self) -> "BatchClient":
         return self
 
-    def __exit__(
-        self, kind: Optional[Type[BaseException]], error: Optional[BaseException], trace: Optional[TracebackType]
-    ) -> None:
+    def __exit__(self, *raised: object) -> None:
         self.close()
 
 
@@ -137,10 +130,8 @@ class AsyncBatchClient(_Sender):
         if hasattr(self._session, "aclose"):
             await self._session.aclose()
 
-    async def __aenter__(self: _AsyncClient) -> _AsyncClient:
+    async def __aenter__(self) -> "AsyncBatchClient":
         return self
 
-    async def __aexit__(
-        self, kind: Optional[Type[BaseException]], error: Optional[BaseException], trace: Optional[TracebackType]
-    ) -> None:
+    async def __aexit__(self, *raised: object) -> None:
         await self.aclose()

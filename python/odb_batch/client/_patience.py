@@ -4,8 +4,8 @@ import email.utils
 import random
 import time
 import uuid
-from dataclasses import dataclass, field
-from typing import Any, Callable, Dict, Generator, Mapping, NamedTuple, Optional, Tuple, Union
+from dataclasses import dataclass
+from typing import Any, Dict, Generator, Mapping, NamedTuple, Optional, Union
 
 from .._answers import checked
 from .._commands import Mode, match
@@ -19,12 +19,11 @@ from ._results import Results, seconds_of
 
 ID, FIRST_SENT, RESULT = "repeatability-request-id", "repeatability-first-sent", "repeatability-result"
 # By how many seconds a wait is longer than the service asks for, at most; and what it may ask for.
-_MOST_BACKOFF = 30.0
-_MOST_ASKED = 600.0
+_MOST_BACKOFF, _MOST_ASKED = 30.0, 600.0
 _NOTHING = batch_text([])
 # What settles nothing for good.
 _SETTLES_NOTHING = UNSURE | {424, 429, 503}
-# How a service that keeps batches rejects one that it does not take any more: it does not continue it.
+# How a service that keeps batches rejects one that it does not continue.
 _GIVEN_UP = frozenset({400, 412, 422, 501})
 
 
@@ -40,17 +39,34 @@ class Post(NamedTuple):
 Step = Union[Post, float]
 
 
+class _Outcome(NamedTuple):
+    """What a part was answered, or the exception in place of it; with a status, 0 if nobody knows any, and headers."""
+
+    value: Any
+    status: int = 0
+    headers: Mapping[str, str] = {}
+
+    @property
+    def is_success(self) -> bool:
+        return 200 <= self.status <= 299
+
+    def is_rejected(self, *statuses: int) -> bool:
+        """Whether a service that keeps batches has rejected one, by one of some statuses."""
+        return self.status in statuses and self.headers.get(RESULT) == "rejected"
+
+    @property
+    def is_lost(self) -> bool:
+        """Whether nobody knows if the part was performed, or it is being performed."""
+        return self.status == 0 or self.status in UNSURE or self.is_rejected(409)
+
+
 @dataclass
 class Patience:
     """How a client sends batches, and what it has learnt of its service.
 
     Attributes:
-        headers: What each part has beside the usual headers, by names in lower case.
-        timeout: For how many seconds an answer is waited for, or None.
-        attempts: How many in a row may bring nothing, from 1.
-        deadline: For how many seconds a batch is sent, or None.
-        backoff: How many seconds a first wait is longer than the service asks for, at most; it doubles up to 30.
-        keeps: Whether the service keeps a part, so that it may be posted again; None while that is not known.
+        keeps: Whether the service keeps a part, so that it may be posted again; None while that is not known. The other
+            attributes are those of the client.
 
     Raises:
         ValueError: An option has a value that it may not have.
@@ -62,7 +78,6 @@ class Patience:
     deadline: Optional[float]
     backoff: float
     keeps: Optional[bool]
-    now: Callable[[], float] = field(default=time.monotonic)
 
     def __post_init__(self) -> None:
         if isinstance(self.attempts, bool) or not isinstance(self.attempts, int) or self.attempts < 1:
@@ -85,9 +100,10 @@ class _Sending:
 
     def __init__(self, patience: Patience, limit: int, mode: Mode) -> None:
         self._patience, self._limit, self._mode = patience, limit, mode
-        self._end = float("inf") if patience.deadline is None else patience.now() + patience.deadline
+        self._end = time.monotonic() + (float("inf") if patience.deadline is None else patience.deadline)
         # How many attempts in a row have brought nothing, and whether the one that is on its way has brought anything.
         self._idle, self._moved = 0, False
+        # Why nothing more is sent.
         self._reason = ""
 
     def steps(self, batch: Batch) -> Generator[Step, Any, Results]:
@@ -106,15 +122,15 @@ class _Sending:
 
     def _next(self, results: Results) -> Optional[Batch]:
         """The batch that is to be sent after a send, or None; notes why what is left is not."""
-        if self._mode == "stop" and not self._reason:
-            failed = next((it for it in (*results.failed, *results.unknown) if 400 <= it.status != 424), None)
-            self._reason = "" if failed is None else f"{failed.id} has failed"
+        for it in (*results.failed, *results.unknown) if self._mode == "stop" else ():
+            if 400 <= it.status != 424:
+                self._reason = self._reason or f"{it.id} has failed"
         try:
             rest = results.rest()
         except ValueError as error:
             self._reason = self._reason or str(error)
             return None
-        return None if self._reason or not rest else rest
+        return None if self._reason else rest or None
 
     def _in_parts(self, batch: Batch) -> Generator[Step, Any, Results]:
         """Sends a batch once."""
@@ -134,25 +150,24 @@ class _Sending:
         while True:
             asks = lost is not None and self._patience.keeps is None
             document, sent = (_NOTHING, self._headers()) if asks else (part, given)
-            answered = self._read(document, (yield Post(document, sent, self._seconds())))
-            if not isinstance(answered, (Answer, Exception)):
-                return answered
-            self._learn(sent, answered)
-            if _is_success(answered):
+            tried = self._read(document, (yield Post(document, sent, self._seconds())))
+            self._learn(sent, tried)
+            if tried.is_success:
                 if not asks:
-                    return answered
+                    return tried.value
                 if self._patience.keeps:
                     continue
-            elif lost is None and ID in given and _is_rejected(answered, {501}):
+            elif lost is None and ID in given and tried.is_rejected(501):
                 given = self._headers()
                 continue
-            elif lost is None and not _is_lost(answered):
-                self._reason = _refusal_of_all(answered)
-                return answered
-            lost = lost or _in_doubt(answered)
-            if self._patience.keeps is False or _is_rejected(answered, _GIVEN_UP):
+            elif lost is None and not tried.is_lost:
+                if tried.status < 500 and tried.status != 429:
+                    self._reason = f"a part was answered {tried.status} as a whole"
+                return tried.value
+            lost = lost or (TimeoutError("the part is being performed") if tried.status == 409 else tried.value)
+            if self._patience.keeps is False or tried.is_rejected(*_GIVEN_UP):
                 return lost
-            seconds = self._pause(_retry_after(answered))
+            seconds = self._pause(seconds_of(tried.headers.get("retry-after", "")))
             if seconds is None:
                 return lost
             yield seconds
@@ -164,37 +179,34 @@ class _Sending:
             found.update({ID: str(uuid.uuid4()), FIRST_SENT: email.utils.formatdate(usegmt=True)})
         return found
 
-    def _read(self, document: bytes, posted: Any) -> Any:
-        """What a document was answered: an answer, an exception, or what is neither."""
+    def _read(self, document: bytes, posted: Any) -> _Outcome:
+        """What a document was answered. What is no answer is refused where it is taken."""
         if isinstance(posted, Exception):
-            return _unreachable(posted) if is_unsent(posted) else posted
+            return _outcome_of(posted)
         found = read_posted(posted)
         if not isinstance(found, (tuple, list)):
-            return posted
+            return _Outcome(posted, 200)
         answer = checked(found)
-        if not answer.is_success:
-            return answer
-        try:
+        if answer.is_success:
             text = b"" if answer.body is None else bytes_of(answer.body)
-            statuses = match(document, text[3:] if text.startswith(b"\xef\xbb\xbf") else text, mode=self._mode)
-        except ValueError as error:
-            return error
-        self._moved = self._moved or any(status not in _SETTLES_NOTHING for status in statuses.values())
-        return answer
+            try:
+                statuses = match(document, text[3:] if text.startswith(b"\xef\xbb\xbf") else text, mode=self._mode)
+            except ValueError as error:
+                return _Outcome(error)
+            self._moved = self._moved or not _SETTLES_NOTHING.issuperset(statuses.values())
+        return _Outcome(answer, answer.status, answer.headers)
 
-    def _learn(self, sent: Mapping[str, str], answered: Union[Answer, Exception]) -> None:
+    def _learn(self, sent: Mapping[str, str], tried: _Outcome) -> None:
         """Notes whether the service keeps what it is posted."""
-        if ID not in sent or isinstance(answered, Exception):
-            return
-        result = answered.headers.get(RESULT)
-        if result == "accepted":
+        result = tried.headers.get(RESULT)
+        if ID in sent and result == "accepted":
             self._patience.keeps = True
-        elif _is_rejected(answered, {501}) or (answered.is_success and result is None):
+        elif ID in sent and (tried.is_rejected(501) or (tried.is_success and result is None)):
             self._patience.keeps = False
 
     def _seconds(self) -> Optional[float]:
         """How long an answer is waited for."""
-        found = min(self._patience.timeout or self._end, max(self._end - self._patience.now(), 0.001))
+        found = min(self._patience.timeout or self._end, max(self._end - time.monotonic(), 0.001))
         return None if found == float("inf") else found
 
     def _pause(self, asked: float) -> Optional[float]:
@@ -206,47 +218,14 @@ class _Sending:
             self._reason = f"the last {patience.attempts} attempts have brought nothing"
         elif asked > _MOST_ASKED:
             self._reason = f"the service asks to wait {asked:.0f} seconds"
-        elif patience.now() + seconds >= self._end:
+        elif time.monotonic() + seconds >= self._end:
             self._reason = f"the deadline of {patience.deadline} seconds is over"
         return None if self._reason else seconds
 
 
-def _is_success(answered: Union[Answer, Exception]) -> bool:
-    return isinstance(answered, Answer) and answered.is_success
-
-
-def _is_rejected(answered: Union[Answer, Exception], statuses: Any) -> bool:
-    """Whether a service that keeps batches has rejected one, by one of some statuses."""
-    return isinstance(answered, Answer) and answered.status in statuses and answered.headers.get(RESULT) == "rejected"
-
-
-def _refusal_of_all(answered: Union[Answer, Exception]) -> str:
-    """Why no other part would be taken after this answer to one as a whole; empty if one may be."""
-    if isinstance(answered, Exception) or answered.status >= 500 or answered.status in _SETTLES_NOTHING:
-        return ""
-    return f"a part was answered {answered.status} as a whole"
-
-
-def _is_lost(answered: Union[Answer, Exception]) -> bool:
-    """Whether nobody knows if a part was performed, or it is being performed."""
-    if isinstance(answered, Refusal):
-        return answered.answer.status in UNSURE
-    return isinstance(answered, Exception) or answered.status in UNSURE or _is_rejected(answered, {409})
-
-
-def _in_doubt(answered: Union[Answer, Exception]) -> Union[Answer, Exception]:
-    """What the requests of a part are answered of which nobody knows more."""
-    return Refusal(504, "InProgress", "No answer came in time") if _is_rejected(answered, {409}) else answered
-
-
-def _unreachable(error: Exception) -> Refusal:
-    """What stands for a service to which there was no connection: nothing was performed."""
-    refusal = Refusal(503, "Unreachable", f"there is no connection: {error}")
-    refusal.__cause__ = error
-    return refusal
-
-
-def _retry_after(answered: Union[Answer, Exception]) -> float:
-    if isinstance(answered, Refusal):
-        answered = answered.answer
-    return 0.0 if isinstance(answered, Exception) else seconds_of(answered.headers.get("retry-after", ""))
+def _outcome_of(error: Exception) -> _Outcome:
+    """What an exception says. Without a connection nothing was performed: that is a 503."""
+    if is_unsent(error):
+        unreachable = Refusal(503, "Unreachable", f"there is no connection: {error}")
+        unreachable.__cause__, error = error, unreachable
+    return _Outcome(error, error.answer.status, error.answer.headers) if isinstance(error, Refusal) else _Outcome(error)

@@ -1,11 +1,12 @@
 """A client that waits and repeats, over a scripted service: what is posted again, how long it waits, when and why it ends."""
 
+import copy
 import time
 from email.utils import formatdate, parsedate_to_datetime
 
 import pytest
 
-from odb_batch import Answer, Refusal
+from odb_batch import Answer, Fault, Refusal
 from odb_batch.client import AsyncBatchClient, Batch, BatchClient, BatchFailed
 from odb_batch.client import _patience
 from odb_batch.testing import Scripted
@@ -240,6 +241,15 @@ def test_options_without_a_value(client, options, message):
 def test_what_is_no_session(session):
     with pytest.raises(TypeError, match="session must be of requests or httpx, or a function, not a "):
         BatchClient(session)
+
+
+def test_a_refused_batch_names_the_request():
+    batch = posts("a")
+    batch.get("B", id="b", after="nobody")
+    for refused in (batch.check, lambda: send(batch, Scripted()), lambda: batch.send(Scripted().post)):
+        with pytest.raises(Fault, match='^F40 b: "nobody" in dependsOn is unknown. UnknownName: ') as raised:
+            refused()
+        assert raised.value.place == "/requests/1" and str(copy.copy(raised.value)) == str(raised.value)
 
 
 def test_what_a_function_has_to_return():
