@@ -147,7 +147,7 @@ class Sending {
       const answer = await this.#stop.within(timeout, async (wait) => {
         return readAnswer(await fetch(url, { ...request, signal: wait?.signal }))
       })
-      this.#learn(answer, ID in id)
+      if (ID in id) this.#learn(answer)
       if (isSuccess(answer)) {
         const statuses = [...match(body, unmarked(answer.body), { mode }).values()]
         this.#moved ||= statuses.some((status) => !SETTLES_NOTHING.includes(status))
@@ -158,11 +158,12 @@ class Sending {
     }
   }
 
-  /** Notes whether the service keeps what it is posted with an id. */
-  #learn(answer, hasId) {
+  /** Notes whether the service keeps what it is posted. Once it has said so, a page of a proxy says nothing else. */
+  #learn(answer) {
     const result = answer.headers[RESULT]
-    if (hasId && result === 'accepted') this.#patience.keeps = true
-    else if (hasId && (isRejected(answer, [501]) || (isSuccess(answer) && result === undefined))) this.#patience.keeps = false
+    if (result === 'accepted') this.#patience.keeps = true
+    else if (isRejected(answer, [501])) this.#patience.keeps = false
+    else if (isSuccess(answer) && result === undefined) this.#patience.keeps ??= false
   }
 
   /** Waits before more is posted; false if nothing more is, which it notes why. */

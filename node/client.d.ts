@@ -220,7 +220,7 @@ export class Results implements Iterable<Result> {
   readonly left: Result[]
   /** The requests of which nobody knows whether they were performed: those with 408, 502 or 504 that are not left. */
   readonly unknown: Result[]
-  /** Why {@link BatchClient.send} has sent nothing more though something is left or unknown; else empty. */
+  /** Why {@link BatchClient.send} has ended; empty if nothing is left to be sent. */
   readonly reason: string
   /** Returns the results themselves if all requests are done; else throws {@link BatchFailed}, with an error for each that is not. */
   raiseForStatus(): this

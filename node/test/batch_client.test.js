@@ -72,6 +72,14 @@ test('asks a service that keeps a part until it says what was done', async () =>
   assert.deepEqual(countsOf(await send(posts('a', 'b'), late, { limit: 1 })), [1, 0, 0, 1])
 })
 
+test('does not ask again for what is no response to a batch', async () => {
+  for (const page of [{ status: 200, body: '<html>' }, { status: 202 }]) {
+    const service = new Service({}, { schedule: [page] })
+    const results = await send(posts('a'), service)
+    assert.deepEqual([countsOf(results), service.documents.length, results.error.code], [[0, 0, 0, 1], 1, 'F02'])
+  }
+})
+
 test('says why it has stopped', async () => {
   const cases = [
     [{ schedule: Array(9).fill(503) }, { attempts: 3 }, 'the last 3 attempts have brought nothing', 3],

@@ -7,7 +7,7 @@ import uuid
 from dataclasses import dataclass
 from typing import Any, Dict, Generator, Mapping, NamedTuple, Optional, Union
 
-from .._answers import checked
+from .._answers import LOG, checked
 from .._commands import Mode, match
 from .._documents import bytes_of
 from .._elements import batch_text
@@ -117,6 +117,7 @@ class _Sending:
             seconds = self._pause(results.retry_after) if rest else None
             if rest is None or seconds is None:
                 return Results(batch, document, answers, results.rest, error, self._reason)
+            LOG.info("%d requests are sent again in %.1f seconds", len(rest), seconds)
             yield seconds
             left = rest
 
@@ -150,8 +151,7 @@ class _Sending:
         while True:
             asks = lost is not None and self._patience.keeps is None
             document, sent = (_NOTHING, self._headers()) if asks else (part, given)
-            tried = self._read(document, (yield Post(document, sent, self._seconds())))
-            self._learn(sent, tried)
+            tried = self._read(document, sent, (yield Post(document, sent, self._seconds())))
             if tried.is_success:
                 if not asks:
                     return tried.value
@@ -170,6 +170,7 @@ class _Sending:
             seconds = self._pause(seconds_of(tried.headers.get("retry-after", "")))
             if seconds is None:
                 return lost
+            LOG.info("a part is posted again in %.1f seconds: %s", seconds, tried.status or repr(tried.value))
             yield seconds
 
     def _headers(self) -> Dict[str, str]:
@@ -179,7 +180,7 @@ class _Sending:
             found.update({ID: str(uuid.uuid4()), FIRST_SENT: email.utils.formatdate(usegmt=True)})
         return found
 
-    def _read(self, document: bytes, posted: Any) -> _Outcome:
+    def _read(self, document: bytes, sent: Mapping[str, str], posted: Any) -> _Outcome:
         """What a document was answered. What is no answer is refused where it is taken."""
         if isinstance(posted, Exception):
             return _outcome_of(posted)
@@ -187,6 +188,7 @@ class _Sending:
         if not isinstance(found, (tuple, list)):
             return _Outcome(posted, 200)
         answer = checked(found)
+        self._learn(sent, _Outcome(answer, answer.status, answer.headers))
         if answer.is_success:
             text = b"" if answer.body is None else bytes_of(answer.body)
             try:
@@ -197,11 +199,11 @@ class _Sending:
         return _Outcome(answer, answer.status, answer.headers)
 
     def _learn(self, sent: Mapping[str, str], tried: _Outcome) -> None:
-        """Notes whether the service keeps what it is posted."""
-        result = tried.headers.get(RESULT)
+        """Notes whether the service keeps what it is posted. Once it has said so, a page of a proxy says nothing else."""
+        result, is_known = tried.headers.get(RESULT), self._patience.keeps is not None
         if ID in sent and result == "accepted":
             self._patience.keeps = True
-        elif ID in sent and (tried.is_rejected(501) or (tried.is_success and result is None)):
+        elif ID in sent and (tried.is_rejected(501) or (tried.is_success and result is None and not is_known)):
             self._patience.keeps = False
 
     def _seconds(self) -> Optional[float]:

@@ -134,7 +134,7 @@ class Results:
     Attributes:
         error: The exception by which a part was not answered, the last if there are several: what ``post`` raised, or the
             Fault of what is not the response to it; else None.
-        reason: Why nothing more was sent though something is left or unknown, of :meth:`BatchClient.send`; else empty.
+        reason: Why :meth:`BatchClient.send` has ended; empty if nothing is left to be sent.
     """
 
     error: Optional[Exception]

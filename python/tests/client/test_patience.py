@@ -167,6 +167,19 @@ class TestRepeatableParts:
         assert counts(results) == [1, 0, 0, 1] and results["a"].status == 502 and heard.service.performed == {"a": 1, "b": 2}
         assert heard.ids[-1] is None and isinstance(results.error, ConnectionError)
 
+    @pytest.mark.parametrize("status, body", [(200, b"<html>"), (202, b"")])
+    def test_what_is_no_response_to_a_batch(self, status, body):
+        """As a page for a login, or a batch that is performed later: the service keeps none, and is not asked again."""
+        heard = Heard(schedule=[Answer(status, {}, body)])
+        results = send(posts("a"), heard)
+        assert counts(results) == [0, 0, 0, 1] and len(heard.ids) == 1 and results.error.code == "F02"
+
+    def test_what_is_repeated_is_in_the_log(self, caplog):
+        caplog.set_level("INFO", "odb_batch")
+        send(posts("a", "b"), Scripted({"b": [503, 201]}, schedule=["answer", "lose"], repeatable=True, retry_after=0), limit=1)
+        assert "a part is posted again in 0.0 seconds: ConnectionError('the answer is lost')" in caplog.text
+        assert "1 requests are sent again in 0.0 seconds" in caplog.text
+
     def test_without_asking_for_it(self):
         heard = Heard(repeatable=True, schedule=["lose"])
         assert counts(send(posts("a"), heard, repeatable=False)) == [0, 0, 0, 1] and heard.ids == [None]
