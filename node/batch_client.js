@@ -124,7 +124,8 @@ class Sending {
         sent = this.#idOf()
         continue
       } else if (lost === undefined && !isLost(tried)) {
-        if (tried.status < 500 && tried.status !== 429) this.#reason = `a part was answered ${tried.status} as a whole`
+        const isFinal = tried.status < 500 && !SETTLES_NOTHING.includes(tried.status)
+        if (isFinal) this.#reason = `a part was answered ${tried.status} as a whole`
         return valueOf(tried)
       }
       lost ??= tried.status === 409 ? new Failure(new Refusal(504, 'InProgress', 'No answer came in time')) : tried

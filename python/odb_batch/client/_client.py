@@ -15,6 +15,8 @@ from ._results import Results
 class _Sender:
     """What both clients are made of."""
 
+    _is_async = False
+
     def __init__(
         self,
         session: Any,
@@ -27,7 +29,7 @@ class _Sender:
         backoff: float = 1.0,
         repeatable: bool = True,
     ) -> None:
-        self._session, self._post_by = session, post_by(session, url)
+        self._session, self._post_by = session, post_by(session, url, self._is_async)
         self._patience = Patience(headers, timeout, attempts, deadline, backoff, None if repeatable else False)
 
 
@@ -106,6 +108,8 @@ class BatchClient(_Sender):
 class AsyncBatchClient(_Sender):
     """Does what :class:`BatchClient` does by an ``AsyncClient`` of httpx, or by a coroutine function. A block of ``async
     with`` closes the session at its end."""
+
+    _is_async = True
 
     async def send(self, batch: Batch, *, limit: int = MOST, mode: Mode = "continue") -> Results:
         """Does what :meth:`BatchClient.send` does. If its task is cancelled, what was answered is lost."""

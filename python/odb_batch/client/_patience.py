@@ -161,7 +161,7 @@ class _Sending:
                 given = self._headers()
                 continue
             elif lost is None and not tried.is_lost:
-                if tried.status < 500 and tried.status != 429:
+                if tried.status < 500 and tried.status not in _SETTLES_NOTHING:
                     self._reason = f"a part was answered {tried.status} as a whole"
                 return tried.value
             lost = lost or (TimeoutError("the part is being performed") if tried.status == 409 else tried.value)

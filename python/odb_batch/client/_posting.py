@@ -33,26 +33,28 @@ Posted = Union[Answered, HttpResponse]
 PostBy = Callable[[bytes, Dict[str, str], Optional[float]], Any]
 
 
-def post_by(session: Any, url: str) -> PostBy:
-    """Returns what posts by a client of HTTP, which is known by the name of its library, or by a function.
+def post_by(session: Any, url: str, is_async: bool) -> PostBy:
+    """Returns what posts by a client of HTTP, which is known by the names of its class and library, or by a function.
 
     Args:
         session: A ``Session`` of requests, a client of httpx, or a function that takes a document and headers.
         url: The URL of the service, with ``$batch`` at its end or without.
+        is_async: Whether what is posted is awaited.
 
     Raises:
-        TypeError: The session is neither.
+        TypeError: The session is neither, or is not awaited though it should be.
     """
     root, mark, query = url.partition("?")
     url = (root if root.endswith("$batch") else f"{root.rstrip('/')}/$batch".lstrip("" if root else "/")) + mark + query
-    libraries = {base.__module__.partition(".")[0] for base in type(session).__mro__}
-    if "requests" in libraries:
+    names = {(base.__module__.partition(".")[0], base.__name__) for base in type(session).__mro__}
+    if not is_async and ("requests", "Session") in names:
         return lambda document, headers, seconds: session.post(url, data=document, headers=headers, timeout=seconds)
-    if "httpx" in libraries:
+    if ("httpx", "AsyncClient" if is_async else "Client") in names:
         return lambda document, headers, seconds: session.post(url, content=document, headers=headers, timeout=seconds)
     if callable(session):
         return lambda document, headers, seconds: session(document, headers)
-    raise TypeError(f"session must be of requests or httpx, or a function, not a {type(session).__name__}")
+    wanted = "an AsyncClient of httpx or a coroutine function" if is_async else "of requests or httpx, or a function"
+    raise TypeError(f"session must be {wanted}, not a {type(session).__name__}")
 
 
 def read_posted(posted: Any) -> Any:

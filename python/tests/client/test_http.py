@@ -329,6 +329,16 @@ def test_a_client_that_has_no_connection(patient):
     assert [it.status for it in results.left] == [503] and results.error.__cause__ is not None
 
 
+def test_a_client_takes_sessions_of_its_own_kind():
+    requests = pytest.importorskip("requests", reason="requests is not installed")
+    httpx = pytest.importorskip("httpx", reason="httpx is not installed")
+    for session in (requests.Session(), httpx.Client()):
+        with pytest.raises(TypeError, match="an AsyncClient of httpx or a coroutine function, not a (Session|Client)$"):
+            AsyncBatchClient(session)
+    with pytest.raises(TypeError, match="of requests or httpx, or a function, not a AsyncClient$"):
+        BatchClient(httpx.AsyncClient())
+
+
 @pytest.mark.parametrize("url, wanted", [
     ("https://host/odata", "https://host/odata/$batch"), ("https://host/odata/", "https://host/odata/$batch"),
     ("https://host/odata/$batch", "https://host/odata/$batch"), ("https://host/?client=1", "https://host/$batch?client=1"),
