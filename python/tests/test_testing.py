@@ -189,5 +189,22 @@ class TestScripted:
         with pytest.raises(TypeError, match="a is answered by statuses from 200 to 599"):
             Scripted({"a": scene})
 
+    @pytest.mark.parametrize("schedule", [["lost"], "lose", [99], [None]])
+    def test_what_becomes_of_no_batch(self, schedule):
+        with pytest.raises(TypeError, match="a batch is answered by statuses from 200 to 599"):
+            Scripted(schedule=schedule)
+
+    def test_what_is_kept_is_answered_again(self):
+        service, sent = Scripted(repeatable=True, schedule=["lose", "hang up"]), "Sun, 29 Nov 2026 12:00:00 GMT"
+        document, headers = json.dumps(self.BATCH).encode(), {"Repeatability-Request-ID": "x", "repeatability-first-sent": sent}
+        for _ in range(2):
+            with pytest.raises(ConnectionError):
+                service.post(document, headers)
+        first, second = service.post(document, headers), service.post(document, headers)
+        assert first == second and first[1]["repeatability-result"] == "accepted" and set(service.performed.values()) == {1}
+        other = service.post(document + b" ", headers)
+        assert (other[0], other[1]["repeatability-result"]) == (422, "rejected")
+        assert Scripted(repeatable=False).post(document, headers)[0] == 501 and Scripted().post(document, headers)[0] == 200
+
     def test_for_clients_that_await(self):
         assert asyncio.run(Scripted().post_async(b'{"requests":[]}'))[2] == b'{"responses":[]}'

@@ -21,6 +21,7 @@ Response = Tuple[int, Dict[str, str], bytes]
 _JSON = {"content-type": "application/json"}
 _DEFAULTS = {"POST": 201, "GET": 200}
 _BUSY = (429, 503)
+_HAPPENINGS = ("answer", "hang up", "lose")
 _ID, _FIRST_SENT, _RESULT = "repeatability-request-id", "repeatability-first-sent", "repeatability-result"
 
 
@@ -48,7 +49,8 @@ class Scripted:
             should; None if it takes no notice of that header.
 
     Raises:
-        TypeError: What a request is answered is neither a status from 200 to 599 nor an Answer, nor a list of them.
+        TypeError: What a request is answered is neither a status from 200 to 599 nor an Answer, nor a list of them; or what
+            a list has for a batch is none of the schedule.
 
     Attributes:
         documents: The batches that it was sent, as they came.
@@ -70,6 +72,9 @@ class Scripted:
     ) -> None:
         self._script = {id: _scenes(id, it) for id, it in script.items()}
         self._limit, self._mode, self._retry_after = limit, mode, str(retry_after)
+        for happening in schedule if isinstance(schedule, Sequence) else ():
+            if happening not in _HAPPENINGS:
+                _scenes("a batch", happening)
         self._schedule, self._repeatable = iter(schedule), repeatable
         # Of each id the document, the date and what was answered.
         self._kept: Dict[str, Tuple[bytes, str, Response]] = {}
