@@ -173,8 +173,7 @@ for (const repeatable of [true, false, undefined]) {
       const isOnce = ({ id }) => ['POST', 'PATCH'].includes(document.requests.find((it) => it.id === id).method.toUpperCase())
       assert.equal(countsOf(results).reduce((sum, it) => sum + it), results.size)
       assert(done.every((it) => performed(it) >= 1), `seed ${seed}: done`)
-      assert(failed.every((it) => performed(it) === 0), `seed ${seed}: failed`)
-      assert(left.filter(isOnce).every((it) => performed(it) === 0), `seed ${seed}: left`)
+      assert([...failed, ...left].filter(isOnce).every((it) => performed(it) === 0), `seed ${seed}: failed or left`)
       assert([...results].filter(isOnce).every((it) => performed(it) <= 1), `seed ${seed}: once`)
       unknown += results.unknown.length
     }
