@@ -144,7 +144,7 @@ class TestRepeatableParts:
         assert len(set(heard.ids)) == 2 and None not in heard.ids
         assert abs(parsedate_to_datetime(heard.headers[0][FIRST_SENT]).timestamp() - time.time()) < 60
 
-    @pytest.mark.parametrize("trouble", ["lose", "hang up", 502, 504, 408, Answer(200, {}, b"{")])
+    @pytest.mark.parametrize("trouble", ["lose", "hang up", 502, 504, 408, rejected(409), Answer(200, {}, b"{")])
     def test_are_posted_again_as_they_were(self, trouble):
         heard = Heard(repeatable=True, schedule=["answer", trouble, 503, rejected(409), 500, "hang up"], retry_after=0)
         assert counts(send(posts("a", "b"), heard, limit=1)) == [2, 0, 0, 0]
