@@ -3,7 +3,6 @@
 import os
 import sys
 import tempfile
-import time
 import urllib.error
 import urllib.request
 from decimal import Decimal
@@ -13,7 +12,7 @@ sys.path.append(os.path.join(os.path.dirname(os.path.abspath(__file__)), "servic
 
 from app import make_app
 
-from odb_batch.client import Batch, Result, headers
+from odb_batch.client import Batch, BatchClient
 from odb_batch.conformance import serving
 
 Posted = Tuple[int, Dict[str, str], bytes]
@@ -29,11 +28,11 @@ def lending(reader: int) -> Batch:
     return batch
 
 
-def posting(url: str) -> Callable[[bytes], Posted]:
+def posting(url: str) -> Callable[[bytes, Dict[str, str]], Posted]:
     """Posts batches by the standard library."""
 
-    def post(document: bytes) -> Posted:
-        request = urllib.request.Request(url, document, headers())
+    def post(document: bytes, headers: Dict[str, str]) -> Posted:
+        request = urllib.request.Request(url, document, headers)
         try:
             with urllib.request.urlopen(request, timeout=30) as answer:
                 return answer.status, dict(answer.headers), answer.read()
@@ -43,33 +42,15 @@ def posting(url: str) -> Callable[[bytes], Posted]:
     return post
 
 
-def send_patiently(batch: Batch, post: Callable[[bytes], Posted], idle: int = 5) -> Tuple[Dict[str, Result], Batch]:
-    """Sends a batch, and what is left of it, until nothing is left or so many sends in a row have settled nothing.
-
-    Returns what each request was answered last, and the batch of what is left."""
-    found: Dict[str, Result] = {}
-    tries = 0
-    while batch and tries < idle:
-        results = batch.send(post, limit=20)
-        found.update({result.id: result for result in results})
-        rest = results.rest()
-        tries = 0 if len(rest) < len(batch) else tries + 1
-        batch = rest
-        if batch and tries < idle:
-            time.sleep(min(max(results.retry_after, 2.0**tries - 1), 60))
-    return found, batch
-
-
 def main() -> None:
     batch = lending(42)
     print(batch.check())
     with tempfile.TemporaryDirectory() as folder, serving(make_app(os.path.join(folder, "library"))) as url:
-        results = batch.send(posting(f"{url}/library/$batch"), limit=2)
-        for result in results:
-            print(result.id, result.status)
+        client = BatchClient(posting(f"{url}/library/$batch"))
+        results = client.send(batch, limit=2)
+        print(results)
         print(results["lent"].json(parse_float=Decimal))
-        again = batch.send(posting(f"{url}/library/$batch"))
-        print(again, len(again.rest()))
+        print(client.send(batch))
 
 
 if __name__ == "__main__":

@@ -1,7 +1,7 @@
 // The entry `odb-batch/client`.
 
-import type { Bytes, Counts, Document } from './index'
-import type { Answer, Fetched } from './perform'
+import type { Bytes, Counts, Document, HeaderValues } from './index'
+import type { Answer, Fetched, Signal } from './perform'
 
 /** A request of a {@link Batch}. As a text it is the reference `$id`, for URLs and conditions of later requests. */
 export class Reference {
@@ -96,7 +96,7 @@ export class Batch {
   /** Returns the document of the batch, as JSON. */
   document(): Bytes
 
-  /** Returns its counts. Throws a `Fault` if it is refused; the place says which request is wrong. */
+  /** Returns its counts. Throws a `Fault` if it is refused: the message has the code, the id of the request and what is wrong. */
   check(): Counts
 
   /**
@@ -117,6 +117,52 @@ export class Batch {
   send(post: Post, options?: SendOptions): Promise<Results>
 }
 
+/** Options of a {@link BatchClient}. */
+export interface ClientOptions {
+  /** What posts, as the global `fetch`, which is the default: with own authentication, or an agent. */
+  fetch?: (url: string, options: PostedBatch & { signal?: Signal }) => Fetched | Promise<Fetched>
+  /** Headers that each batch has besides, as `Authorization`. */
+  headers?: HeaderValues
+  /** For how many milliseconds an answer is waited for, up to 2³¹ - 1 or `Infinity`; 60,000 is the default. */
+  timeout?: number
+  /** How many attempts in a row may bring nothing, from 1; 8 is the default. */
+  attempts?: number
+  /** For how many milliseconds a batch is sent; `Infinity` is the default. A wait that would be longer ends it at once. */
+  deadline?: number
+  /**
+   * How many milliseconds a first wait is longer than `Retry-After`, at most: a random part of it, which doubles with each
+   * attempt that brings nothing, up to 30,000; 1,000 is the default.
+   */
+  backoff?: number
+  /**
+   * Whether the service is asked to keep each part, so that one that is not answered may be posted again and is performed once
+   * (OASIS Repeatable Requests 1.0); true is the default. If it does not keep them, nothing of that is done.
+   */
+  repeatable?: boolean
+}
+
+/** Posts batches to a service by `fetch`, waits while it is busy, and sends again what may be sent again. */
+export class BatchClient {
+  /**
+   * Throws a `RangeError` for an option that has none of its values, and a `TypeError` for one with another name.
+   *
+   * @param url The URL of the service, above its `$batch`.
+   */
+  constructor(url: string, options?: ClientOptions)
+
+  /**
+   * Sends a batch as {@link Batch.send} does, waits and sends its rest, until nothing is left or nothing more is to be sent: after
+   * so many attempts, at the deadline, after a `Retry-After` of more than 600 seconds, if a part is refused as a whole by 3xx or
+   * 4xx, or in mode `stop` after an error. `reason` of the results says which.
+   *
+   * A part of which nobody knows whether it was performed is posted again, with the id by which the service keeps it. If the
+   * service keeps none, its requests are as {@link Results.rest} says: a POST or a PATCH is not sent again.
+   *
+   * The results have what each request was answered last, over all sends. Rejects as {@link Batch.send} does.
+   */
+  send(batch: Batch, options?: SendOptions): Promise<Results>
+}
+
 /** What one request was answered. */
 export class Result {
   private constructor()
@@ -129,19 +175,30 @@ export class Result {
   readonly body: Bytes
   /** Whether the status is one from 200 to 299. */
   readonly ok: boolean
-  /** Returns the value of the body. Throws a `SyntaxError` if it is not JSON. */
+  /** Its method and its URL in the batch without the query, as `POST $order/Lines`. */
+  readonly operation: string
+  /** Returns the value of the body, or what a function makes of it. Throws a `SyntaxError` if it is not JSON. */
   json(): any
+  json<T>(type: (value: any) => T): T
   /** Returns the result itself if it is a success; else throws {@link RequestFailed}. */
   raiseForStatus(): this
 }
 
 /**
- * A request of a batch did not succeed. Its message has the id, the status, and what the error object of OData says (OData JSON
- * Format 4.01, section 21.1), as `order 409 Sold: no copy is left`.
+ * A request of a batch did not succeed. Its message has the id, the operation, the status, and what the error object of OData says
+ * (OData JSON Format 4.01, section 21.1), as `order (POST Orders) 409 Sold: no copy is left`.
  */
 export class RequestFailed extends Error {
   private constructor()
   readonly result: Result
+}
+
+/** Requests of a batch are not done. Its message is the text of the results. */
+export class BatchFailed extends Error {
+  private constructor()
+  readonly results: Results
+  /** One for each request that is not done, in the order of the batch. */
+  readonly errors: readonly RequestFailed[]
 }
 
 /** What the requests of a batch were answered: a {@link Result} for each, in the order of the batch. */
@@ -155,13 +212,25 @@ export class Results implements Iterable<Result> {
   get(id: string): Result | undefined
   /** How many they are. */
   readonly size: number
+  /** The requests that were performed: answered from 200 to 299, as all others of their group. */
+  readonly done: Result[]
+  /** The requests that were answered for good by another status, or depend on one that is failed or unknown. */
+  readonly failed: Result[]
+  /** The requests that may be sent again: those of {@link rest}. */
+  readonly left: Result[]
+  /** The requests of which nobody knows whether they were performed: those with 408, 502 or 504 that are not left. */
+  readonly unknown: Result[]
+  /** Why {@link BatchClient.send} has ended; empty if nothing is left to be sent. */
+  readonly reason: string
+  /** Returns the results themselves if all requests are done; else throws {@link BatchFailed}, with an error for each that is not. */
+  raiseForStatus(): this
   /**
    * For how many seconds the service asks to wait before the rest is sent: the greatest `Retry-After` of what did not succeed
    * (RFC 9110, section 10.2.3), up to then if it is a date; 0 if it asks for nothing.
    */
   readonly retryAfter: number
   /**
-   * Returns the batch of what failed for now or was skipped, and may be sent again; one of no requests if nothing may.
+   * Returns the batch of what failed for now or was skipped, and may be sent again; null if nothing may.
    *
    * A request may be sent again if it was answered 424, 429 or 503, since nothing was performed then; or 408, 502 or 504, if it
    * is a GET, a PUT or a DELETE, since nobody knows. A group is in the rest as a whole: if it has failed, what succeeded in it was
@@ -171,10 +240,13 @@ export class Results implements Iterable<Result> {
    * Throws a `RangeError` if a request refers to one that was answered without an ETag, or without a usable URL of what it has
    * created.
    */
-  rest(): Batch
-  /** What `post` threw, or why what it returned is not the response to a part; undefined if each part was answered. */
+  rest(): Batch | null
+  /**
+   * What `post` threw, or why what it returned is not the response to a part, the last if there are several; undefined if each
+   * part was answered.
+   */
   readonly error: unknown
-  /** The status of each request after its id, as `1 201, 2 409`. */
+  /** How many requests are done, and each that is not, with why; `console.log` shows it, too. */
   toString(): string
   [Symbol.iterator](): Iterator<Result>
 }

@@ -2,15 +2,18 @@
 
 // A batch that is made by calls. client.d.ts says what each takes and returns.
 
+const { BatchClient } = require('./batch_client.js')
 const { isJson, toJson } = require('./bodies.js')
 const { check, optionsOf, plan } = require('./commands.js')
 const { arrayOf, headersOf, kindOf } = require('./documents.js')
 const { batchText, elementText } = require('./elements.js')
+const { Fault } = require('./faults.js')
 const { foldedOf, mediaTypeOf, readAnswer } = require('./messages.js')
 const { Parts } = require('./parts.js')
 const { OF_ETAGS } = require('./references.js')
 const { requests } = require('./requests.js')
-const { RequestFailed, Result, Results } = require('./results.js')
+const { restOf } = require('./rest.js')
+const { BatchFailed, RequestFailed, Result, Results } = require('./results.js')
 const { firstSegment } = require('./urls.js')
 
 const OF_REQUEST = ['after', 'headers', 'id']
@@ -92,7 +95,18 @@ function referredBy(url, headers) {
   return values.filter((it) => it.startsWith('$')).map((it) => it.slice(1))
 }
 
+/** Calls a function. The message of a fault names the request, not its position. */
+function naming(call) {
+  try {
+    return call()
+  } catch (error) {
+    if (error instanceof Fault) error.message = `${error.code} ${error.details}`
+    throw error
+  }
+}
+
 class Batch {
+  // The text of each request, with its id, its group or null, and its operation.
   #elements = []
   // The group of each request, or null, by its id, and of each group itself: what is taken as a name.
   #names = new Map()
@@ -172,23 +186,25 @@ class Batch {
   }
 
   document() {
-    return batchText(this.#elements)
+    return batchText(this.#elements.map(({ text }) => text))
   }
 
   check() {
-    return check(this.document())
+    return naming(() => check(this.document()))
   }
 
   async send(post, options = {}) {
     const { mode, limit } = optionsOf(options, OF_SEND)
     if (typeof post !== 'function') throw new TypeError('what posts a batch must be a function')
-    const parts = new Parts(this.document(), { mode, limit })
+    const parts = naming(() => new Parts(this.document(), { mode, limit }))
     const answered = async (body) => readAnswer(await post({ method: 'POST', headers: headersOfBatch(mode), body }))
     for (let body; (body = parts.next()) !== undefined; ) {
       const answer = await answered(body).catch((error) => parts.fail(error))
       if (answer !== undefined) parts.take(answer)
     }
-    return new Results(parts, (named) => Named.nameIn(this.#origin, named), (document) => this.#restOf(document))
+    const requests = new Map(this.#elements.map((it) => [it.id, it]))
+    const sent = { document: parts.document, requests, nameOf: (named) => Named.nameIn(this.#origin, named) }
+    return new Results(sent, parts.answers, () => this.#restOf(restOf(parts.document, parts.responses())), parts)
   }
 
   /** The batch of a document with requests of this one, for which the same references hold. */
@@ -209,7 +225,9 @@ class Batch {
   }
 
   #append(request, needs) {
-    this.#elements.push(elementText(request, needs))
+    const { id, group, method, url } = request
+    const operation = `${method.toUpperCase()} ${url.split('?', 1)[0]}`
+    this.#elements.push({ id, group, operation, text: elementText(request, needs) })
     this.#take(request.id, request.group)
     if (request.group !== null) this.#takeGroup(request.group)
   }
@@ -254,4 +272,4 @@ class Batch {
   }
 }
 
-module.exports = { Batch, Group, Reference, RequestFailed, Result, Results }
+module.exports = { Batch, BatchClient, BatchFailed, Group, Reference, RequestFailed, Result, Results }

@@ -190,4 +190,4 @@ class Parts {
   }
 }
 
-module.exports = { Parts }
+module.exports = { Parts, unmarked }

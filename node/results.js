@@ -2,14 +2,20 @@
 
 // What the requests of a batch were answered. client.d.ts says what each member is.
 
+const { plan, rest } = require('./commands.js')
 const { isSuccess } = require('./messages.js')
-const { restOf } = require('./rest.js')
 
 // Numbers of seconds above it are read as it (RFC 9111, section 1.2.2).
 const MOST_SECONDS = 2 ** 31
 // How a date begins (RFC 9110, section 5.6.7); one of asctime has no zone, and is in UTC.
 const DATE = /^(Mon|Tue|Wed|Thu|Fri|Sat|Sun)[a-z]*, /
 const DATE_OF_ASCTIME = /^(Mon|Tue|Wed|Thu|Fri|Sat|Sun) [A-Z].+[0-9]$/
+// After these statuses nobody knows whether a request was performed.
+const UNSURE = [408, 502, 504]
+// How many requests that are not done a text lists.
+const MOST_LISTED = 20
+// What console.log shows of an object in Node.
+const INSPECT = Symbol.for('nodejs.util.inspect.custom')
 
 /** The code and the message of an error object, where a body is one (OData JSON Format 4.01, section 21.1). */
 function errorText(body) {
@@ -30,26 +36,35 @@ function secondsOf(value) {
 
 class RequestFailed extends Error {
   constructor(result) {
-    super(`${result.id} ${result.status}${errorText(result.body)}`)
+    super(`${result.id} (${result.operation}) ${result.status}${errorText(result.body)}`)
     this.name = 'RequestFailed'
     this.result = result
   }
 }
 
+class BatchFailed extends AggregateError {
+  constructor(results, errors) {
+    super(errors, String(results))
+    this.name = 'BatchFailed'
+    this.results = results
+  }
+}
+
 class Result {
-  constructor(id, { status, headers, body }) {
+  constructor(id, { status, headers, body }, operation) {
     this.id = id
     this.status = status
     this.headers = { ...headers }
     this.body = body
+    this.operation = operation
   }
 
   get ok() {
     return isSuccess(this)
   }
 
-  json() {
-    return JSON.parse(this.body.toString())
+  json(type = (value) => value) {
+    return type(JSON.parse(this.body.toString()))
   }
 
   raiseForStatus() {
@@ -59,29 +74,48 @@ class Result {
 }
 
 class Results {
+  #sent
   #found
-  #parts
-  #nameOf
-  #batchOf
+  #rest
+  // What became of each request, by its id, once that was asked for.
+  #kinds
 
-  /**
-   * `nameOf` returns the id of a request by what the batch has returned for it, and `batchOf` the batch of a document for which
-   * the same holds.
-   */
-  constructor(parts, nameOf, batchOf) {
-    this.#parts = parts
-    this.#nameOf = nameOf
-    this.#batchOf = batchOf
-    this.#found = new Map(Array.from(parts.answers, ([id, answer]) => [id, new Result(id, answer)]))
-    this.error = parts.error
+  /** `sent` is the batch: its `document`, of each id the `group` and the `operation`, and `nameOf` a reference. */
+  constructor(sent, answers, rest, { error, reason = '' } = {}) {
+    this.#sent = sent
+    this.#rest = rest
+    this.#found = new Map(Array.from(answers, ([id, answer]) => [id, new Result(id, answer, sent.requests.get(id).operation)]))
+    this.error = error
+    this.reason = reason
+  }
+
+  /** The results of several sends: of the first batch, what its requests were answered last, and the rest of the last one. */
+  static joined(first, found, last, more) {
+    return new Results(first.#sent, found, last.#rest, more)
   }
 
   get(request) {
-    return this.#found.get(this.#nameOf(request))
+    return this.#found.get(this.#sent.nameOf(request))
   }
 
   get size() {
     return this.#found.size
+  }
+
+  get done() {
+    return this.#of('done')
+  }
+
+  get failed() {
+    return this.#of('failed')
+  }
+
+  get left() {
+    return this.#of('left')
+  }
+
+  get unknown() {
+    return this.#of('unknown')
   }
 
   get retryAfter() {
@@ -89,17 +123,62 @@ class Results {
     return waits.reduce((most, it) => Math.max(most, secondsOf(it)), 0)
   }
 
+  raiseForStatus() {
+    const errors = Array.from(this).filter(({ id }) => this.#kindOf(id) !== 'done').map((it) => new RequestFailed(it))
+    if (errors.length > 0) throw new BatchFailed(this, errors)
+    return this
+  }
+
   rest() {
-    return this.#batchOf(restOf(this.#parts.document, this.#parts.responses()))
+    const batch = this.#rest()
+    return batch.size > 0 ? batch : null
   }
 
   toString() {
-    return Array.from(this, ({ id, status }) => `${id} ${status}`).join(', ')
+    const kinds = { done: this.done, failed: this.failed, left: this.left, unknown: this.unknown }
+    const counts = Object.entries(kinds).filter(([kind, { length }]) => length > 0 || kind === 'done')
+    const lines = Array.from(this, (it) => [this.#kindOf(it.id), it]).filter(([kind]) => kind !== 'done')
+    const shown = lines.slice(0, MOST_LISTED).map(([kind, it]) => `${kind}: ${new RequestFailed(it).message}`)
+    const more = lines.length > MOST_LISTED ? [`and ${lines.length - MOST_LISTED} more`] : []
+    const why = this.reason ? ` (${this.reason})` : ''
+    return [`${this.size} requests: ${counts.map(([kind, { length }]) => `${length} ${kind}`).join(', ')}${why}`, ...shown, ...more].join('\n')
+  }
+
+  [INSPECT]() {
+    return String(this)
   }
 
   [Symbol.iterator]() {
     return this.#found.values()
   }
+
+  #of(kind) {
+    return Array.from(this).filter(({ id }) => this.#kindOf(id) === kind)
+  }
+
+  #kindOf(id) {
+    this.#kinds ??= kindsOf(this.#sent, [...this])
+    return this.#kinds.get(id)
+  }
 }
 
-module.exports = { RequestFailed, Result, Results }
+/** What became of each request, by its id: `done`, `failed`, `left` or `unknown`. */
+function kindsOf({ document, requests }, results) {
+  const left = new Set(results.every(({ ok }) => ok) ? [] : idsOfRest(document, requests, results))
+  const undone = new Set(results.filter(({ ok }) => !ok).map(({ id }) => requests.get(id).group))
+  undone.delete(null)
+  const kindOf = ({ id, status, ok }) => {
+    if (left.has(id)) return 'left'
+    return ok && !undone.has(requests.get(id).group) ? 'done' : UNSURE.includes(status) ? 'unknown' : 'failed'
+  }
+  return new Map(results.map((it) => [it.id, kindOf(it)]))
+}
+
+/** The ids of the rest. Any Location does for them. */
+function idsOfRest(document, requests, results) {
+  const headers = { location: 'x' }
+  const responses = results.map(({ id, status }) => ({ id, status, atomicityGroup: requests.get(id).group, headers }))
+  return plan(rest(document, { responses })).map(({ id }) => id)
+}
+
+module.exports = { BatchFailed, RequestFailed, Result, Results, UNSURE, secondsOf }

@@ -62,6 +62,11 @@ class Stop {
     return this.#signal?.aborted === true || this.#left <= 0
   }
 
+  /** Whether nothing more starts that many milliseconds from now. */
+  isOverAfter(milliseconds) {
+    return this.#left <= milliseconds
+  }
+
   /** Calls a function with the wait for its answer, which is not longer than up to the deadline, and than some milliseconds. */
   within(timeout = Infinity, call) {
     const left = this.#left

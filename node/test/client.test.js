@@ -4,6 +4,7 @@
 
 const assert = require('node:assert/strict')
 const { test } = require('node:test')
+const { inspect } = require('node:util')
 const { Batch, Group, Reference, RequestFailed } = require('../client.js')
 const { GROUP, SILENT, batch: described } = require('./performing.js')
 const { PATH, listening } = require('./serving.js')
@@ -29,10 +30,11 @@ test('lists the statuses of results, and says that nothing is left', async () =>
     return { status: 200, body: { responses } }
   }
   const results = await one.send(post)
-  assert.equal(String(results), '1 200, 2 503')
+  assert.equal(String(results), '2 requests: 1 done, 1 left\nleft: 2 (POST B) 503')
+  assert.equal(inspect(results), String(results))
   statuses[2] = 201
   const last = await results.rest().send(post)
-  assert.deepEqual([`${last}`, last.rest().size], ['2 201', 0])
+  assert.deepEqual([`${last}`, last.rest()], ['1 requests: 1 done', null])
 })
 
 test('writes requests as they are called for', () => {
@@ -235,7 +237,7 @@ for (const limit of [1, 2, 10]) {
       assert.deepEqual([results.get(pages).json().url, results.get('1').headers.etag], ["/odata/Books('new')/Pages", '"7"'])
       assert.deepEqual([results.size, results.error, results.get('9'), results.get(late).ok], [4, undefined, undefined, false])
       assert.equal(results.get(book).raiseForStatus(), results.get(book))
-      const failed = { name: 'RequestFailed', message: '3 412 Old: it has changed', result: results.get(old) }
+      const failed = { name: 'RequestFailed', message: '3 (PATCH $1) 412 Old: it has changed', result: results.get(old) }
       assert.throws(() => results.get(old).raiseForStatus(), failed)
       assert.throws(() => results.get(late).raiseForStatus(), RequestFailed)
     })
@@ -246,7 +248,7 @@ test('says of a failure what its error object says', async () => {
   const bodies = ['', '[]', '{', '{"error":7}', '{"error":{"code":"A"}}', '['.repeat(100000)]
   for (const body of bodies) {
     const [result] = await Batch.read(described(['a'])).send(() => ({ status: 500, body }))
-    assert.throws(() => result.raiseForStatus(), { message: 'a 500' })
+    assert.throws(() => result.raiseForStatus(), { message: 'a (GET A) 500' })
   }
 })
 

@@ -4,9 +4,10 @@
 
 const assert = require('node:assert/strict')
 const { test } = require('node:test')
-const { Run, check, match, output, plan, requests, rest } = require('..')
+const { check, match, output, plan, requests, rest } = require('..')
 const { Batch } = require('../client.js')
 const { batchOf, outcomesOf, randomFrom } = require('./batches.js')
+const { Service } = require('./scripted.js')
 
 const BATCH =
   '{"requests":[{"id":"a","method":"post","url":"A"},' +
@@ -44,41 +45,6 @@ test('prints the rest of a batch', () => {
   assert.deepEqual([accepted, text.toString()], [false, 'fault F90 NoLocation /requests/1\n'])
 })
 
-/** A service that answers by a script: a status or an answer, or an array of them, one for each time, of which the last stays. */
-class Service {
-  #script
-
-  constructor(script = {}) {
-    this.#script = Object.fromEntries(Object.entries(script).map(([id, it]) => [id, [it].flat()]))
-  }
-
-  #answer({ id, method }) {
-    const left = this.#script[id] ?? [method === 'POST' ? 201 : 200]
-    const given = left.length > 1 ? left.shift() : left[0]
-    if (typeof given === 'object') return given
-    const made = { ETag: '"1"', ...(method === 'POST' && { Location: `/Made('${id}')` }) }
-    return { status: given, headers: given < 300 ? made : { 'Retry-After': '1' } }
-  }
-
-  post = async ({ body }) => {
-    const run = new Run(body, { width: 1 })
-    for (let ids; (ids = run.nextUnit()) !== null; ) this.#perform(run, ids)
-    const response = run.response()
-    run.close()
-    return { status: 200, body: response }
-  }
-
-  /** Performs the requests of a unit, up to the first that fails. */
-  #perform(run, ids) {
-    for (const id of ids) {
-      const { status, headers } = this.#answer(run.request(id))
-      run.start(id)
-      run.report(id, status, headers)
-      if (status >= 300) return
-    }
-  }
-}
-
 function restAfter(batch, script, options) {
   return batch.send(new Service(script).post, options).then((results) => results.rest())
 }
@@ -96,7 +62,7 @@ test('has what failed for now', async () => {
     for (const status of [200, 204, 304, 400, 404, 408, 409, 412, 424, 425, 429, 500, 502, 503, 504, 507]) {
       const batch = new Batch()
       batch.request(method, 'A')
-      if ((await restAfter(batch, { 1: status })).size > 0) found.push(status)
+      if (await restAfter(batch, { 1: status })) found.push(status)
     }
     assert.deepEqual(found, again, method)
   }
@@ -138,7 +104,7 @@ for (const limit of [2, 3, 20]) {
     const third = second.rest()
     assert.deepEqual(idsOf(third), ['f1', 'f2', 'i'])
     const last = await third.send(service.post)
-    assert.deepEqual([Array.from(last, ({ ok }) => ok), last.rest().size, last.retryAfter], [[true, true, true], 0, 0])
+    assert.deepEqual([Array.from(last, ({ ok }) => ok), last.rest(), last.retryAfter], [[true, true, true], null, 0])
   })
 }
 
@@ -216,14 +182,15 @@ test('has what may be sent again of random batches', async () => {
       return [it.id, { status: failed, headers: { Location: `Made(${it.id})`, ETag: '7' } }]
     })
     const results = await Batch.read(document).send(new Service(Object.fromEntries(script)).post)
-    const left = results.rest()
+    const left = results.rest() ?? new Batch()
     check(left.document())
-    const planned = plan(document).filter(({ id }) => left.size > 0 && idsOf(left).includes(id))
+    assert.deepEqual(results.left.map(({ id }) => id), idsOf(left))
+    const planned = plan(document).filter(({ id }) => idsOf(left).includes(id))
     assert.deepEqual(plan(left.document()).map(({ id, group }) => [id, group]), planned.map(({ id, group }) => [id, group]))
     for (const it of plan(left.document())) for (const id of it.needs) assert(planned.some((other) => [other.id, other.group].includes(id)))
     const again = await left.send(new Service().post)
     assert([...again].every(({ ok }) => ok), `seed ${seed}`)
-    assert.equal(again.rest().size, 0)
+    assert.equal(again.rest(), null)
     match(document, { responses: Array.from(results, ({ id, status }) => ({ id, status, atomicityGroup: groupOf(document, id) })) })
   }
 })

@@ -58,10 +58,15 @@ class Fault(OdbError, ValueError):
 
     place: str
     _document: Optional[bytes] = None
+    # Whether its text is for who has not written the document: the message in place of the name and the place.
+    _is_of_builder = False
 
     def __init__(self, code: str, name: str, place: str) -> None:
         super().__init__(code, name, place)
         self.place = place
+
+    def __str__(self) -> str:
+        return f"{self.code} {self.message}" if self._is_of_builder else super().__str__()
 
     @property
     def message(self) -> str:

@@ -172,14 +172,14 @@ class TestScripted:
     @pytest.mark.parametrize("service, document, status, code", [
         (Scripted(limit=2), BATCH, 413, "BatchTooLong"),
         (Scripted(), {"requests": [7]}, 400, "F10"),
-        (Scripted(refusals=[503]), BATCH, 503, "Refused"),
+        (Scripted(schedule=[503]), BATCH, 503, "Refused"),
     ])  # fmt: skip
     def test_what_is_answered_as_a_whole(self, service, document, status, code):
         found, _, body = service.post(json.dumps(document).encode())
         assert (found, json.loads(body)["error"]["code"]) == (status, code)
 
-    def test_refusals_in_turn(self):
-        service = Scripted(retry_after=9, refusals=[429, 500])
+    def test_refusals_as_a_whole_in_turn(self):
+        service = Scripted(retry_after=9, schedule=[429, 500])
         found = [service.post(json.dumps(self.BATCH).encode())[:2] for _ in range(3)]
         kind = {"content-type": "application/json"}
         assert found == [(429, {**kind, "retry-after": "9"}), (500, kind), (200, kind)]
@@ -188,6 +188,23 @@ class TestScripted:
     def test_what_is_no_answer(self, scene):
         with pytest.raises(TypeError, match="a is answered by statuses from 200 to 599"):
             Scripted({"a": scene})
+
+    @pytest.mark.parametrize("schedule", [["lost"], "lose", [99], [None]])
+    def test_what_becomes_of_no_batch(self, schedule):
+        with pytest.raises(TypeError, match="a batch is answered by statuses from 200 to 599"):
+            Scripted(schedule=schedule)
+
+    def test_what_is_kept_is_answered_again(self):
+        service, sent = Scripted(repeatable=True, schedule=["lose", "hang up"]), "Sun, 29 Nov 2026 12:00:00 GMT"
+        document, headers = json.dumps(self.BATCH).encode(), {"Repeatability-Request-ID": "x", "repeatability-first-sent": sent}
+        for _ in range(2):
+            with pytest.raises(ConnectionError):
+                service.post(document, headers)
+        first, second = service.post(document, headers), service.post(document, headers)
+        assert first == second and first[1]["repeatability-result"] == "accepted" and set(service.performed.values()) == {1}
+        other = service.post(document + b" ", headers)
+        assert (other[0], other[1]["repeatability-result"]) == (422, "rejected")
+        assert Scripted(repeatable=False).post(document, headers)[0] == 501 and Scripted().post(document, headers)[0] == 200
 
     def test_for_clients_that_await(self):
         assert asyncio.run(Scripted().post_async(b'{"requests":[]}'))[2] == b'{"responses":[]}'

@@ -3,7 +3,9 @@
 from typing import Dict, List, Tuple
 
 from odb_batch import Answer
-from odb_batch.client import Batch, Group, Reference, RequestFailed, Result, Results, headers
+from odb_batch.client import (
+    AsyncBatchClient, Batch, BatchClient, BatchFailed, Group, Reference, RequestFailed, Result, Results, headers,
+)  # fmt: skip
 from odb_batch.testing import Scripted, batches, events, faulty_batches, outcomes
 
 
@@ -60,9 +62,34 @@ def check_sending(batch: Batch) -> List[int]:
 
 async def check_sending_async(batch: Batch) -> Results:
     await batch.send_async(post)  # type: ignore[arg-type]
-    return await batch.send_async(Scripted({"1": [429, Answer(200)]}, limit=20, mode="stop", refusals=[503]).post_async)
+    return await batch.send_async(Scripted({"1": [429, Answer(200)]}, limit=20, mode="stop", schedule=[503]).post_async)
 
 
+class Order:
+    def __init__(self, members: Dict[str, int]) -> None:
+        self.id = members["Id"]
+
+
+def check_client(batch: Batch) -> List[str]:
+    with BatchClient(Response(), "https://host/odata/", headers={"X-Own": "1"}, attempts=5, deadline=60) as client:
+        results: Results = client.send(batch, limit=20, mode="stop")
+    client.send(batch, limits=20)  # type: ignore[call-arg]
+    BatchClient(Response(), retries=5)  # type: ignore[call-arg]
+    try:
+        order: Order = results.raise_for_status()["1"].json(Order)
+        plain = results["1"].json(parse_float=str)["Id"]
+        return [results.reason, str(order.id), str(plain), *(it.operation for it in results.left + results.unknown)]
+    except BatchFailed as failed:
+        return [error.result.id for error in failed.errors] + [str(len(failed.results.failed))]
+
+
+async def check_async_client(batch: Batch) -> int:
+    async with AsyncBatchClient(Scripted(schedule=[429, "lose"], repeatable=True).post_async) as client:
+        await client.send(batch, mode="half")  # type: ignore[arg-type]
+        return len((await client.send(batch, limit=20)).done)
+
+
+Scripted(schedule=["lost"])  # type: ignore[list-item]
 Scripted({"a": "200"})  # type: ignore[dict-item]
 drawn = batches(max_requests=20, groups=False).flatmap(lambda batch: events(batch, mode="stop"))
 outcomes({"requests": []})

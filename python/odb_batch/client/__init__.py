@@ -12,11 +12,16 @@ Counts(requests=2, groups=0)
 >>> results[order].json()["Id"], results[line].status
 (5, 409)
 
-What a service has not performed for now, as it had no capacity, is a batch again: :meth:`Results.rest`.
+What a service has not performed for now, as it had no capacity, is a batch again: :meth:`Results.rest`. A
+:class:`BatchClient` over requests or httpx, or an :class:`AsyncBatchClient`, waits and sends it by itself.
 """
 
 from ._batch import Batch, headers
+from ._client import AsyncBatchClient, BatchClient
 from ._names import Group, Reference
-from ._results import RequestFailed, Result, Results
+from ._results import BatchFailed, RequestFailed, Result, Results
 
-__all__ = ["Batch", "Group", "Reference", "RequestFailed", "Result", "Results", "headers"]
+__all__ = [
+    "AsyncBatchClient", "Batch", "BatchClient", "BatchFailed", "Group", "Reference", "RequestFailed", "Result", "Results",
+    "headers",
+]  # fmt: skip

@@ -14,12 +14,14 @@ from .._bodies import is_json, to_json
 from .._commands import Counts, Mode, check, plan
 from .._documents import Document, bytes_of
 from .._elements import batch_text, element_text
+from .._faults import Fault
 from .._messages import Answer, header_dict, media_type
 from .._preparation import CONDITIONS
 from .._requests import Request, requests
 from ._names import Group, Name, Reference
 from ._parts import MOST, Parts
 from ._posting import Posted, read_posted
+from ._rest import rest as rest_of
 from ._results import Results
 
 #: Posts the bytes of a batch, and returns what that is answered.
@@ -260,10 +262,11 @@ class Batch:
         """Checks the batch as :func:`odb_batch.check` does, and returns its counts.
 
         Raises:
-            Fault: The batch is refused. The place says which request is wrong.
+            Fault: The batch is refused. Its text begins with the code, the id of the request and what is wrong.
             MemoryError: An allocation failed.
         """
-        return check(self.document())
+        with _naming():
+            return check(self.document())
 
     def send(self, post: Post, *, limit: int = MOST, mode: Mode = "continue") -> Results:
         """Sends the batch, if need be in parts, and returns what each request was answered.
@@ -303,7 +306,7 @@ class Batch:
                 else:
                     document = parts.send(answered)
         except StopIteration as end:
-            return _results_of(end)
+            return results_of(end)
 
     async def send_async(self, post: PostAsync, *, limit: int = MOST, mode: Mode = "continue") -> Results:
         """Does what :meth:`send` does by a coroutine function. If its task is cancelled, what was answered is lost."""
@@ -318,14 +321,15 @@ class Batch:
                 else:
                     document = parts.send(answered)
         except StopIteration as end:
-            return _results_of(end)
+            return results_of(end)
 
     def exchange(self, *, limit: int = MOST, mode: Mode = "continue") -> Generator[bytes, Posted, Results]:
         """Yields one part after another, and is sent what it was answered, for clients that :meth:`send` does not fit.
 
         The exception by which a part was not answered is thrown into it. The value in the end is the results.
         """
-        parts = Parts(self.document(), limit, mode)
+        with _naming():
+            parts = Parts(self.document(), limit, mode)
         while (document := parts.next()) is not None:
             try:
                 answered = read_posted((yield document))
@@ -333,7 +337,8 @@ class Batch:
                 parts.fail(error)
             else:
                 parts.take(answered)
-        return Results(self, parts)
+        rest = lambda: self._rest(rest_of(parts.document, parts.responses()))
+        return Results(self, parts.document, parts.answers, rest, parts.error)
 
     def _rest(self, document: bytes) -> "Batch":
         """The batch of a document with requests of this one, for which the same references hold."""
@@ -342,7 +347,18 @@ class Batch:
         return batch
 
 
-def _results_of(end: StopIteration) -> Results:
+@contextlib.contextmanager
+def _naming() -> Iterator[None]:
+    """Has the text of a fault name the request, not its position."""
+    try:
+        yield
+    except Fault as fault:
+        fault._is_of_builder = True
+        raise
+
+
+def results_of(end: StopIteration) -> Results:
+    """Returns the results in which :meth:`Batch.exchange` ends."""
     results: Results = end.value
     return results
 

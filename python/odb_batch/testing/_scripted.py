@@ -1,9 +1,11 @@
 """A service that answers by a script, for tests of clients."""
 
 import json
-from typing import Dict, Iterable, List, Mapping, Sequence, Tuple, Union
+from collections import Counter
+from typing import Dict, Iterable, List, Literal, Mapping, Optional, Sequence, Tuple, Union
 
 from .._commands import Mode
+from .._documents import body_of
 from .._faults import Fault
 from .._messages import Answer
 from .._requests import Request
@@ -11,11 +13,16 @@ from .._runs import Run
 
 #: What a request is answered: a status, or an answer.
 Scene = Union[int, Answer]
+#: What becomes of a batch: it is answered as a whole, and not performed; it is performed, and answered; the service hangs up
+#: before it performs any of it; or it performs the batch, and then hangs up.
+Happening = Union[Scene, Literal["answer", "hang up", "lose"]]
 Response = Tuple[int, Dict[str, str], bytes]
 
 _JSON = {"content-type": "application/json"}
 _DEFAULTS = {"POST": 201, "GET": 200}
 _BUSY = (429, 503)
+_HAPPENINGS = ("answer", "hang up", "lose")
+_ID, _FIRST_SENT, _RESULT = "repeatability-request-id", "repeatability-first-sent", "repeatability-result"
 
 
 class Scripted:
@@ -34,16 +41,24 @@ class Scripted:
         limit: How many requests a batch may have; a longer one is answered 413.
         mode: ``"stop"`` for a service that stops at the first error.
         retry_after: The seconds of Retry-After.
-        refusals: The statuses by which the first batches are answered as a whole, in turn.
+        schedule: What becomes of the first batches, in turn: a status or an Answer to one as a whole, of which nothing is
+            performed; ``"answer"``; ``"hang up"``, and nothing is performed; or ``"lose"``: it is performed, and the
+            answer is lost. The last two raise a ConnectionError. Later batches are answered.
+        repeatable: Whether it keeps a batch by its ``Repeatability-Request-ID``, and answers it again without performing
+            it again (OASIS Repeatable Requests 1.0); False if it answers 501 to one, as a service that keeps none
+            should; None if it takes no notice of that header.
 
     Raises:
-        TypeError: What a request is answered is neither a status from 200 to 599 nor an Answer, nor a list of them.
+        TypeError: What a request is answered is neither a status from 200 to 599 nor an Answer, nor a list of them; or what
+            a list has for a batch is none of the schedule.
 
     Attributes:
         documents: The batches that it was sent, as they came.
+        performed: How often each request was performed, by its id: it was answered 2xx, and not undone.
     """
 
     documents: List[bytes]
+    performed: "Counter[str]"
 
     def __init__(
         self,
@@ -52,18 +67,53 @@ class Scripted:
         limit: int = 10_000,
         mode: Mode = "continue",
         retry_after: int = 1,
-        refusals: Iterable[int] = (),
+        schedule: Iterable[Happening] = (),
+        repeatable: Optional[bool] = None,
     ) -> None:
         self._script = {id: _scenes(id, it) for id, it in script.items()}
         self._limit, self._mode, self._retry_after = limit, mode, str(retry_after)
-        self._refusals = list(refusals)
-        self.documents = []
+        for happening in schedule if isinstance(schedule, Sequence) else ():
+            if happening not in _HAPPENINGS:
+                _scenes("a batch", happening)
+        self._schedule, self._repeatable = iter(schedule), repeatable
+        # Of each id the document, the date and what was answered.
+        self._kept: Dict[str, Tuple[bytes, str, Response]] = {}
+        self.documents, self.performed = [], Counter()
 
-    def post(self, document: bytes) -> Response:
-        """Answers a batch: returns the status, the headers and the body. One that is refused is answered 400."""
+    def post(self, document: bytes, headers: Mapping[str, str] = {}) -> Response:
+        """Answers a batch: returns the status, the headers and the body. One that is refused is answered 400.
+
+        Raises:
+            ConnectionError: The schedule says so.
+        """
         self.documents.append(document)
-        if self._refusals:
-            return self._refusal(self._refusals.pop(0), "Refused")
+        happening = next(self._schedule, "answer")
+        if isinstance(happening, Answer):
+            return happening.status, dict(happening.headers), body_of(happening.body)
+        if isinstance(happening, int):
+            return self._refusal(happening, "Refused")
+        if happening == "hang up":
+            raise ConnectionError("the service has hung up")
+        folded = {name.lower(): value for name, value in headers.items()}
+        answered = self._answered(document, folded.get(_ID, ""), folded.get(_FIRST_SENT, ""))
+        if happening == "lose":
+            raise ConnectionError("the answer is lost")
+        return answered
+
+    def _answered(self, document: bytes, id: str, date: str) -> Response:
+        """Answers a batch, or answers it again."""
+        if not id or self._repeatable is None:
+            return self._performed(document)
+        if not self._repeatable:
+            return self._rejected(501, "NotRepeatable")
+        if id not in self._kept:
+            status, given, body = self._performed(document)
+            self._kept[id] = document, date, (status, {**given, _RESULT: "accepted"}, body)
+        *first, answered = self._kept[id]
+        return answered if first == [document, date] else self._rejected(422, "AnotherBatch")
+
+    def _performed(self, document: bytes) -> Response:
+        """Performs a batch."""
         try:
             run = Run(document, mode=self._mode, width=1)
         except Fault as fault:
@@ -73,11 +123,13 @@ class Scripted:
                 return self._refusal(413, "BatchTooLong")
             while (ids := run.next_unit()) is not None:
                 self._perform(run, ids)
-            return 200, dict(_JSON), run.response()
+            response = run.response()
+        self.performed.update(it["id"] for it in json.loads(response)["responses"] if 200 <= it["status"] <= 299)
+        return 200, dict(_JSON), response
 
-    async def post_async(self, document: bytes) -> Response:
+    async def post_async(self, document: bytes, headers: Mapping[str, str] = {}) -> Response:
         """Does what :meth:`post` does, for clients that await."""
-        return self.post(document)
+        return self.post(document, headers)
 
     def _perform(self, run: Run, ids: Sequence[str]) -> None:
         """Performs the requests of a unit, up to the first that fails."""
@@ -105,6 +157,11 @@ class Scripted:
     def _refusal(self, status: int, code: str) -> Response:
         headers = {**_JSON, **({"retry-after": self._retry_after} if status in _BUSY else {})}
         return status, headers, json.dumps({"error": {"code": code, "message": code}}).encode()
+
+    def _rejected(self, status: int, code: str) -> Response:
+        """The refusal of a batch because of its id."""
+        status, headers, body = self._refusal(status, code)
+        return status, {**headers, _RESULT: "rejected"}, body
 
 
 def _scenes(id: str, given: Union[Scene, List[Scene]]) -> List[Scene]:

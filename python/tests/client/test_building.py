@@ -230,7 +230,7 @@ class TestGroups:
 def test_check_says_where():
     batch = small()
     batch.get("X", after="nobody")
-    with pytest.raises(Fault, match="F40 UnknownName /requests/3"):
+    with pytest.raises(Fault, match='^F40 4: "nobody" in dependsOn is unknown'):
         batch.check()
     with pytest.raises(Fault, match="F40"):
         batch.send(pytest.fail)

@@ -10,7 +10,7 @@ from decimal import Decimal
 import pytest
 
 from app import make_app
-from odb_batch.client import Batch, RequestFailed, headers
+from odb_batch.client import AsyncBatchClient, Batch, BatchClient, RequestFailed, headers
 from odb_batch.conformance import serving
 from odb_batch.testing import Scripted
 
@@ -64,7 +64,7 @@ def application(service, heard):
 
 
 def test_parts_of_twenty(client):
-    service, heard, batch = Scripted({"r30": [429, 201]}, limit=20, retry_after=7, refusals=[503]), [], Batch()
+    service, heard, batch = Scripted({"r30": [429, 201]}, limit=20, retry_after=7, schedule=[503]), [], Batch()
     order = batch.post("Orders", {})
     lines = [batch.post(f"{order}/Lines", {"Price": 9.99}, id=f"r{k}") for k in range(46)]
     with serving(application(service, heard)) as url:
@@ -100,7 +100,7 @@ def test_the_lending_library(client, limit, tmp_path):
     assert b'"Price":9.990' in results[read].body
     # What is in the group has changed the book, so its first ETag is an old one.
     assert [it.status for it in results] == [201, 200, 204, 201, 412] and results.error is None
-    assert str(RequestFailed(results[late])).startswith(f"{late.id} 412 ")
+    assert str(RequestFailed(results[late])).startswith(f"{late.id} (PATCH $1) 412 ")
 
 
 def posts_of_requests(url, timeout=60, **options):
@@ -148,7 +148,7 @@ def posting(request):
 def test_a_response_is_returned_as_it_is(posting):
     batch = Batch()
     order = batch.post("Orders", {"Price": Decimal("9.990")})
-    with serving(application(Scripted(refusals=[503], retry_after=7), [])) as url:
+    with serving(application(Scripted(schedule=[503], retry_after=7), [])) as url:
         refused = posting(url)(batch)
         results = posting(url)(refused.rest())
     assert refused[order].status == 503 and refused.retry_after == 7
@@ -242,3 +242,115 @@ def test_a_body_that_is_read_late_and_breaks_off():
     with breaking_off() as url:
         results = posts_of_requests(url, stream=True)(batch)
     assert results["1"].status == 502 and isinstance(results.error, requests.exceptions.ChunkedEncodingError)
+
+
+def client_of_requests(url, credentials=None, **options):
+    """Sends a batch by a client over requests; closes that."""
+    requests = pytest.importorskip("requests", reason="requests is not installed")
+    session = requests.Session()
+    session.auth = credentials
+
+    def send(batch):
+        with BatchClient(session, url, backoff=0, **options) as client:
+            return client.send(batch)
+
+    return send
+
+
+def client_of_httpx(url, credentials=None, **options):
+    """The same over httpx, whose client has the URL."""
+    httpx = pytest.importorskip("httpx", reason="httpx is not installed")
+
+    def send(batch):
+        with BatchClient(httpx.Client(base_url=url, auth=credentials), backoff=0, **options) as client:
+            results = client.send(batch)
+        with pytest.raises(RuntimeError, match="closed"):
+            client._session.post("X")
+        return results
+
+    return send
+
+
+def tasks_of_httpx(url, credentials=None, **options):
+    """The same in tasks."""
+    httpx = pytest.importorskip("httpx", reason="httpx is not installed")
+
+    async def send(batch):
+        async with AsyncBatchClient(httpx.AsyncClient(auth=credentials), url, backoff=0, **options) as client:
+            results = await client.send(batch)
+        assert client._session.is_closed
+        return results
+
+    return lambda batch: asyncio.run(send(batch))
+
+
+@pytest.fixture(params=[client_of_requests, client_of_httpx, tasks_of_httpx])
+def patient(request):
+    return request.param
+
+
+def gets(*ids):
+    batch = Batch()
+    for id in ids:
+        batch.get("A", id=id)
+    return batch
+
+
+def test_a_client_has_the_session_authenticate(patient):
+    seen = []
+
+    def answer(environ, start_response):
+        seen.append({name: environ.get(name) for name in ("PATH_INFO", "HTTP_AUTHORIZATION", "HTTP_PREFER", "HTTP_X_OWN")})
+        return application(service, [])(environ, start_response)
+
+    service = Scripted({"a": [503, 200]}, retry_after=0, schedule=[429])
+    with serving(answer) as url:
+        results = patient(f"{url}/odata/", credentials=("ada", "x"), headers={"X-Own": "1", "prefer": "own"})(gets("a", "b"))
+    assert [it.status for it in results] == [200, 200] and len(service.documents) == 3
+    wanted = {"PATH_INFO": "/odata/$batch", "HTTP_AUTHORIZATION": "Basic YWRhOng=", "HTTP_PREFER": "own", "HTTP_X_OWN": "1"}
+    assert seen == [wanted] * 3
+
+
+def test_a_client_whose_session_times_out(patient):
+    batch = gets("a")
+    batch.post("B", {}, id="b")
+    with silent() as url:
+        results = patient(url, timeout=0.2, attempts=1)(batch)
+    assert [it.status for it in results] == [504, 504] and [it.id for it in results.unknown] == ["b"]
+
+
+def test_a_client_that_has_no_connection(patient):
+    """Nothing was sent, so all may be sent again."""
+    batch = Batch()
+    batch.post("B", {})
+    with socket.create_server(("127.0.0.1", 0)) as server:
+        port = server.getsockname()[1]
+    results = patient(f"http://127.0.0.1:{port}/", attempts=2)(batch)
+    assert [it.status for it in results.left] == [503] and results.error.__cause__ is not None
+
+
+def test_a_client_takes_sessions_of_its_own_kind():
+    requests = pytest.importorskip("requests", reason="requests is not installed")
+    httpx = pytest.importorskip("httpx", reason="httpx is not installed")
+    for session in (requests.Session(), httpx.Client()):
+        with pytest.raises(TypeError, match="an AsyncClient of httpx or a coroutine function, not a (Session|Client)$"):
+            AsyncBatchClient(session)
+    with pytest.raises(TypeError, match="of requests or httpx, or a function, not a AsyncClient$"):
+        BatchClient(httpx.AsyncClient())
+
+
+@pytest.mark.parametrize("url, wanted", [
+    ("https://host/odata", "https://host/odata/$batch"), ("https://host/odata/", "https://host/odata/$batch"),
+    ("https://host/odata/$batch", "https://host/odata/$batch"), ("https://host/?client=1", "https://host/$batch?client=1"),
+    ("", "$batch"),
+])  # fmt: skip
+def test_where_a_client_posts_to(url, wanted):
+    requests, found = pytest.importorskip("requests", reason="requests is not installed"), []
+
+    class Session(requests.Session):
+        def post(self, url, **options):
+            found.append(url)
+            raise OSError
+
+    BatchClient(Session(), url, attempts=1).send(gets("a"))
+    assert found == [wanted]

@@ -76,7 +76,7 @@ class TestResults:
         assert results[a].raise_for_status() is results[a]
         assert results[b].headers["x-a"] == "1" and results[b].json() == sold
         assert repr(results) == "<Results: 1 201, b 409>" and repr(results[b]) == "<Result b 409>"
-        with pytest.raises(RequestFailed, match="^b 409 Sold: gone$") as raised:
+        with pytest.raises(RequestFailed, match=r"^b \(POST B\) 409 Sold: gone$") as raised:
             results[b].raise_for_status()
         assert raised.value.result is results[b]
         with pytest.raises(KeyError):
@@ -118,7 +118,7 @@ class TestResults:
     @pytest.mark.parametrize("body", [b"", b"[]", b"{", b'{"error": 7}', b'{"error": {"code": "A"}}', b"[" * 100_000])
     def test_failures_without_an_error_object(self, body):
         result = gets("a").send(answering(500, body=body))["a"]
-        assert str(RequestFailed(result)) == "a 500"
+        assert str(RequestFailed(result)) == "a (GET Books) 500"
 
 
 class TestParts:
@@ -313,7 +313,7 @@ class TestErrorsOfParts:
         refusal = Refusal(429, "Busy", "later", retry_after="7")
         results = gets("a", "b").send(raising(refusal), limit=1)
         assert statuses_of(results) == [429, 424] and results.error is refusal and results.retry_after == 7
-        assert str(RequestFailed(results["a"])) == "a 429 Busy: later" and len(results.rest()) == 2
+        assert str(RequestFailed(results["a"])) == "a (GET Books) 429 Busy: later" and len(results.rest()) == 2
 
     def test_an_interruption_is_raised(self):
         with pytest.raises(KeyboardInterrupt):
