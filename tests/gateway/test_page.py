@@ -118,6 +118,23 @@ def test_the_code_of_the_page_sends_a_group(loop, upstream):
     assert sorted(service.paths) == ["/odata/$batch", "/odata/C"]
 
 
+def test_a_gateway_of_ones_own_keeps_a_batch(place):
+    """The second time it answers from what is kept."""
+    from odb_batch import perform_async
+
+    sent = []
+
+    async def send(request):
+        sent.append(request.id)
+        return 201, {}, {"number": len(sent)}
+
+    batch = json.dumps({"requests": [{"id": "a", "method": "post", "url": "A"}]}).encode()
+    names = {"perform_async": perform_async, "send": send, "BASE": "http://host/odata/", "batch": batch}
+    exec(blocks("python")[1], names)
+    first, again = (asyncio.run(names["main"](place)) for _ in range(2))
+    assert (first, sent) == (again, ["a"]) and b'"number":1' in first
+
+
 def grouped(seen):
     from aiohttp import web
 

@@ -33,7 +33,8 @@ def test_its_extras_are_all_that_it_needs(tmp_path, monkeypatch):
     head = metadata.partition("\n\n")[0]
     needed = re.findall("(?m)^Requires-Dist: (.*)$", head)
     extras = {
-        "django": "Django>=3.2", "fastapi": "fastapi", "flask": "Flask", "gateway": "aiohttp>=3.13.3", "testing": "hypothesis",
+        "django": "Django>=3.2", "fastapi": "fastapi", "flask": "Flask", "gateway": "aiohttp>=3.13.3",
+        "postgresql": "asyncpg>=0.27", "testing": "hypothesis",
     }  # fmt: skip
     assert needed == [f'{name}; extra == "{extra}"' for extra, name in extras.items()]
     assert re.findall("(?m)^Provides-Extra: (.*)$", head) == list(extras)

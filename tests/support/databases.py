@@ -1,4 +1,4 @@
-"""A PostgreSQL of the tests' own, in memory; and SQLite likewise."""
+"""A PostgreSQL of the tests' own, in memory."""
 
 import contextlib
 import glob
@@ -52,10 +52,11 @@ class Postgresql:
 
     Args:
         more: Further lines of its configuration.
+        folder: Where its files are, else in memory.
     """
 
-    def __init__(self, more=""):
-        self.folder, self._programs = folder_for_databases(), programs()
+    def __init__(self, more="", folder=None):
+        self.folder, self._programs = folder or folder_for_databases(), programs()
         with socket.create_server(("127.0.0.1", 0)) as free:
             self.port = free.getsockname()[1]
         if not os.getuid():
