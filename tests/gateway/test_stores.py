@@ -353,7 +353,7 @@ def test_a_commit_that_no_standby_has_confirmed_is_not_taken_for_kept(postgresql
         url = server.url("public")
 
         async def run():
-            async with opened(url, 4.0) as journals:
+            async with opened(url) as journals:
                 other = await asyncpg.connect(url)
                 async with journals.journal(b"x", FIRST) as journal:
                     journal.write(Start("a"))
@@ -362,10 +362,13 @@ def test_a_commit_that_no_standby_has_confirmed_is_not_taken_for_kept(postgresql
                     await other.execute("ALTER SYSTEM SET synchronous_standby_names = 'nobody'")
                     await other.execute("SELECT pg_reload_conf()")
                     waiting = "SELECT pid FROM pg_stat_activity WHERE wait_event = 'SyncRep' AND query LIKE 'INSERT INTO odb_part%'"
-                    journal.write(Start("b"))
-                    syncing = asyncio.ensure_future(journal.sync())
-                    while not await other.fetch(waiting):
-                        await asyncio.sleep(0.01)
+                    for k in range(10_000):  # until the server has read its configuration
+                        journal.write(Start(f"b{k}"))
+                        syncing = asyncio.ensure_future(journal.sync())
+                        while not (waits := await other.fetch(waiting)) and not syncing.done():
+                            await asyncio.sleep(0.01)
+                        if waits:
+                            break
                     await other.fetch(f"SELECT pg_cancel_backend(pid) FROM ({waiting}) AS it")
                     await soon(lambda: journals.store.breaks)
                     assert not syncing.done()
@@ -661,6 +664,25 @@ def test_a_role_needs_no_more_rights_than_the_page_says(postgresql):
     url = postgresql.url(schema, user=f"role_{schema}")
     for check in CHECKS:
         asyncio.run(check(lambda: store_of(url, LEASE)))
+
+
+def test_a_role_without_rights(postgresql, schema):
+    """It does not wait for them."""
+    asyncio.run(CHECKS[0](lambda: store_of(schema)))
+    name = schema.rpartition("%3D")[2]
+    postgresql.ask(f"CREATE ROLE poor_{name} LOGIN; GRANT USAGE ON SCHEMA {name} TO poor_{name}; "
+                   f"GRANT SELECT ON ALL TABLES IN SCHEMA {name} TO poor_{name}")  # fmt: skip
+    with pytest.raises(OSError, match="permission denied for table odb_gateway") as error:
+        asyncio.run(store_of(postgresql.url(name, user=f"poor_{name}")).open())
+    assert not isinstance(error.value, ConnectionError)
+
+
+@pytest.mark.parametrize("url", ["postgresql://[", "postgresql://h:x/", "postgresql://127.0.0.1:1/x?sslmode=no"])
+def test_a_url_that_is_none(url):
+    pytest.importorskip("asyncpg", reason="asyncpg is not installed")
+    with pytest.raises(OSError, match="PostgreSQL: ") as error:
+        asyncio.run(store_of(url).open())
+    assert not isinstance(error.value, ConnectionError)
 
 
 @pytest.mark.parametrize("change, message", [

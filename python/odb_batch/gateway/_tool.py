@@ -10,7 +10,8 @@ import threading
 import time
 from typing import Sequence, Tuple
 
-from ..journals import THREADS, is_database
+from ..journals import is_database
+from ..journals._stores import THREADS
 from ._options import PROGRAM, Options, options_of
 from ._values import Address
 

@@ -102,7 +102,7 @@ class Journals:
                 pass
             except OSError as error:
                 LOG.error("the journal cannot be used: %s", error)
-                return self.broken.set_exception(error)
+                return None if self.broken.done() else self.broken.set_exception(error)
 
     def _begin(self) -> None:
         self._is_open = True

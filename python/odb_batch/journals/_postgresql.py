@@ -7,7 +7,7 @@ would be reported as done. Its connection is ended instead, and the statement is
 import asyncio
 import os
 import socket
-from typing import Any, List, Optional, Sequence, Set
+from typing import Any, Coroutine, List, Optional, Sequence, Set
 
 import asyncpg
 
@@ -102,13 +102,17 @@ class PostgresqlStore:
         try:
             connection = await self.connected(self.timeout)
             try:
-                await self._prepare(connection)
+                await self._in_time(connection, self.timeout, self._prepare(connection))
             finally:
                 connection.terminate()
             await self._begin()
+        except (ValueError, asyncpg.InterfaceError) as error:  # the URL
+            raise _Unusable(f"PostgreSQL: {error}") from None
+        except _Unusable:
+            raise
         except _AGAIN as error:
             raise ConnectionError(f"PostgreSQL: {_text(error)}") from None
-        except (asyncpg.PostgresError, ValueError) as error:
+        except asyncpg.PostgresError as error:
             raise _Unusable(f"PostgreSQL: {_text(error)}") from None
 
     async def _prepare(self, connection: Any) -> None:
@@ -130,15 +134,27 @@ class PostgresqlStore:
         found = await asyncpg.connect(self._url, timeout=seconds, server_settings=settings)
         # A commit whose wait for a standby was cancelled is reported as done, with a warning.
         found.add_log_listener(lambda it, note: self._warned.add(it.get_server_pid()))
-        if (await self.answered(found, seconds, "SELECT pg_is_in_recovery()"))[0][0]:
+        try:
+            if (await self.answered(found, seconds, "SELECT pg_is_in_recovery()"))[0][0]:
+                raise ConnectionError("it is a standby")
+        except BaseException:
             found.terminate()
-            raise ConnectionError("it is a standby")
+            raise
         return found
 
     async def answered(self, connection: Any, seconds: float, words: str, *given: Any) -> List[Any]:
-        """Returns the rows of a statement; ends the connection where they do not come in time. Not `wait_for`, which would
-        cancel it at the server, too."""
-        task = asyncio.ensure_future(connection.fetch(words, *given))
+        """Returns the rows of a statement; raises one of `_AGAIN`, or PostgresError."""
+        rows: List[Any] = await self._in_time(connection, seconds, connection.fetch(words, *given))
+        pid = connection.get_server_pid()
+        if pid in self._warned:
+            self._warned.discard(pid)
+            raise ConnectionError("the commit was not confirmed by a standby")
+        return rows
+
+    async def _in_time(self, connection: Any, seconds: float, work: Coroutine[Any, Any, Any]) -> Any:
+        """What some work over a connection returns; ends the connection where it takes too long. Not `wait_for`, which would
+        cancel the statement at the server, too."""
+        task = asyncio.ensure_future(work)
         try:
             await asyncio.wait({task}, timeout=seconds)
         finally:
@@ -147,12 +163,7 @@ class PostgresqlStore:
                 task.add_done_callback(lambda it: it.cancelled() or it.exception())
         if not task.done():
             raise asyncio.TimeoutError("no answer in time")
-        rows: List[Any] = task.result()
-        pid = connection.get_server_pid()
-        if pid in self._warned:
-            self._warned.discard(pid)
-            raise ConnectionError("the commit was not confirmed by a standby")
-        return rows
+        return task.result()
 
     async def _rows(self, words: str, *given: Any, size: int = 0) -> List[Any]:
         """The rows of a statement, over the next free connection."""
@@ -231,7 +242,7 @@ class PostgresqlStore:
 
 
 class _Unusable(OSError):
-    """The database cannot be used as it is."""
+    """The database has refused something, and would again."""
 
 
 class _Link:
@@ -256,7 +267,7 @@ class _Link:
                     await asyncio.sleep(_BREAK)
                 except asyncpg.PostgresError as error:
                     self.drop()
-                    raise OSError(f"PostgreSQL: {_text(error)}") from None
+                    raise _Unusable(f"PostgreSQL: {_text(error)}") from None
                 except BaseException:  # cancelled: the connection must not be used again
                     self.drop()
                     raise
