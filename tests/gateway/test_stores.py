@@ -275,24 +275,52 @@ def test_a_batch_that_was_left_is_released_by_a_process_that_lives(place, monkey
     asyncio.run(run())
 
 
-def test_a_long_text_keeps_no_short_one_waiting(place):
-    """In SQLite each of its pieces is a commit of its own; in PostgreSQL it has a connection of its own."""
+def test_a_long_text_keeps_no_short_one_waiting(place, monkeypatch):
+    """It goes alone, and others beside it, however long it takes."""
     async def run():
         async with opened(place) as journals:
+            append, begun, ended = journals.store.append, asyncio.Event(), asyncio.Event()
+
+            async def appending(parts):
+                if any(len(it.text) > 100_000 for it in parts):
+                    assert len(parts) == 1
+                    begun.set()
+                    await ended.wait()
+                return await append(parts)
+
+            monkeypatch.setattr(journals.store, "append", appending)
             async with journals.journal(b"x", FIRST) as journal:
                 journal.write(Start("a"))
                 await journal.sync()
                 journal.write(Report("a", 200, {}, b"1" * 16_000_000))
                 keeping = asyncio.ensure_future(journal.sync())
-                count = 0
-                while not keeping.done():
-                    await written(journals, EVENTS[:1], b"%d" % count)
-                    count += not keeping.done()
+                await begun.wait()
+                for k in range(3):
+                    assert await written(journals, EVENTS[:1], b"%d" % k) == []
+                assert not keeping.done()
+                ended.set()
                 await keeping
-            assert count >= 3, count
             assert len((await events_of(journals))[1].body) == 16_000_000
 
     asyncio.run(run())
+
+
+def test_pieces_of_a_long_text_take_turns_with_short_ones(tmp_path, monkeypatch):
+    """SQLite has one writer."""
+    done, append, append_piece = [], SqliteStore._append, SqliteStore._append_piece
+    monkeypatch.setattr(SqliteStore, "_append", lambda *given: (done.append("part"), append(*given))[1])
+    monkeypatch.setattr(SqliteStore, "_append_piece", lambda *given: (done.append("piece"), append_piece(*given))[1])
+
+    async def run():
+        async with opened(str(tmp_path)) as journals:
+            long = [Start("a"), Report("a", 200, {}, b"1" * 16_000_000)]
+            keeping = asyncio.ensure_future(written(journals, long))
+            while not keeping.done():
+                await written(journals, EVENTS[:1], b"%d" % len(done))
+
+    asyncio.run(run())
+    first, last = done.index("piece"), len(done) - done[::-1].index("piece")
+    assert done.count("piece") == 61 and done[first:last].count("part") >= 3
 
 
 def test_a_statement_that_takes_too_long_is_not_cancelled(schema, postgresql):
