@@ -77,14 +77,22 @@ async def ask(streams, body):
     return int(head[9:12])
 
 
-async def rate(ports, clients, shape, is_kept):
-    """How many batches a second some clients get answers to, and the median and the 99th of a hundred waits in ms."""
-    text, waits, port = batch(shape), [], itertools.cycle(ports)
-    end = time.perf_counter() + SECONDS
+def processor(process):
+    """The processor time of a process in ms."""
+    with open(f"/proc/{process.pid}/stat", encoding="utf-8") as file:
+        fields = file.read().rpartition(")")[2].split()
+    return 1000 * (int(fields[11]) + int(fields[12])) / os.sysconf("SC_CLK_TCK")
 
-    async def client():
-        streams = await asyncio.open_connection("127.0.0.1", next(port), limit=2**24)
-        while (began := time.perf_counter()) < end:
+
+async def rate(gateways, clients, shape, is_kept):
+    """How many batches a second some clients get answers to, the processor time of the gateways for one, the median and the
+    99th of a hundred waits, in ms."""
+    text, waits, port = batch(shape), [], itertools.cycle(port for _, port in gateways)
+    before = sum(processor(it) for it, _ in gateways)
+    opened = [await asyncio.open_connection("127.0.0.1", next(port), limit=2**24) for _ in range(clients)]
+
+    async def client(streams):
+        while (began := time.perf_counter()) < end or not waits:
             id = f"Repeatability-Request-ID: {secrets.token_hex(16)}\r\nRepeatability-First-Sent: {FIRST_SENT}\r\n"
             status = await ask(streams, (id.encode() if is_kept else b"", text))
             assert status == 200, status
@@ -92,9 +100,12 @@ async def rate(ports, clients, shape, is_kept):
         streams[1].close()
 
     began = time.perf_counter()
-    await asyncio.gather(*(client() for _ in range(clients)))
+    end = began + SECONDS
+    await asyncio.gather(*map(client, opened))
+    took = time.perf_counter() - began
+    used = sum(processor(it) for it, _ in gateways) - before
     waits.sort()
-    return len(waits) / (time.perf_counter() - began), 1000 * waits[len(waits) // 2], 1000 * waits[int(len(waits) * 0.99)]
+    return len(waits) / took, used / len(waits), 1000 * waits[len(waits) // 2], 1000 * waits[int(len(waits) * 0.99)]
 
 
 def gateway(upstream, *options):
@@ -116,10 +127,8 @@ async def measure(places):
         for _ in range(TURNS):
             for shape, clients in itertools.product(("flat", "chain"), CLIENTS):
                 for kind in sorted(made, key=lambda _: secrets.randbits(16)):
-                    ports = [port for _, port in made[kind]]
-                    found.setdefault((shape, clients, kind), []).append(
-                        await rate(ports, clients, shape, bool(places[kind][0]))
-                    )
+                    row = await rate(made[kind], clients, shape, bool(places[kind][0]))
+                    found.setdefault((shape, clients, kind), []).append(row)
     finally:
         for process, _ in itertools.chain(*made.values()):
             process.send_signal(signal.SIGTERM)
@@ -129,13 +138,13 @@ async def measure(places):
 
 def show(found, kinds):
     first = kinds[0]
-    print(f"load {os.getloadavg()[0]:.1f}; batches a second, as a share of the first kind, and ms (half, 99 of 100)")
+    print(f"load {os.getloadavg()[0]:.1f}; batches a second, as a share of the first kind; processor ms; ms (half, 99 of 100)")
     for shape, clients in itertools.product(("flat", "chain"), CLIENTS):
         for kind in kinds:
             rows = found[shape, clients, kind]
             share = statistics.median(row[0] / base[0] for row, base in zip(rows, found[shape, clients, first]))
-            rates, half, most = (statistics.median(row[k] for row in rows) for k in range(3))
-            print(f"{shape:6}{clients:3} {kind:18}{rates:8.1f}{share:8.2f}{half:8.1f}{most:8.1f}", flush=True)
+            rates, used, half, most = (statistics.median(row[k] for row in rows) for k in range(4))
+            print(f"{shape:6}{clients:3} {kind:18}{rates:8.1f}{share:8.2f}{used:8.2f}{half:8.1f}{most:8.1f}", flush=True)
 
 
 def main():
