@@ -1,4 +1,4 @@
-"""Gateways over one journal that end, are paused or cut off at any moment: nothing is sent twice, or after it was lost."""
+"""Gateways over one journal that end, are paused or cut off: nothing is sent twice, or after it was lost."""
 
 import asyncio
 import contextlib
@@ -56,7 +56,7 @@ class Counting:
         return found
 
 
-def until_answered(it, id, batch, tries=()):
+def until_answered(it, id, batch):
     """Sends a batch until another gateway has not the batch any more."""
     end = time.monotonic() + SECONDS
     while True:
@@ -278,11 +278,9 @@ def test_a_disk_that_is_full(upstream, running, small, kind, request):
         place = postgresql.url(name) + f"%20-cdefault_tablespace%3D{name}"
     service = upstream()
     it = running("--upstream", service.url, "--journal", place, "--one-client", "--log", "none")
-    body = "x" * 60_000
-    batch = lambda: json.dumps({"requests": [{"id": "a", "method": "post", "url": "A", "body": body}]})
     ask = lambda id: it.ask("POST", "/odata/$batch", ONE, {**CONTINUE, **repeatable(id)})
     answered = {id: ask(id) for id in "xyz"}
-    assert {found[0] for found in answered.values()} == {200} and batch
+    assert {found[0] for found in answered.values()} == {200}
     path, refused = fill(small), 0
     for k in range(2_000):
         before = len(service.seen)

@@ -92,7 +92,7 @@ def _add_limits(found: argparse.ArgumentParser) -> None:
 def _add_journal(found: argparse.ArgumentParser) -> None:
     add = found.add_argument
     add("--journal", metavar="PLACE", default="",
-        help="keeps batches with a Repeatability-Request-ID there: a folder, or postgresql://.. for several machines")  # fmt: skip
+        help="keeps batches with a Repeatability-Request-ID in a folder, or postgresql://..")  # fmt: skip
     add("--journal-size", metavar="MB", type=values.number, default=_USUAL.journal_size,
         help="megabytes of the journals in a folder, else 503; 16384")  # fmt: skip
     add("--lease", metavar="S", type=values.seconds, default=_USUAL.lease,

@@ -22,8 +22,8 @@ _PART = 65_536
 
 
 async def _sent_once(_: aiohttp.ClientSession, context: Any, __: Any) -> None:
-    """Lets a request be sent once, as newer versions of aiohttp send a PUT or a DELETE again if a connection breaks; and
-    while no other gateway goes on with its batch, which it may have waited for its connection."""
+    """Lets a request be sent once: newer versions of aiohttp send a PUT or a DELETE again if a connection breaks; and
+    only while its batch is held, as it may have waited for its connection."""
     if getattr(context, "is_sent", False):
         raise aiohttp.ClientConnectionError("the request was sent before")
     if context.trace_request_ctx is not None:
@@ -133,12 +133,12 @@ class Upstreams:
         self._reasons.say(url, code, reason, detail)
 
     async def send(self, request: Outgoing, room: Room, journal: Optional[StoreJournal] = None) -> Answer:
-        """Sends a request, which has its place, and returns its answer with whole body; one that has a journal, and is not
-        a GET, while no other gateway goes on with its batch.
+        """Sends a request, which has its place, and returns its answer with whole body; one that has a journal, and is
+        not a GET, while no other gateway goes on with its batch.
 
         Raises:
-            Refusal: It was not sent: 503 ``Stopping``, ``Unreachable`` or ``NoJournal``. There is no answer: 504 ``Timeout`` or
-                ``Stopped``, or 502 ``BadGateway``. It cannot be shown: 502 ``Encoded``, or 507 ``TooLong`` for a GET.
+            Refusal: It was not sent: 503 ``Stopping``, ``Unreachable`` or ``NoJournal``, or 409 ``InProgress``. There is
+                no answer: 504 ``Timeout`` or ``Stopped``, or 502 ``BadGateway``. It cannot be shown: 502 ``Encoded``, or 507 ``TooLong`` for a GET.
         """
         if self.is_stopping:
             raise Refusal(503, "Stopping", "The gateway stops, and has not sent the request", retry_after="1")

@@ -1,4 +1,4 @@
-"""Where the journals of batches are kept, so that a batch may be sent again: for the gateway, or a gateway of one's own.
+"""Where the journals of batches are kept, so that a batch may be sent again: for the gateway, or one of your own.
 
 >>> import asyncio, tempfile
 >>> from odb_batch import perform_async
@@ -7,7 +7,7 @@
 ...     async with journals.journal(name, identity(batch=digest(batch))) as journal:
 ...         return await perform_async(batch, send, journal=journal)
 
-See docs/gateway.md. :class:`Store` says what a store of one's own needs, and :mod:`odb_batch.journals.testing` tests it.
+See docs/gateway.md. :class:`Store` says what a store needs, and :mod:`odb_batch.journals.testing` tests it.
 """
 
 import os

@@ -144,7 +144,7 @@ class StoreJournal:
     # The end
 
     def leave(self) -> bool:
-        """Ends the journal; returns whether others have to be let on with the batch, as something is out or not kept."""
+        """Ends the journal; returns whether others have to be let on, as something is out or not kept."""
         self._is_left = True
         if self._soon is not None:
             self._soon.cancel()

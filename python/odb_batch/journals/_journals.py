@@ -58,7 +58,7 @@ class Journals:
 
     Attributes:
         broken: Raises OSError once the store turns out to be unusable after `open`.
-        appends, parts, bytes, seconds: How many appends there were, of how many parts and bytes, and how long they took.
+        appends, parts, bytes, seconds: How many appends there were, of how many parts and bytes, and their time.
         refused, lost: How many batches another process has taken over, and how many requests were lost.
     """
 
@@ -83,7 +83,7 @@ class Journals:
         return self._is_open and not self.store.lease.is_over
 
     async def open(self) -> None:
-        """Opens the store, or begins to wait for it if it cannot be reached now; raises OSError if it cannot be used."""
+        """Opens the store, or begins to wait for it if it cannot be reached; raises OSError if it cannot be used."""
         self.broken: "asyncio.Future[None]" = asyncio.get_running_loop().create_future()
         try:
             await self.store.open()

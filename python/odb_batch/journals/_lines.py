@@ -1,5 +1,5 @@
-"""The text of journals: the first line names the batch, each other one is an event, after which the bodies of its reports
-come as they are.
+"""The text of journals: the first line names the batch, each other one is an event, after which the bodies of its
+reports come as they are.
 """
 
 import hashlib

@@ -152,8 +152,10 @@ class PostgresqlStore:
         return rows
 
     async def _in_time(self, connection: Any, seconds: float, work: Coroutine[Any, Any, Any]) -> Any:
-        """What some work over a connection returns; ends the connection where it takes too long. Not `wait_for`, which would
-        cancel the statement at the server, too."""
+        """What some work over a connection returns; ends the connection where it takes too long.
+
+        Not `wait_for`, which would cancel the statement at the server, too.
+        """
         task = asyncio.ensure_future(work)
         try:
             await asyncio.wait({task}, timeout=seconds)

@@ -18,13 +18,14 @@ from ._stores import THREADS, Found, Hold, Lease, Part
 _FORM = 1
 _TABLES = """
 CREATE TABLE IF NOT EXISTS part (
-    batch BLOB NOT NULL, number INTEGER NOT NULL, holder INTEGER NOT NULL, writer INTEGER NOT NULL, open INTEGER NOT NULL,
-    at REAL NOT NULL, size INTEGER NOT NULL, pieces INTEGER NOT NULL, text BLOB NOT NULL, PRIMARY KEY (batch, number)
+    batch BLOB NOT NULL, number INTEGER NOT NULL, holder INTEGER NOT NULL, writer INTEGER NOT NULL,
+    open INTEGER NOT NULL, at REAL NOT NULL, size INTEGER NOT NULL, pieces INTEGER NOT NULL, text BLOB NOT NULL,
+    PRIMARY KEY (batch, number)
 );
 CREATE INDEX IF NOT EXISTS part_at ON part (at) WHERE number = 0;
 CREATE TABLE IF NOT EXISTS piece (
-    batch BLOB NOT NULL, number INTEGER NOT NULL, holder INTEGER NOT NULL, writer INTEGER NOT NULL, place INTEGER NOT NULL,
-    text BLOB NOT NULL, PRIMARY KEY (batch, number, holder, writer, place)
+    batch BLOB NOT NULL, number INTEGER NOT NULL, holder INTEGER NOT NULL, writer INTEGER NOT NULL,
+    place INTEGER NOT NULL, text BLOB NOT NULL, PRIMARY KEY (batch, number, holder, writer, place)
 );
 """
 _SIZE = "SELECT coalesce(sum(size), 0) FROM part WHERE batch = ?"
@@ -37,7 +38,8 @@ _OLD = """DELETE FROM part WHERE batch IN (SELECT batch FROM part AS a WHERE num
     AND NOT EXISTS (SELECT 1 FROM part AS b WHERE b.batch = a.batch AND b.at >= ?1)
     AND NOT EXISTS (SELECT 1 FROM part AS c WHERE c.batch = a.batch AND c.open
         AND c.holder IN (SELECT value FROM json_each(?2))
-        AND NOT EXISTS (SELECT 1 FROM part AS d WHERE d.batch = c.batch AND d.number > c.number)) ORDER BY at LIMIT 500)"""
+        AND NOT EXISTS (SELECT 1 FROM part AS d WHERE d.batch = c.batch AND d.number > c.number))
+    ORDER BY at LIMIT 500)"""
 # A piece that no part names is of a batch that was removed, or of a process that ended before it has kept the part.
 _LEFT = """DELETE FROM piece WHERE rowid IN (SELECT rowid FROM piece WHERE NOT EXISTS (SELECT 1 FROM part
     WHERE part.batch = piece.batch) LIMIT 64)"""
@@ -67,7 +69,7 @@ class SqliteStore:
     # A thread for what writes, and one for what reads
 
     async def _run(self, pool: ThreadPoolExecutor, work: Callable[..., _Result], *given: Any) -> _Result:
-        """What a function returns in a thread; raises OSError if that takes too long, also for those that come after it."""
+        """What a function returns in a thread; raises OSError if that takes too long, also for what comes after it."""
         if self._hanging is not None and not self._hanging.done():
             raise OSError("SQLite: the device hangs, or a process that writes is stopped")
         found = asyncio.wrap_future(pool.submit(work, *given))

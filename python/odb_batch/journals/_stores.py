@@ -104,8 +104,8 @@ class Store(Protocol):
         """Returns the seconds since 1970 of the clock by which parts have their time."""
 
     async def read(self, batch: bytes, hold: Hold) -> List[Found]:
-        """Returns the parts of a batch in order, all of one moment. `hold` is called with the size of their texts before
-        these are read."""
+        """Returns the parts of a batch in order, all of one moment. `hold` is called with the size of their texts
+        before these are read."""
 
     async def append(self, parts: Sequence[Part]) -> Set[bytes]:
         """Appends parts of different batches, each if the part before has the mark `after`, and no other part its
@@ -122,5 +122,5 @@ class Store(Protocol):
         """Returns once all that was read is kept for good, whoever has appended it."""
 
     async def prune(self, before: float) -> None:
-        """Removes the batches whose parts are all older than a moment, by the clock of `now`, but not one whose last part
-        is open and whose holder has not ended."""
+        """Removes the batches whose parts are all older than a moment, by the clock of `now`, but not one whose last
+        part is open and whose holder has not ended."""
