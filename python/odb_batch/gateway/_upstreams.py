@@ -138,7 +138,8 @@ class Upstreams:
 
         Raises:
             Refusal: It was not sent: 503 ``Stopping``, ``Unreachable`` or ``NoJournal``, or 409 ``InProgress``. There is
-                no answer: 504 ``Timeout`` or ``Stopped``, or 502 ``BadGateway``. It cannot be shown: 502 ``Encoded``, or 507 ``TooLong`` for a GET.
+                no answer: 504 ``Timeout`` or ``Stopped``, or 502 ``BadGateway``. It cannot be shown: 502 ``Encoded``,
+                or 507 ``TooLong`` for a GET.
         """
         if self.is_stopping:
             raise Refusal(503, "Stopping", "The gateway stops, and has not sent the request", retry_after="1")
