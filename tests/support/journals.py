@@ -9,6 +9,8 @@ from odb_batch import Report, ReportUnit, Start, StartUnit, Stop
 from odb_batch.journals import NOBODY, Journals, Part, digest, identity, store_of
 from odb_batch.journals._lines import chunks_of
 
+from .servers import SECONDS
+
 EVENTS = [
     Start("a"), Report("a", 201, {"location": "/x(1)"}, b'{"n":\n 9.990, "t": "\xc3\xbc"}'), StartUnit(("b", "c")),
     Report("c", 204, {}), Report("b", 200, {}, b'"text"'), StartUnit(("d", "e")),
@@ -85,3 +87,18 @@ def age(place, seconds):
     with contextlib.closing(sqlite3.connect(os.path.join(place, "journal.sqlite"))) as connection:
         with connection:
             connection.execute("UPDATE part SET at = at - ?", (seconds,))
+
+
+async def soon(condition):
+    """Waits until a condition holds."""
+    for _ in range(SECONDS * 100):
+        if condition():
+            return
+        await asyncio.sleep(0.01)
+    raise AssertionError(f"nothing came within {SECONDS} seconds")
+
+
+def stop_renewing(journals):
+    """Lets the lease of a process end, as if it were paused."""
+    for task in journals._tasks:
+        task.cancel()
