@@ -51,5 +51,5 @@ class Journal(Protocol):
     async def sync(self) -> None:
         """Returns once all events that were written before this call outlive the process, or the machine.
 
-        It is awaited before a request is sent, and before the response is returned.
+        It is awaited before a request is sent, but a GET that is sent alone, and before the response is returned.
         """

@@ -108,8 +108,8 @@ async def perform_async(
             many others wait for that lock.
         groups: Sends a group as one, and returns what each of its requests is answered, in order. A
             :class:`PreparedGroup` has the batch to send, and reads its response.
-        journal: Where the events of the batch are kept. It is synced before each request that is sent. An exception of it
-            ends the batch and is raised.
+        journal: Where the events of the batch are kept, as one of :mod:`odb_batch.journals`. It is synced before each
+            request that is sent and is not a GET. An exception of it ends the batch and is raised.
 
     Raises:
         Fault: The batch is refused; nothing was sent.
@@ -285,7 +285,7 @@ class _Tasks:
     async def _perform_unit(self, unit: Unit) -> None:
         """Performs a unit, as that of threads does."""
         transaction = self._how.transaction
-        if self._how.journal is not None:
+        if self._how.journal is not None and not self._work.may_be_sent_again(unit.ids[0]):
             await self._how.journal.sync()
         if unit.group is not None and self._how.groups is not None:
             return self._work.finish_group(unit, await self._group_answers(unit, self._how.groups))

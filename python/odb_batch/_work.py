@@ -137,11 +137,15 @@ class Work:
             else:
                 self._run.start(event.id)
                 out[event.id] = None
-        again = {id for id in out if self._requests[id].method == "GET" and self._requests[id].group is None}
+        again = set(filter(self.may_be_sent_again, out))
         for id in [id for id in out if id not in again]:
             LOG.error("%s was out when a process ended, and is lost", id)
             self._report(id, LOST)
         return [Unit((id,), None, is_noted=True) for id in out if id in again]
+
+    def may_be_sent_again(self, id: str) -> bool:
+        """Returns whether a request is a GET that is sent alone."""
+        return self._requests[id].method == "GET" and self._requests[id].group is None
 
     def _take_report(self, event: Report) -> None:
         headers = dict(event.headers or {})

@@ -26,7 +26,7 @@ STARTS = [Start("a"), Start("b"), StartUnit(("c", "d")), Start("e")]
 
 
 class Service:
-    """Answers by outcomes, and keeps what it was sent; a start that is not synced before is an error."""
+    """Answers by outcomes, and keeps what it was sent; a start that is not synced before is an error, but of a GET."""
 
     def __init__(self, outcomes, journal):
         self.outcomes, self.journal, self.sent = outcomes, journal, []
@@ -37,7 +37,7 @@ class Service:
         self.sent.append(id)
 
     async def send(self, request):
-        self.note(request.id)
+        self.sent.append(request.id) if request.method == "GET" else self.note(request.id)
         it = self.outcomes[request.id]
         body = it.get("body")
         await asyncio.sleep(0)
@@ -92,6 +92,20 @@ def test_a_batch_goes_on_after_each_of_its_events():
         assert set(service.sent) & started == out - lost
         if not lost:
             assert again == response
+
+
+def test_a_get_waits_for_no_sync():
+    """It may be sent again, so it need not outlive the process; what is sent after it is synced with it."""
+    requests = [{"id": id, "method": method, "url": "X"} for id, method in (("a", "get"), ("b", "get"), ("c", "post"))]
+    requests[1]["dependsOn"], requests[2]["dependsOn"] = ["a"], ["b"]
+    journal, synced = Memory(), []
+
+    async def send(request):
+        synced.append((request.id, journal.synced))
+        return (200,)
+
+    asyncio.run(perform_async({"requests": requests}, send, journal=journal, base="http://host/"))
+    assert synced == [("a", 0), ("b", 0), ("c", 5)] and journal.synced == 6
 
 
 def test_what_a_group_is_answered_is_one_event():

@@ -16,6 +16,7 @@ from odb_batch import (
     perform_async,
     wsgi,
 )
+from odb_batch.journals import Journals, Store, identity, store_of
 
 
 def send(request: PreparedRequest) -> Tuple[int, Dict[str, str], bytes]:
@@ -103,3 +104,10 @@ answering: Callable[..., Iterable[bytes]] = wsgi.BatchMiddleware(application, "/
 asgi.BatchMiddleware(asynchronous, "/$batch", transaction=group_async, allowed=["x-dry-run"])
 asgi.BatchMiddleware(asynchronous, "/$batch", transaction=send)  # type: ignore[arg-type]
 wsgi.BatchMiddleware(application, "/$batch", transaction=group_async)  # type: ignore[arg-type]
+
+
+async def in_a_store(batch: bytes, store: Store) -> bytes:
+    journals = Journals(store if batch else store_of("/var/lib/odb"), keep=60)
+    await journals.open()
+    async with journals.journal(b"x", identity(batch="1")) as journal:
+        return await perform_async(batch, send_async, groups=send_group, journal=journal)

@@ -4,6 +4,7 @@ import signal
 
 import pytest
 
+from support.databases import Postgresql, skip_without_postgresql
 from support.servers import skip_without
 
 
@@ -51,3 +52,26 @@ def running(aiohttp):
     yield start
     for it in made:
         it.stop(signal.SIGKILL)
+
+
+@pytest.fixture(scope="session")
+def postgresql():
+    """A PostgreSQL in memory."""
+    skip_without_postgresql()
+    found = Postgresql()
+    yield found
+    found.end()
+
+
+@pytest.fixture
+def schema(postgresql):
+    """The URL of a journal in PostgreSQL that has nothing yet."""
+    return postgresql.url(postgresql.schema())
+
+
+@pytest.fixture(params=["sqlite", "postgresql"])
+def place(request):
+    """What --journal names: a journal of each kind that has nothing yet."""
+    if request.param == "postgresql":
+        return request.getfixturevalue("schema")
+    return str(request.getfixturevalue("tmp_path"))

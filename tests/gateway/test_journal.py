@@ -1,21 +1,19 @@
-"""Batches with a Repeatability-Request-ID: files of events, cut at any byte, damaged, locked and full."""
+"""Batches with a Repeatability-Request-ID, over both stores: ended at any event, damaged, sent at once, without a disk."""
 
 import asyncio
 import email.utils
 import json
-import os
+import re
 import secrets
 import threading
-import time
 from collections import Counter
 from concurrent.futures import ThreadPoolExecutor
 
 import pytest
 
-from odb_batch.gateway import _journal
-from odb_batch.gateway._journal import Journals
 from odb_batch.gateway._repeatability import seconds_of
-from support.journals import EVENTS, FIRST, Clocks, events_of, file_of, opened, pruned, written
+from odb_batch.journals import _lines
+from support.journals import count_at, plant, text_at
 from support.servers import CONTINUE, FIRST_SENT, JSON, SECONDS, repeatable, until
 
 REQUESTS = [
@@ -27,124 +25,31 @@ REQUESTS = [
     {"id": "f", "method": "delete", "url": "F", "dependsOn": ["g", "b"]},
 ]
 BATCH = json.dumps({"requests": REQUESTS})
-
-
-def test_events_are_read_as_they_were_written(tmp_path):
-    journals = Journals(str(tmp_path), 60)
-    written(journals)
-    assert events_of(journals) == EVENTS
-    assert os.stat(file_of(tmp_path)).st_mode & 0o777 == 0o600
-
-
-def test_a_torn_line_is_dropped(tmp_path):
-    journals = Journals(str(tmp_path), 60)
-    written(journals)
-    path = file_of(tmp_path)
-    with open(path, "rb") as file:
-        whole = file.read()
-    ends = [at + 1 for at, byte in enumerate(whole) if byte == 10]
-    for cut in range(ends[0], len(whole)):
-        for tail in (b"", b"\0\0\0", b"\0\0\n"):
-            with open(path, "wb") as file:
-                file.write(whole[:cut] + tail)
-            assert events_of(journals) == EVENTS[: sum(end <= cut for end in ends) - 1]
-    for cut in range(ends[0]):
-        with open(path, "wb") as file:
-            file.write(whole[:cut])
-        assert (events_of(journals), os.listdir(tmp_path)) == ([], [])  # nothing has happened, so no file is left
+# What is kept of a batch of the client ada.
+NAME = b"3:ada%s"
 
 
 @pytest.mark.parametrize("line", [
-    b"{}\n", b"[]\n", b"x\n", b"[" * 100_000 + b"\n", b'{"report":"a","status":200}\n', b'{"start":7}\n', b'{"start":[]}\n', b'{"start":[7]}\n',
-    b'{"start":[[]]}\n', b'{"report":"a","status":"200","headers":{},"body":null}\n',
-    b'{"report":"a","status":200,"headers":7,"body":null}\n',
-], ids=range(11))  # fmt: skip
-def test_a_damaged_file_is_not_gone_on_with(tmp_path, line, upstream, front):
-    service = upstream()
-    it = front("--upstream", service.url, "--journal", str(tmp_path), "--one-client", "--groups", "forward")
-    headers = {**CONTINUE, **repeatable("x")}
-    assert it.ask("POST", "/odata/$batch", BATCH, headers)[0] == 200
-    with open(file_of(tmp_path), "rb+") as file:
-        lines = file.read().splitlines(keepends=True)
-        file.seek(0)
-        file.write(b"".join([lines[0], line, *lines[1:]]))
-    count = len(service.seen)
-    status, _, text = it.ask("POST", "/odata/$batch", BATCH, headers)
-    assert (status, json.loads(text)["error"]["code"], len(service.seen)) == (500, "BadJournal", count)
-
-
-def test_what_another_process_has_written_is_synced(tmp_path, monkeypatch):
-    """It may have ended before it synced the events, or the name of the file."""
-    journals, synced = Journals(str(tmp_path), 60), []
-    written(journals)
-    sync = os.fsync
-    monkeypatch.setattr(_journal.os, "fsync", lambda file: (synced.append(os.fstat(file).st_ino), sync(file)))
-    written(journals, [])
-    assert synced == [os.stat(it).st_ino for it in (file_of(tmp_path), tmp_path)]
-
-
-@pytest.mark.parametrize("name, result", [("write", OSError(28, "full")), ("write", 5), ("fsync", OSError(5, "broken"))])
-def test_nothing_is_kept_after_a_failure(tmp_path, monkeypatch, name, result):
-    """A failed sync is reported once, and a line after one that is cut or missing could not be read again."""
-    journals = Journals(str(tmp_path), 60)
-
-    def failing(file, *line):
-        monkeypatch.undo()
-        if isinstance(result, OSError):
-            raise result
-        return os.write(file, line[0][:result])
-
-    async def keep():
-        journal = opened(journals)
-        journal.write(EVENTS[0])
-        await journal.sync()
-        monkeypatch.setattr(_journal.os, name, failing)
-        for event in EVENTS[1:3]:
-            with pytest.raises(OSError):
-                journal.write(event)
-                await journal.sync()
-        journal.close()
-
-    asyncio.run(keep())
-    assert events_of(journals) == EVENTS[: 2 if name == "fsync" else 1]
-
-
-def test_a_first_line_that_is_cut(tmp_path, monkeypatch):
-    journals, write = Journals(str(tmp_path), 60), os.write
-    with monkeypatch.context() as patched:
-        patched.setattr(_journal.os, "write", lambda file, line: write(file, line[:7]))
-        with pytest.raises(OSError):
-            journals.open(b"x", FIRST)
-    written(journals)
-    assert events_of(journals) == EVENTS
-
-
-def test_a_link_is_not_followed(tmp_path):
-    folder, other = tmp_path / "journals", tmp_path / "other"
-    folder.mkdir()
-    other.write_text("")
-    os.utime(other, (0, 0))
-    (folder / _journal.digest(b"x")).symlink_to(other)
-    clocks = Clocks()
-    journals = clocks.journals(folder)
-    with pytest.raises(OSError):
-        journals.open(b"x", FIRST)
-    pruned(journals, clocks)
-    assert other.read_text() == "" and len(os.listdir(folder)) == 1
-
-
-@pytest.mark.parametrize("folder", ["no", "file"])
-def test_a_folder_that_is_not_there(tmp_path, folder):
-    (tmp_path / "file").write_text("")
-    with pytest.raises(OSError):
-        Journals(str(tmp_path / folder), 60)
-
-
-# Over HTTP
+    b"{}\n", b"[]\n", b"x\n", b"[" * 100_000 + b"\n", b'{"report":[["a",200]]}\n', b'{"start":7}\n', b'{"start":[]}\n',
+    b'{"start":[7]}\n', b'{"start":[[]]}\n', b'{"report":[["a","200",{},null]]}\n', b'{"report":[["a",200,7,null]]}\n',
+    b'{"report":[["a",200,{},-5]]}\n', b'{"report":[["a",200,{},9999999]]}\n', b'{"report":[]}\n', b"{",
+], ids=range(15))  # fmt: skip
+def test_a_damaged_batch_is_not_gone_on_with(pair, place, line):
+    service, ask = pair
+    assert ask("x")[0] == 200
+    text = text_at(place, NAME % b"x")
+    count, at = len(service.seen), text.index(b"\n") + 1
+    plant(place, NAME % b"y", text[:at] + line + text[at:])
+    plant(place, NAME % b"z", line)
+    for id in "yz":
+        status, _, answer = ask(id)
+        found = json.loads(answer)["error"]["code"]
+        assert (status, found, len(service.seen)) in ((500, "BadJournal", count), (422, "AnotherBatch", count))
+        assert id == "z" or found == "BadJournal"
 
 
 @pytest.fixture
-def pair(upstream, front, tmp_path):
+def pair(upstream, front, place):
     """A service that performs groups, and a function that sends it a batch through a gateway with a journal."""
     from aiohttp import web
 
@@ -158,13 +63,14 @@ def pair(upstream, front, tmp_path):
 
     service = upstream(answer)
     it = front(
-        "--upstream", service.url, "--journal", str(tmp_path), "--groups", "forward", "--client-header", "X-Client"
+        "--upstream", service.url, "--journal", place, "--groups", "forward", "--client-header", "X-Client"
     )  # fmt: skip
 
     def ask(id, batch=BATCH, path="/odata/$batch", **headers):
         named = {name.replace("_", "-"): value for name, value in headers.items()}
         return it.ask("POST", path, batch, {**CONTINUE, **repeatable(id), "X-Client": "ada", **named})
 
+    ask.front = it
     return service, ask
 
 
@@ -182,24 +88,28 @@ def test_a_finished_batch_is_answered_the_same(pair):
     assert ask("y")[0] == 200 and len(service.seen) == 2 * count
 
 
-def test_a_batch_goes_on_wherever_its_journal_ends(pair, tmp_path):
+def test_a_batch_goes_on_wherever_its_journal_ends(pair, place):
     service, ask = pair
     whole = ask("x")[2]
-    path = file_of(tmp_path)
-    with open(path, "rb") as file:
-        events = file.read()
-    for cut in {*range(0, len(events), 29), *(at + 1 for at, byte in enumerate(events) if byte == 10)}:
-        with open(path, "wb") as file:
-            file.write(events[:cut])
-        happened = list(map(json.loads, events[:cut].splitlines(keepends=True)[1 : events[:cut].count(b"\n")]))
-        started = {
-            id for it in happened for id in ([it["start"]] if isinstance(it.get("start"), str) else it.get("start", ()))
-        }
-        reports = [report for it in happened for report in it.get("reports", [it])]
-        out = started - {it["report"] for it in reports if "report" in it}
+    text = text_at(place, NAME % b"x")
+    first = text.index(b"\n") + 1
+    events = _lines.events_of(text[first:])
+    ends = [first]
+    for event in events:
+        ends.append(ends[-1] + len(b"".join(_lines.chunks_of(event))))
+    assert ends[-1] == len(text) and len(events) == 10
+    for count, end in enumerate(ends):
+        id = f"after {count}"
+        plant(place, NAME % id.encode(), text[:end])
+        out = set()
+        for event in events[:count]:
+            reports = getattr(event, "reports", (event,) if hasattr(event, "status") else ())
+            out |= set() if reports else {event.id} if hasattr(event, "id") else set(event.ids)
+            out -= {it.id for it in reports}
+        started = {it for event in events[:count] for it in getattr(event, "ids", [getattr(event, "id", None)])}
         del service.seen[:]
-        status, _, text = ask("x")
-        found = statuses(text)
+        status, _, again = ask(id)
+        found = statuses(again)
         lost = {id for id, status in found.items() if status == 500}
         assert (status, lost) == (200, out - {"b", "c"})
         sent = Counter(it.path for it in service.seen)
@@ -207,8 +117,8 @@ def test_a_batch_goes_on_wherever_its_journal_ends(pair, tmp_path):
         done = started - out | lost
         names = {"a": "/odata/A", "b": "/odata/A(1)/B", "c": "/odata/C", "d": "/odata/$batch", "f": "/odata/F"}
         assert not {names[id] for id in done if id in names} & sent.keys()
-        assert lost or text == whole
-        assert ask("x")[2] == text
+        assert lost or again == whole
+        assert ask(id)[2] == again
 
 
 @pytest.mark.parametrize("change", [
@@ -240,12 +150,12 @@ def test_another_client_has_the_id_for_itself(pair):
     assert len(service.seen) == 2 * count
 
 
-def test_a_second_client_at_once(upstream, front, tmp_path):
+def test_a_second_client_at_once(upstream, front, place):
     from support.gateways import waiting
 
     event = threading.Event()
     service = upstream(waiting(event))
-    words = ["--upstream", service.url, "--journal", str(tmp_path), "--one-client"]
+    words = ["--upstream", service.url, "--journal", place, "--one-client"]
     fronts = [front(*words), front(*words)]
     batch = json.dumps({"requests": [{"id": "a", "method": "post", "url": "slow"}]})
     headers = {**CONTINUE, **repeatable("x")}
@@ -260,48 +170,54 @@ def test_a_second_client_at_once(upstream, front, tmp_path):
 @pytest.mark.parametrize("batch, headers, status", [
     ('{"requests": 7}', CONTINUE, 400), ("{}", {**CONTINUE, "Content-Type": "text/plain"}, 415), (BATCH, JSON, 501),
 ])  # fmt: skip
-def test_what_is_refused_leaves_no_file(upstream, front, tmp_path, batch, headers, status):
+def test_what_is_refused_leaves_nothing(upstream, front, tmp_path, batch, headers, status):
     it = front("--upstream", upstream().url, "--journal", str(tmp_path), "--one-client")
     assert it.ask("POST", "/odata/$batch", batch, {**headers, **repeatable("x")})[0] == status
-    assert os.listdir(tmp_path) == []
+    assert count_at(tmp_path) == 0
 
 
-def test_a_start_is_synced_before_it_is_sent(pair, monkeypatch):
+def store_of(pair):
+    """The store of the gateway that a pair has."""
+    return pair[1].front.gateway._journals.store
+
+
+def test_a_start_is_kept_before_it_is_sent(pair, monkeypatch):
     service, ask = pair
-    sync, seen = os.fsync, []
+    store = store_of(pair)
+    append, seen = store.append, []
 
-    def slow(file):
-        before = os.fstat(file).st_size
-        time.sleep(0.02)
-        seen.append((len(service.seen), before))
-        return sync(file)
+    async def slow(parts):
+        for name, path in ((b'"a"', "/odata/A"), (b'["d"', "/odata/$batch"), (b'"f"', "/odata/F")):
+            if any(b'{"start":' + name in it.text for it in parts):
+                seen.append((path, path in service.paths))
+        await asyncio.sleep(0.02)
+        return await append(parts)
 
-    monkeypatch.setattr(_journal.os, "fsync", slow)
+    monkeypatch.setattr(store, "append", slow)
     assert ask("x")[0] == 200
-    assert [count for count, _ in seen[:2]] == [0, 0]  # the file, and then the folder that has its name
-    assert max(count for count, _ in seen) == len(service.seen)
+    assert sorted(seen) == [("/odata/$batch", False), ("/odata/A", False), ("/odata/F", False)]
 
 
-@pytest.mark.parametrize("is_torn", [False, True])
-@pytest.mark.parametrize("at", [2, 4, 6, 8])
-def test_a_disk_that_is_full(pair, monkeypatch, at, is_torn):
-    """It fails at one line; nothing comes after that, and sent again the batch goes on."""
+@pytest.mark.parametrize("at", range(1, 4))
+def test_a_store_that_fails(pair, monkeypatch, at):
+    """As on a full disk: nothing comes after that, and sent again the batch goes on."""
     service, ask = pair
-    write, lines = os.write, []
+    store = store_of(pair)
+    append, calls = store.append, []
 
-    def failing(file, line):
-        lines.extend([line] if line.startswith(b"{") else [])
-        if len(lines) != at:
-            return write(file, line)
-        if is_torn:
-            return write(file, line[:9])
-        raise OSError(28, "No space left on device")
+    async def failing(parts):
+        calls.append(parts)
+        if len(calls) == at:
+            raise OSError(28, "No space left on device")
+        return await append(parts)
 
     with monkeypatch.context() as patched:
-        patched.setattr(_journal.os, "write", failing)
-        status, _, text = ask("x")
-    assert (status, json.loads(text)["error"]["code"]) == (500, "BadJournal")
-    assert len(lines) == at
+        patched.setattr(store, "append", failing)
+        status, headers, text = ask("x")
+        wanted = (503, "NoJournal", "1") if at == 1 else (500, "BadJournal", None)
+        assert (status, json.loads(text)["error"]["code"], headers.get("retry-after")) == wanted
+        assert at > 1 or {it.path for it in service.seen} <= {"/odata/C"}
+        until(lambda: not pair[1].front.gateway._journals._releases)
     status, _, text = ask("x")
     assert status == 200
     posts = Counter(it.path for it in service.seen if it.method != "GET")
@@ -309,10 +225,122 @@ def test_a_disk_that_is_full(pair, monkeypatch, at, is_torn):
     assert set(statuses(text).values()) <= {200, 201, 500, 424}
 
 
-def test_names_of_files_say_nothing(pair, tmp_path):
+def test_a_store_that_is_away(pair, monkeypatch):
+    """503 before anything is sent; other batches are answered."""
+    service, ask = pair
+    store = store_of(pair)
+
+    async def away(*given):
+        raise ConnectionError("it is away")
+
+    with monkeypatch.context() as patched:
+        patched.setattr(store, "read", away)
+        status, headers, text = ask("x")
+        assert (status, json.loads(text)["error"]["code"], headers["retry-after"]) == (503, "NoJournal", "1")
+        assert service.seen == []
+        front = pair[1].front
+        assert front.ask("POST", "/odata/$batch", BATCH, CONTINUE)[0] == 200
+        assert 'faults_total{code="NoJournal"} 1' in front.metrics()
+    assert ask("x")[0] == 200
+
+
+def test_what_is_kept_says_no_more_than_it_has_to(pair, place):
     _, ask = pair
     id = "../" + secrets.token_hex(4)
     assert ask(id, Authorization="Basic c2VjcmV0")[0] == 200
-    with open(file_of(tmp_path), "rb") as file:
-        text = file.read()
-    assert b"c2VjcmV0" not in text and id.encode() not in text
+    text = text_at(place, NAME % id.encode())
+    assert b"c2VjcmV0" not in text and id.encode() not in text and b"/odata/A(1)" in text
+
+
+def test_metrics_of_a_journal(pair):
+    _, ask = pair
+    assert ask("x")[0] == 200
+    text = pair[1].front.metrics()
+    values = dict(re.findall(r"(?m)^odb_gateway_journal_(\w+) (\S+)$", text))
+    assert {"appends_total", "parts_total", "bytes_total", "seconds_total", "breaks_total", "refused_total", "lost_total"} <= set(values)
+    assert 1 <= float(values["parts_total"]) <= 10 and float(values["bytes_total"]) > 500 and values["breaks_total"] == "0"
+
+
+# Leases
+
+
+@pytest.fixture
+def late(upstream, front, schema):
+    """A service, a gateway whose lease ends unless it is renewed by hand, and the journals of that."""
+    service = upstream()
+    it = front("--upstream", service.url, "--journal", schema, "--one-client", "--lease", "2")
+    journals = it.gateway._journals
+
+    async def stop():
+        for task in journals._tasks:
+            task.cancel()
+
+    yield service, it, journals, stop
+
+
+def ask_soon(it, id="x"):
+    requests = [{"id": "a", "method": "post", "url": "A", "body": 1}, {"id": "b", "method": "get", "url": "B"}]
+    return it.ask("POST", "/odata/$batch", json.dumps({"requests": requests}), {**CONTINUE, **repeatable(id)})
+
+
+def test_a_gateway_is_not_ready_without_a_lease(late, loop):
+    _, it, journals, stop = late
+    assert it.ask("GET", "/health/ready")[0] == 200
+    assert float(re.search(r"(?m)^odb_gateway_journal_lease_seconds (\S+)", it.metrics())[1]) > 0
+    loop.run(stop())
+    until(lambda: it.ask("GET", "/health/ready")[0] == 503)
+    assert it.ask("GET", "/health/ready")[2] == b"the journal cannot be reached\n"
+    assert it.ask("GET", "/health")[0] == 200
+    assert "journal_lease_seconds 0.0" in it.metrics()
+    loop.run(journals.store.renew())
+    assert it.ask("GET", "/health/ready")[0] == 200
+
+
+@pytest.mark.parametrize("where", ["head", "body"])
+def test_a_request_that_waited_for_its_connection_is_not_sent_after_its_lease(late, loop, monkeypatch, where):
+    """Another gateway may have answered that it is lost. Once the lease is renewed it is sent, if not its head was."""
+    from odb_batch.gateway import _upstreams
+    from odb_batch.journals import StoreJournal
+
+    service, it, journals, stop = late
+    held, calls, ended = StoreJournal.require_held, [], threading.Event()
+
+    def require(journal):
+        calls.append(journal)
+        if len(calls) == (1 if where == "head" else 2):
+            journals.store.lease.deadline = 0.0  # as after a pause
+            ended.set()
+        held(journal)
+
+    loop.run(stop())
+    monkeypatch.setattr(StoreJournal, "require_held", require)
+    with ThreadPoolExecutor(1) as clients:
+        asked = clients.submit(ask_soon, it)
+        assert ended.wait(SECONDS)
+        assert not [seen for seen in service.seen if seen.method == "POST"]
+        loop.run(journals.store.renew())
+        status, _, text = asked.result(SECONDS)
+    found = {it["id"]: (it["status"], it.get("body", {}).get("error", {}).get("code")) for it in json.loads(text)["responses"]}
+    assert status == 200 and _upstreams
+    posts = [seen for seen in service.seen if seen.method == "POST"]
+    if where == "head":
+        assert (found["a"], len(posts)) == ((201, None), 1)
+    else:
+        assert (found["a"], len(posts)) == ((502, "BadGateway"), 0)
+
+
+def test_a_request_is_answered_503_if_its_batch_cannot_be_held(late, loop, monkeypatch):
+    from odb_batch.journals import Late, StoreJournal
+
+    service, it, journals, stop = late
+
+    def require(journal):
+        journals.store.lease.deadline = 0.0
+        raise Late
+
+    loop.run(stop())
+    monkeypatch.setattr(StoreJournal, "require_held", require)
+    status, _, text = ask_soon(it)
+    assert not [seen for seen in service.seen if seen.method == "POST"]
+    code = json.loads(text)["error"]["code"] if status != 200 else json.loads(text)["responses"][0]["body"]["error"]["code"]
+    assert code in ("NoJournal", "BadJournal")

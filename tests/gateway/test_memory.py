@@ -1,12 +1,12 @@
 """What batches and their answers hold in memory: reserved as it is read, from one budget, and given back."""
 
 import json
-import os
 import socket
 
 import pytest
 
 from odb_batch.gateway._options import options_of
+from support.journals import text_at
 from support.servers import CONTINUE, SECONDS, repeatable, until
 
 ONE = json.dumps({"requests": [{"id": "a", "method": "get", "url": "x"}]})
@@ -88,14 +88,13 @@ def test_an_answer_for_which_others_have_left_no_memory(upstream, front, method,
     assert (found["status"], found.get("body", {}).get("error", {}).get("code")) == (status, code)
 
 
-def test_a_journal_is_read_only_if_there_is_memory_for_it(upstream, front, tmp_path):
+def test_a_journal_is_read_only_if_there_is_memory_for_it(upstream, front, place):
     service = upstream()
-    it = front("--upstream", service.url, "--journal", str(tmp_path), "--one-client", "--memory", "500000",
+    it = front("--upstream", service.url, "--journal", place, "--one-client", "--memory", "500000",
                "--max-size", "400000")  # fmt: skip
     headers = {**CONTINUE, **repeatable("x")}
     first = it.ask("POST", "/odata/$batch", ONE, headers)
-    (name,) = os.listdir(tmp_path)
-    left = len(ONE) + os.stat(tmp_path / name).st_size - 1
+    left = len(ONE) + len(text_at(place, b"0:x")) - 1
     assert it.gateway._budget.take(500_000 - left)
     assert it.ask("POST", "/odata/$batch", ONE, headers)[0] == 503
     it.gateway._budget.give(500_000 - left)

@@ -1,4 +1,5 @@
-"""What docs/gateway.md shows: its commands and its code, run; its options, statuses and blocks for others, compared.
+"""What docs/gateway.md shows: its commands and its code, run; its options, statuses and blocks for others, compared. And
+the gateways of docs/scale.md.
 
 `PYTHONPATH=tests:python python3 tests/gateway/test_page.py --write` puts into the page what its commands print, over
 the library that ODB_BATCH_LIBRARY names.
@@ -21,7 +22,7 @@ import pytest
 
 from support.commands import with_package
 from support.program import ROOT
-from support.servers import SECONDS, Asked
+from support.servers import CONTINUE, SECONDS, Asked, repeatable
 
 PAGE = os.path.join(ROOT, "docs", "gateway.md")
 
@@ -118,6 +119,23 @@ def test_the_code_of_the_page_sends_a_group(loop, upstream):
     assert sorted(service.paths) == ["/odata/$batch", "/odata/C"]
 
 
+def test_a_gateway_of_ones_own_keeps_a_batch(place):
+    """The second time it answers from what is kept."""
+    from odb_batch import perform_async
+
+    sent = []
+
+    async def send(request):
+        sent.append(request.id)
+        return 201, {}, {"number": len(sent)}
+
+    batch = json.dumps({"requests": [{"id": "a", "method": "post", "url": "A"}]}).encode()
+    names = {"perform_async": perform_async, "send": send, "BASE": "http://host/odata/", "batch": batch}
+    exec(blocks("python")[1], names)
+    first, again = (asyncio.run(names["main"](place)) for _ in range(2))
+    assert (first, sent) == (again, ["a"]) and b'"number":1' in first
+
+
 def grouped(seen):
     from aiohttp import web
 
@@ -165,33 +183,38 @@ def test_the_probes_of_the_page_are_answered(upstream, running):
     assert int(re.search("terminationGracePeriodSeconds: ([0-9]+)", text)[1]) > 25 + 5
 
 
+@contextlib.contextmanager
+def nginx(blocks, folder, port):
+    """nginx with some blocks of its configuration, which listens at a port."""
+    paths = "".join(f"{name}_temp_path {folder}/{name};" for name in ("client_body", "proxy", "fastcgi", "uwsgi", "scgi"))
+    http = f"http {{ access_log off; {paths} {blocks} }}"
+    (folder / "nginx.conf").write_text(f"daemon off; pid {folder}/pid; events {{}} {http}")
+    words = ["nginx", "-c", str(folder / "nginx.conf"), "-p", str(folder), "-e", str(folder / "log")]
+    with subprocess.Popen(words) as process:
+        try:
+            front = Asked()
+            front.port = int(port)
+            wait_for(front)
+            yield front
+        finally:
+            process.terminate()
+
+
 @pytest.mark.needs("nginx")
 def test_nginx_sends_batches_to_the_gateway(upstream, running, tmp_path):
     service = upstream()
     it, port = running("--upstream", service.url), free_port()
     server = blocks("nginx")[0].replace("8090", str(it.port))
     other = f"location / {{ proxy_pass {service.url}; }}"
-    paths = "".join(
-        f"{name}_temp_path {tmp_path}/{name};" for name in ("client_body", "proxy", "fastcgi", "uwsgi", "scgi")
-    )
-    http = f"http {{ access_log off; {paths} server {{ listen 127.0.0.1:{port}; {server} {other} }} }}"
-    (tmp_path / "nginx.conf").write_text(f"daemon off; pid {tmp_path}/pid; events {{}} {http}")
-    words = ["nginx", "-c", str(tmp_path / "nginx.conf"), "-p", str(tmp_path), "-e", str(tmp_path / "log")]
-    with subprocess.Popen(words) as nginx:
-        try:
-            front = Asked()
-            front.port = int(port)
-            wait_for(front)
-            found = front.batch(
-                {"method": "post", "url": "Books"},
-                {"url": "$r0", "dependsOn": ["r0"]},
-                {"url": f"http://127.0.0.1:{port}/odata/x"},
-            )
-            assert [it["status"] for it in found.values()] == [201, 200, 200]
-            assert service.seen[-1].headers["x-forwarded-host"] == f"127.0.0.1:{port}"
-            assert front.ask("GET", "/odata/plain")[0] == 200
-        finally:
-            nginx.terminate()
+    with nginx(f"server {{ listen 127.0.0.1:{port}; {server} {other} }}", tmp_path, port) as front:
+        found = front.batch(
+            {"method": "post", "url": "Books"},
+            {"url": "$r0", "dependsOn": ["r0"]},
+            {"url": f"http://127.0.0.1:{port}/odata/x"},
+        )
+        assert [it["status"] for it in found.values()] == [201, 200, 200]
+        assert service.seen[-1].headers["x-forwarded-host"] == f"127.0.0.1:{port}"
+        assert front.ask("GET", "/odata/plain")[0] == 200
     assert "/odata/plain" in service.paths
 
 
@@ -202,6 +225,60 @@ def wait_for(front):
             return front.ask("GET", "/odata/ready")
         time.sleep(0.02)
     pytest.fail("nginx does not listen")
+
+
+
+# docs/scale.md: gateways behind a balancer
+
+
+def unit():
+    """The words of the unit of docs/scale.md that starts a gateway."""
+    with open(os.path.join(ROOT, "docs", "scale.md"), encoding="utf-8") as file:
+        (line,) = re.findall(r"(?m)^ExecStart=/usr/bin/python3 -m odb_batch gateway (.*)$", file.read())
+    return shlex.split(line)
+
+
+def balancer():
+    with open(os.path.join(ROOT, "docs", "scale.md"), encoding="utf-8") as file:
+        (found,) = re.findall("```nginx\n(.*?)```", file.read(), re.DOTALL)
+    return found
+
+
+@pytest.fixture
+def two_gateways(upstream, running, schema):
+    """A service, and two gateways by the unit of the page; only names of machines are others."""
+    service = upstream()
+    changes = {"http://books:8080/odata/": f"{service.url}/odata/", "postgresql://gateway@db:5432/journal": schema}
+    words = [changes.get(it, it) for it in unit()]
+    assert set(changes) <= set(unit()) and words[:2] == ["--listen", ":%i"]
+    return service, [running(*words[2:], "--lease", "2") for _ in range(2)]
+
+
+def test_two_gateways_by_the_unit_of_the_page(two_gateways):
+    """Each answers what the other one has performed, also after that was killed."""
+    service, (one, other) = two_gateways
+    batch = json.dumps({"requests": [{"id": "a", "method": "post", "url": "A", "body": 1}]})
+    ask = lambda it, id: it.ask("POST", "/odata/$batch", batch, {**CONTINUE, **repeatable(id), "X-Client": "ada"})
+    found = {id: ask(one, id) for id in "xyz"}
+    assert all(ask(other, id)[2] == it[2] for id, it in found.items()) and len(service.seen) == 3
+    one.stop(signal.SIGKILL)
+    assert all(ask(other, id)[2] == it[2] for id, it in found.items()) and len(service.seen) == 3
+
+
+@pytest.mark.needs("nginx")
+def test_nginx_asks_another_gateway(two_gateways, tmp_path):
+    service, gateways = two_gateways
+    text, port = balancer(), free_port()
+    for name, it in zip(("gateway1:8090", "gateway2:8090"), gateways):
+        text = text.replace(name, f"127.0.0.1:{it.port}")
+    text = text.replace("listen 80;", f"listen 127.0.0.1:{port};").replace("$remote_user", "ada")
+    with nginx(text, tmp_path, port) as front:
+        for k in range(4):
+            assert front.batch({"method": "post", "url": "A"})["r0"]["status"] == 201
+        gateways[0].stop(signal.SIGKILL)
+        for k in range(4):
+            assert front.batch({"method": "post", "url": "A"})["r0"]["status"] == 201
+    assert len(service.seen) == 8
 
 
 if __name__ == "__main__" and sys.argv[1:] == ["--write"]:

@@ -16,6 +16,7 @@ from http.client import HTTPException
 import pytest
 
 from support.commands import with_package
+from support.journals import count_at
 from support.servers import CONTINUE, FIRST_SENT, JSON, SECONDS, Asked, repeatable, until
 
 
@@ -32,18 +33,27 @@ def test_without_aiohttp():
     assert refused([], "sys.modules['aiohttp'] = None") == (3, wanted)
 
 
-def test_where_it_cannot_start(running):
+def test_without_asyncpg():
+    wanted = "error: python3 -m odb_batch gateway needs asyncpg: pip install asyncpg\n"
+    words = ["--journal", "postgresql://127.0.0.1:1/x", "--one-client"]
+    assert refused(words, "sys.modules['asyncpg'] = None") == (3, wanted)
+
+
+def test_where_it_cannot_start(running, tmp_path):
     port = running("--upstream", "http://127.0.0.1:1/").port
     status, message = refused(["--listen", f"127.0.0.1:{port}"])
     assert status == 3 and re.fullmatch("error: .*address already in use\n", message)
     assert refused(["--journal", "/no", "--one-client"]) == (3, "error: /no: No such file or directory\n")
+    (tmp_path / ("7" * 64)).write_text('{"form": 2}\n')
+    wanted = f"error: {tmp_path} has journals of an earlier version; name an empty folder\n"
+    assert refused(["--journal", str(tmp_path), "--one-client"]) == (3, wanted)
 
 
 def test_help_names_each_option_once():
     words = [sys.executable, "-m", "odb_batch", "gateway", "--help"]
     text = subprocess.run(words, env=with_package(), stdout=subprocess.PIPE, text=True, timeout=SECONDS).stdout
     options = re.findall(r"(?m)^  (--\w[\w-]*)", text)
-    assert len(options) == len(set(options)) == 24
+    assert len(options) == len(set(options)) == 26
 
 
 def test_sigterm(upstream, running):
@@ -81,7 +91,7 @@ def test_a_batch_that_is_read_at_sigterm_may_be_sent_again(upstream, running, tm
         until(lambda: it.ask("GET", "/health/ready")[0] == 503)
         client.sendall(b'{"requests":[{"id":"a","method":"get","url":"x"}]}')
         assert client.makefile("rb").readline().split()[1] == b"503"
-    assert (it.stop(0), list(tmp_path.iterdir())) == ((0, ""), [])
+    assert (it.stop(0), count_at(tmp_path)) == ((0, ""), 0)
 
 
 @pytest.mark.parametrize("grace, signals", [("0.3", 1), ("60", 2)])
@@ -147,92 +157,3 @@ def test_metrics_at_a_port_of_their_own(upstream, running):
     other.port = port
     status, _, text = other.ask("GET", "/metrics")
     assert status == 200 and b"odb_gateway_requests_running 0" in text
-
-
-# SIGKILL
-
-
-def requests_of(key):
-    """Chains of POSTs and GETs, and a group, on paths of their own."""
-    post = lambda id, **more: {"id": id, "method": "post", "url": f"{key}-{id}", "body": {"n": 1.50}, **more}
-    group = {"atomicityGroup": "g"}
-    return [
-        post("a"), {"id": "b", "method": "get", "url": f"{key}-b", "dependsOn": ["a"]}, post("c", dependsOn=["b"]),
-        post("d", **group), post("e", **group), post("f", dependsOn=["g"]), post("h", dependsOn=["f", "c"]),
-    ]  # fmt: skip
-
-
-class Counting:
-    """A service that counts what it performs, and at some request ends a process, before it performs it or after."""
-
-    def __init__(self):
-        self.performed, self.left, self.process, self.is_before = Counter(), 0, None, False
-
-    def __call__(self, seen):
-        return self.answer(seen)
-
-    async def answer(self, seen):
-        from aiohttp import web
-
-        from support.gateways import usual
-
-        self.left -= 1
-        ends = self.left == 0
-        if ends and self.is_before:
-            self.process.kill()
-        await asyncio.sleep(0.02)
-        if seen.path.endswith("/$batch"):
-            given = json.loads(seen.body)["requests"]
-            self.performed.update(it["url"].rpartition("/")[2] for it in given)
-            answers = [{"id": it["id"], "status": 201, "atomicityGroup": "g"} for it in given]
-            found = web.Response(text=json.dumps({"responses": answers}), content_type="application/json")
-        else:
-            found = usual(seen)
-            self.performed[seen.path.rpartition("/")[2]] += seen.method == "POST"
-        if ends and not self.is_before:
-            self.process.kill()
-        return found
-
-
-@pytest.mark.slow
-def test_sigkill_at_twenty_moments(upstream, running, tmp_path):
-    """No POST is performed twice, and what was answered stays so. At least one moment is within a group."""
-    service = Counting()
-    words = ["--groups", "forward", "--journal", str(tmp_path), "--one-client", "--log", "none"]
-    words += ["--upstream", upstream(service).url]
-    it, answered, lost = running(*words), {}, Counter()
-
-    def ask(key):
-        headers = {**CONTINUE, **repeatable(key)}
-        try:
-            return key, it.ask("POST", "/odata/$batch", json.dumps({"requests": requests_of(key)}), headers)
-        except (OSError, HTTPException):
-            return key, None
-
-    with ThreadPoolExecutor(4) as clients:
-        for moment in range(20):
-            service.process, service.left, service.is_before = it.process, moment + 1, moment % 2 == 0
-            keys = [secrets.token_hex(4) for _ in range(4)]
-            answered.update((key, found) for key, found in clients.map(ask, keys) if found)
-            it.process.wait(SECONDS)
-            it = running(*words)
-            for key, (status, _, text) in clients.map(ask, keys):
-                assert status == 200 and text == answered.setdefault(key, (status, _, text))[2]
-                lost.update(judged(service, key, json.loads(text)["responses"]))
-        assert len(answered) == 80
-        assert all(found[2] == answered[key][2] for key, found in clients.map(ask, answered))
-    assert set(service.performed.values()) <= {0, 1}
-    assert lost["a"] > 0 and lost["d"] == lost["e"] > 0, lost
-
-
-def judged(service, key, responses):
-    """The requests of a batch that are lost; any other one was performed once if it was answered 2xx, else never."""
-    lost, statuses = [], {it["id"]: it["status"] for it in responses}
-    for it in responses:
-        count = service.performed[f"{key}-{it['id']}"]
-        if it["status"] == 500:
-            assert it["body"]["error"]["code"] == "Lost" and count <= 1
-            lost.append(it["id"])
-        elif it["id"] != "b":
-            assert count == (it["status"] == 201), statuses
-    return lost

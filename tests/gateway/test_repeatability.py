@@ -1,11 +1,10 @@
 """The headers by which a batch may be sent again (OASIS Repeatable Requests Version 1.0), who its client is, and the
-threads that write journals.
+text of journals.
 """
 
 import asyncio
 import email.utils
 import json
-import os
 import signal
 import subprocess
 import sys
@@ -14,15 +13,16 @@ import time
 
 import pytest
 
-from odb_batch import Report
-from odb_batch.gateway import _journal, _lines
-from odb_batch.gateway._journal import FileJournal, Journals, identity
+from odb_batch import Refusal, Report, ReportUnit
 from odb_batch.gateway._options import options_of
-from odb_batch.gateway._repeatability import Repeatability, seconds_of
+from odb_batch.gateway._repeatability import AHEAD, Repeatability, seconds_of
+from odb_batch.journals import _lines
 from support.commands import with_package
+from support.journals import EVENTS, events_of, opened, written
 from support.servers import CONTINUE, FIRST_SENT, SECONDS, Asked, repeatable, until
 
 BATCH = json.dumps({"requests": [{"id": "a", "method": "post", "url": "X", "body": 1}]})
+MAIN = "from odb_batch.__main__ import main; sys.exit(main(sys.argv[1:]))"
 
 
 def date(seconds):
@@ -79,18 +79,26 @@ def test_a_batch_is_refused_as_late_before_its_journal_is_removed(tmp_path):
     options = options_of(["--upstream", "http://a", "--journal", str(tmp_path), "--one-client", "--keep", "1000"])
     sent, now = seconds_of(FIRST_SENT), [0.0]
     repeatability = Repeatability(options, lambda: now[0])
-    journals = Journals(str(tmp_path), 1000, _journal.Clock(lambda: now[0], lambda: now[0]))
-    os.close(journals.open(b"x", identity(batch="1"))[1])
-    (name,) = os.listdir(tmp_path)
-    # The client was as far ahead as it may be.
-    os.utime(tmp_path / name, (0, sent - 299))
-    for now[0] in range(int(sent) - 299, int(sent) + 4_000, 100):
-        journals.prune()
-        try:
-            repeatability.of({name.lower(): value for name, value in repeatable("x").items()})
-        except Exception:
-            continue
-        assert os.listdir(tmp_path) == [name]
+    headers = {name.lower(): value for name, value in repeatable("x").items()}
+
+    async def shown():
+        return now[0]
+
+    async def run():
+        async with opened(str(tmp_path), keep=1000, ahead=AHEAD, steady=lambda: now[0]) as journals:
+            journals.store.now = shown
+            await written(journals)
+            start = time.time()  # the client was at most as far ahead as it may be
+            for now[0] in range(int(start) - 299, int(start) + 5_000, 100):
+                await journals.prune()
+                try:
+                    repeatability.of(headers)
+                except Refusal:
+                    continue
+                assert await events_of(journals) == EVENTS
+            assert await events_of(journals) == [] and sent <= start + 1
+
+    asyncio.run(run())
 
 
 @pytest.mark.parametrize("headers, code", [
@@ -137,88 +145,15 @@ def test_ids_and_clients_do_not_run_into_each_other():
     assert len(keys) == 4
 
 
-# The threads that write
-
-
-def test_files_are_not_written_by_the_loop(tmp_path, monkeypatch):
-    """Neither is an event encoded there: a body may have megabytes."""
-    threads, journals, write, encode = set(), Journals(str(tmp_path), 60), os.write, _journal.line_of
-    note = lambda: threads.add(threading.current_thread())
-    monkeypatch.setattr(_journal.os, "write", lambda *given: (note(), write(*given))[1])
-    monkeypatch.setattr(_journal, "line_of", lambda *given: (note(), encode(*given))[1])
-
-    async def keep():
-        journal = await journals.journal(b"x", identity(batch="1"))
-        for k in range(9):
-            journal.write(Report("a", 200, {}, b"1"))
-            await journal.sync()
-        journal.close()
-
-    asyncio.run(keep())
-    assert threads and all(thread.name.startswith(_journal.THREADS) for thread in threads)
-
-
-def test_one_sync_serves_several_events(tmp_path, monkeypatch):
-    journals, synced, sync = Journals(str(tmp_path), 60), [], os.fsync
-
-    async def keep():
-        journal = await journals.journal(b"x", identity(batch="1"))
-        monkeypatch.setattr(_journal.os, "fsync", lambda file: (synced.append(file), sync(file))[1])
-        for k in range(50):
-            journal.write(Report("a", 200, {}, b"1"))
-        await asyncio.gather(*(journal.sync() for _ in range(50)))
-        journal.close()
-
-    asyncio.run(keep())
-    assert len(synced) == 2  # the file, and the folder that has its name
-
-
-def test_what_was_not_synced_yet_is_written_at_the_end(tmp_path):
-    journals = Journals(str(tmp_path), 60)
-
-    async def keep(count):
-        journal = FileJournal(*journals.open(b"x", identity(batch="1")))
-        for _ in range(count):
-            journal.write(_journal.JournalEvent.__args__[0]("a"))
-        journal.close()
-        return journal.events
-
-    asyncio.run(keep(3))
-    assert len(asyncio.run(keep(0))) == 3
-
-
-@pytest.mark.parametrize("size", [0, 65_535, 65_536, 65_537, 200_000])
-def test_a_long_body_is_written_as_a_short_one(size):
-    body = json.dumps("ü\U0001f600\n" * (size // 3) + "x" * (size % 3), ensure_ascii=False).encode()
-    report = Report("a", 200, {"x": "ü"}, body)
-    members = {"report": "a", "status": 200, "headers": {"x": "ü"}, "body": body.decode()}
-    assert _lines.line_of(report) == json.dumps(members, separators=(",", ":")).encode() + b"\n"
-    assert _lines.event_of(_lines.line_of(report)) == report
-
-
-def file_of_batch(folder, it):
-    """The path of the journal of a batch that was sent."""
-    assert it.ask("POST", "/odata/$batch", BATCH, {**CONTINUE, **repeatable("x")})[0] == 200
-    (name,) = os.listdir(folder)
-    return os.path.join(folder, name)
-
-
-def test_a_pipe_in_place_of_a_journal(upstream, running, tmp_path):
-    it = running("--upstream", upstream().url, "--journal", str(tmp_path), "--one-client", "--log", "none")
-    path = file_of_batch(tmp_path, it)
-    os.unlink(path)
-    os.mkfifo(path)
-    status, _, text = it.ask("POST", "/odata/$batch", BATCH, {**CONTINUE, **repeatable("x")})
-    assert (status, json.loads(text)["error"]["code"]) == (500, "BadJournal")
-    assert it.stop(signal.SIGTERM)[0] == 0
+# What waits for a store
 
 
 def test_a_device_that_hangs_does_not_keep_the_process(upstream, tmp_path):
     """Threads that do not end are left behind."""
-    before = "import os, time; os.fsync = lambda file: time.sleep(100_000)"
-    program = f"import sys; {before}; from odb_batch.__main__ import main; sys.exit(main(sys.argv[1:]))"
+    before = "import time; from odb_batch.journals import SqliteStore"
+    program = f"import sys; {before}; SqliteStore._append = lambda *given: time.sleep(100_000); {MAIN}"
     words = ["--upstream", upstream().url, "--journal", str(tmp_path), "--one-client", "--grace", "0.1"]
-    command = [sys.executable, "-c", program, "gateway", "--listen", "127.0.0.1:0", *words]
+    command = [sys.executable, "-c", program, "gateway", "--listen", "127.0.0.1:0", *words, "--metrics", "/metrics"]
     with subprocess.Popen(command, env=with_package(), stderr=subprocess.PIPE, text=True) as process:
         try:
             it = Asked()
@@ -226,7 +161,7 @@ def test_a_device_that_hangs_does_not_keep_the_process(upstream, tmp_path):
             headers = {**CONTINUE, **repeatable("x")}
             given = (it.ask, "POST", "/odata/$batch", BATCH, headers)
             threading.Thread(target=quietly, args=given, daemon=True).start()
-            until(lambda: os.listdir(tmp_path))
+            until(lambda: b"batches_running 1" in it.ask("GET", "/metrics")[2])
             process.send_signal(signal.SIGTERM)
             assert process.wait(SECONDS) == 0
             assert "the device may hang" in process.stderr.read()
@@ -239,3 +174,18 @@ def quietly(function, *given):
         function(*given)
     except Exception:
         pass
+
+
+# The text of journals
+
+
+@pytest.mark.parametrize("size", [None, 0, 7, 200_000])
+def test_a_body_is_kept_byte_for_byte(size):
+    body = None if size is None else bytes(k % 256 for k in range(size))
+    report = Report("a", 200, {"x": "\u00fc\n"}, body)
+    for event in (report, ReportUnit((report, Report("b", 204, {}), report))):
+        text = b"".join(_lines.chunks_of(event))
+        assert _lines.events_of(text * 2) == [event, event]
+        for cut in {1, len(text) // 2, len(text) - 1}:
+            with pytest.raises(ValueError, match="damaged"):
+                _lines.events_of(text[:cut])

@@ -34,7 +34,7 @@ def test_its_extras_are_all_that_it_needs(tmp_path, monkeypatch):
     needed = re.findall("(?m)^Requires-Dist: (.*)$", head)
     extras = {
         "django": "Django>=3.2", "fastapi": "fastapi", "flask": "Flask", "gateway": "aiohttp>=3.13.3",
-        "httpx": "httpx", "requests": "requests", "testing": "hypothesis",
+        "httpx": "httpx", "postgresql": "asyncpg>=0.27", "requests": "requests", "testing": "hypothesis",
     }  # fmt: skip
     assert needed == [f'{name}; extra == "{extra}"' for extra, name in extras.items()]
     assert re.findall("(?m)^Provides-Extra: (.*)$", head) == list(extras)

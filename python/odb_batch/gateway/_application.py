@@ -4,7 +4,7 @@ import asyncio
 import contextlib
 import itertools
 import time
-from typing import AsyncIterator, Awaitable, Dict, Optional
+from typing import AsyncContextManager, AsyncIterator, Dict, Optional
 
 from aiohttp import web
 
@@ -13,14 +13,13 @@ from .._endpoint import Outer, folder_of, forwarded_hosts, message_of, performed
 from .._faults import Fault
 from .._messages import Answer, Refusal
 from .._room import Budget, Room
+from ..journals import Journals, StoreJournal, digest, identity, store_of
 from ._credentials import Credentials, Incoming
-from ._journal import FileJournal, Journals
-from ._lines import digest, identity
 from ._log import NUMBER, log_line
 from ._metrics import CONTENT_TYPE, Metrics
 from ._options import Options
 from ._performance import Performance
-from ._repeatability import Repeatability
+from ._repeatability import AHEAD, Repeatability
 from ._routes import Routes
 from ._upstreams import Upstreams
 
@@ -28,9 +27,6 @@ from ._upstreams import Upstreams
 _READ_SECONDS = 30.0
 # For how many seconds a client may take to read a response.
 _WRITE_SECONDS = 300.0
-# How often old journals are looked for, in seconds; those that are kept for days less often.
-_PRUNE_SECONDS = 60.0
-_PRUNED_WHILE_KEPT = 24
 
 
 class Gateway:
@@ -38,9 +34,6 @@ class Gateway:
 
     Args:
         options: What it does.
-
-    Raises:
-        OSError: The folder of journals is not there, or cannot be written.
     """
 
     def __init__(self, options: Options) -> None:
@@ -54,13 +47,21 @@ class Gateway:
         self._repeatability = Repeatability(options)
         self._numbers = itertools.count(1)
         self._all_ended: Optional[asyncio.Event] = None
-        self._journals = Journals(options.journal, options.keep) if options.journal else None
+        self._journals: Optional[Journals] = None
+        if options.journal:
+            store = store_of(options.journal, options.lease, options.journal_size * 1_048_576)
+            self._journals = Journals(store, options.keep, AHEAD)
+            self._metrics.watch_journals(self._journals)
 
     @property
     def notice(self) -> str:
         """What an operator should know at the start, in a line; empty if there is nothing."""
         held_back = "there are several services, and none gets Authorization, Cookie and the like: see --send"
         return held_back if self._credentials.are_held_back else ""
+
+    async def broken(self) -> None:
+        """Waits for ever, or raises OSError once the journal turns out to be unusable."""
+        await (asyncio.shield(self._journals.broken) if self._journals is not None else asyncio.Event().wait())
 
     def application(self) -> web.Application:
         """Returns the application that answers batches."""
@@ -110,22 +111,13 @@ class Gateway:
             self._all_ended.set()
 
     async def _opened(self, _: web.Application) -> AsyncIterator[None]:
-        await self._upstreams.open()
-        pruning = asyncio.ensure_future(self._prune()) if self._journals is not None else None
-        yield
-        if pruning is not None:
-            pruning.cancel()
         if self._journals is not None:
-            self._journals.close()
+            await self._journals.open()
+        await self._upstreams.open()
+        yield
+        if self._journals is not None:
+            await self._journals.close()
         await self._upstreams.close()
-
-    async def _prune(self) -> None:
-        while self._journals is not None:
-            try:
-                await self._journals.prune_soon()
-            except OSError as error:
-                LOG.error("old journals cannot be removed: %s", error)
-            await asyncio.sleep(min(max(_PRUNE_SECONDS, self._options.keep / _PRUNED_WHILE_KEPT), self._options.keep))
 
     # Probes and metrics
 
@@ -133,8 +125,9 @@ class Gateway:
         return web.Response(text="ok\n")
 
     async def _ready(self, _: web.Request) -> web.Response:
-        is_ready = not self._upstreams.is_stopping
-        return web.Response(text="ok\n" if is_ready else "stopping\n", status=200 if is_ready else 503)
+        is_cut = self._journals is not None and not self._journals.is_ready
+        trouble = "stopping" if self._upstreams.is_stopping else "the journal cannot be reached" if is_cut else ""
+        return web.Response(text=f"{trouble or 'ok'}\n", status=503 if trouble else 200)
 
     async def _counted(self, _: web.Request) -> web.Response:
         return web.Response(body=self._metrics.text().encode(), headers={"Content-Type": CONTENT_TYPE})
@@ -250,24 +243,23 @@ class Gateway:
             raise Refusal(503, "Stopping", "The gateway stops", retry_after="1")
 
     async def _repeatable(
-        self, name: str, opened: Awaitable[FileJournal], batch: bytes, performance: Performance
+        self, name: str, opened: AsyncContextManager[StoreJournal], batch: bytes, performance: Performance
     ) -> Answer:
         """Performs a batch that may be sent again, or goes on with it."""
-        journal: Optional[FileJournal] = None
+        journal: Optional[StoreJournal] = None
         try:
-            journal = await opened
-            performance.tally.is_repeated = bool(journal.events)
-            response = await performance.response(batch, journal, lambda: self._upstreams.is_stopping)
+            async with opened as journal:
+                performance.tally.is_repeated = bool(journal.events)
+                response = await performance.response(batch, journal, lambda: self._upstreams.is_stopping)
             answer = performed(response, performance.mode)
             return answer._replace(headers={**answer.headers, "repeatability-result": "accepted"})
         except Fault:
             raise
         except (OSError, ValueError) as error:
             LOG.error("the journal %s: %s", name, error)
+            if isinstance(error, OSError) and not (journal is not None and journal.has_kept):
+                raise Refusal(503, "NoJournal", "The journal cannot be reached", retry_after="1") from None
             raise Refusal(500, "BadJournal", "The journal of the batch cannot be read or written") from None
-        finally:
-            if journal is not None:
-                journal.close()
 
     async def _read(self, request: web.Request, room: Room) -> bytes:
         """Reads a batch, whose bytes are reserved as they come."""

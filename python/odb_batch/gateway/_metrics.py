@@ -7,6 +7,7 @@ from typing import Dict, Iterable, Iterator, List, Mapping, Optional, Tuple
 
 from .._places import Places
 from .._room import Budget
+from ..journals import Journals
 
 CONTENT_TYPE = "text/plain; version=0.0.4; charset=utf-8"
 _BOUNDS = (0.001, 0.0025, 0.005, 0.01, 0.025, 0.05, 0.1, 0.25, 0.5, 1.0, 2.5, 5.0, 10.0, 30.0)
@@ -46,10 +47,15 @@ class Metrics:
         self._faults: "Counter[_Labels]" = Counter()
         self._batch_seconds, self._request_seconds = _Histogram(), _Histogram()
         self._queues: Dict[str, Places] = {}
+        self._journals: Optional[Journals] = None
 
     def watch_queue(self, service: str, places: Places) -> None:
         """Shows from now on how many requests wait for a place at a service."""
         self._queues[service] = places
+
+    def watch_journals(self, journals: Journals) -> None:
+        """Shows from now on what is counted of journals."""
+        self._journals = journals
 
     def batch(self, status: int, seconds: float) -> None:
         """Counts a batch that is answered."""
@@ -86,6 +92,8 @@ class Metrics:
             add(name(what), "histogram", help, histogram.samples(name(what)))
         for what, help, value in self._gauges():
             add(name(what), "gauge", help, [f"{name(what)} {value}"])
+        for what, kind, help, amount in self._journals.metrics() if self._journals is not None else ():
+            add(name(what), kind, help, [f"{name(what)} {amount}"])
         waiting: Dict[_Labels, int] = {(("service", key),): places.waiting for key, places in self._queues.items()}
         what = name("requests_waiting")
         add(what, "gauge", "Requests that wait for a connection, by service.", _counted(what, waiting))

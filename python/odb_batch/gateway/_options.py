@@ -32,6 +32,8 @@ class Options(NamedTuple):
     max_size: int = 16_777_216
     memory: int = USUAL_MEMORY
     journal: str = ""
+    journal_size: int = 16_384
+    lease: float = 15.0
     client_header: str = ""
     keep: float = 86_400.0
     grace: float = 25.0
@@ -89,7 +91,12 @@ def _add_limits(found: argparse.ArgumentParser) -> None:
 
 def _add_journal(found: argparse.ArgumentParser) -> None:
     add = found.add_argument
-    add("--journal", metavar="FOLDER", default="", help="keeps batches with a Repeatability-Request-ID there")
+    add("--journal", metavar="PLACE", default="",
+        help="keeps batches with a Repeatability-Request-ID in a folder, or postgresql://..")  # fmt: skip
+    add("--journal-size", metavar="MB", type=values.number, default=_USUAL.journal_size,
+        help="megabytes of the journals in a folder, else 503; 16384")  # fmt: skip
+    add("--lease", metavar="S", type=values.seconds, default=_USUAL.lease,
+        help="seconds after which another gateway goes on, with postgresql://..; 15")  # fmt: skip
     add("--client-header", metavar="NAME", type=values.client,
         help="the header that says who a client is; --journal needs it, or --one-client")  # fmt: skip
     add("--one-client", action="store_true", help="all batches are those of one client")

@@ -7,12 +7,12 @@ from typing import Any, AsyncContextManager, Callable, Collection, Dict, List, N
 from urllib.parse import urlsplit
 
 from .._endpoint import Outer, folder_of
-from .._events import Journal
 from .._groups import MemberRefused, PreparedGroup
 from .._messages import Answer, PreparedRequest, Refusal
 from .._perform_async import perform_async
 from .._requests import Request
 from .._room import Room
+from ..journals import StoreJournal
 from ._credentials import Credentials
 from ._log import log_line
 from ._metrics import Metrics
@@ -27,7 +27,7 @@ _IS_READ_OTHERWISE = re.compile(r"[$?/]|[A-Za-z][A-Za-z0-9+.-]*:|$").match
 
 
 # What was not sent, by the code of its answer.
-_UNSENT = ("Stopping", "Unreachable")
+_UNSENT = ("Stopping", "Unreachable", "NoJournal", "InProgress")
 
 
 class Tally:
@@ -78,12 +78,13 @@ class Performance:
         self._upstreams, self._metrics = upstreams, metrics
         self._outer, self._forwarded, self._seen = outer, forwarded, seen
         self._room = room
+        self._journal: Optional[StoreJournal] = None
         # Found when a place was asked for.
         self._targets: Dict[str, Optional[Tuple[Route, str]]] = {}
         self.mode = outer.mode
         self.tally = Tally(number)
 
-    async def response(self, batch: bytes, journal: Optional[Journal], stop: Callable[[], bool]) -> bytes:
+    async def response(self, batch: bytes, journal: Optional[StoreJournal], stop: Callable[[], bool]) -> bytes:
         """Returns the response document; raises as `perform_async` does.
 
         Args:
@@ -91,6 +92,7 @@ class Performance:
             journal: Its journal, if it may be sent again.
             stop: Whether nothing more is to start.
         """
+        self._journal = journal
         return await perform_async(
             batch,
             self._send,
@@ -147,7 +149,7 @@ class Performance:
         """Sends a request, and counts and logs it."""
         began, status, code = time.perf_counter(), 0, ""
         try:
-            answer = await self._upstreams.send(request, self._room)
+            answer = await self._upstreams.send(request, self._room, self._journal)
             status = answer.status
             return answer
         except Refusal as refusal:

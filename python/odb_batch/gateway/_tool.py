@@ -1,6 +1,7 @@
 """``python3 -m odb_batch gateway``: listens until SIGTERM."""
 
 import asyncio
+import importlib
 import logging
 import os
 import signal
@@ -9,6 +10,8 @@ import threading
 import time
 from typing import Sequence, Tuple
 
+from ..journals import is_database
+from ..journals._stores import THREADS
 from ._options import PROGRAM, Options, options_of
 from ._values import Address
 
@@ -21,11 +24,12 @@ _THREAD_SECONDS = 2.0
 def main(words: Sequence[str]) -> int:
     """Does what the words of a command line ask; returns the exit status."""
     options = options_of(words)
-    try:
-        import aiohttp  # noqa: F401
-    except ImportError:
-        print(f"error: {PROGRAM} needs aiohttp: pip install aiohttp", file=sys.stderr)
-        return UNUSABLE
+    for needed in ("aiohttp", "asyncpg") if is_database(options.journal) else ("aiohttp",):
+        try:
+            importlib.import_module(needed)
+        except ImportError:
+            print(f"error: {PROGRAM} needs {needed}: pip install {needed}", file=sys.stderr)
+            return UNUSABLE
     try:
         asyncio.run(_serve(options))
     except OSError as error:
@@ -38,8 +42,6 @@ def main(words: Sequence[str]) -> int:
 
 def _leave_threads(status: int) -> None:
     """Ends the process if a thread does not end, as one that waits for a device that hangs."""
-    from ._journal import THREADS
-
     end = time.monotonic() + _THREAD_SECONDS
     threads = [thread for thread in threading.enumerate() if thread.name.startswith(THREADS)]
     for thread in threads:
@@ -75,7 +77,12 @@ async def _serve(options: Options) -> None:
         print(f"listening on {found[0]}", file=sys.stderr, flush=True)
         if gateway.notice and options.log != "none":
             print(gateway.notice, file=sys.stderr, flush=True)
-        await stopped.wait()
+        ends = [asyncio.ensure_future(it) for it in (stopped.wait(), gateway.broken())]
+        done, rest = await asyncio.wait(ends, return_when=asyncio.FIRST_COMPLETED)
+        for end in rest:
+            end.cancel()
+        for end in done:
+            end.result()
         await gateway.stop(hurry)
     finally:
         for runner in runners:

@@ -3,7 +3,7 @@
 import asyncio
 import functools
 import time
-from typing import Any, Callable, Dict, NamedTuple
+from typing import Any, Callable, Dict, NamedTuple, Optional
 
 import aiohttp
 from yarl import URL
@@ -11,6 +11,7 @@ from yarl import URL
 from .._messages import Answer, Refusal
 from .._places import Places
 from .._room import Reading, Room
+from ..journals import Late, StoreJournal
 from ._decoding import Decoder, headers_of
 from ._metrics import Metrics
 from ._options import Options
@@ -21,10 +22,22 @@ _PART = 65_536
 
 
 async def _sent_once(_: aiohttp.ClientSession, context: Any, __: Any) -> None:
-    """Lets a request be sent once: newer versions of aiohttp send a PUT or a DELETE again if a connection breaks."""
+    """Lets a request be sent once: newer versions of aiohttp send a PUT or a DELETE again if a connection breaks; and
+    only while its batch is held, as it may have waited for its connection."""
     if getattr(context, "is_sent", False):
         raise aiohttp.ClientConnectionError("the request was sent before")
+    if context.trace_request_ctx is not None:
+        context.trace_request_ctx.require_held()
     context.is_sent = True
+
+
+async def _body_held(_: aiohttp.ClientSession, context: Any, __: Any) -> None:
+    """Lets the body be sent while no other gateway goes on with the batch; a service does not perform a head alone."""
+    if context.trace_request_ctx is not None:
+        try:
+            context.trace_request_ctx.require_held()
+        except Late:
+            raise aiohttp.ClientConnectionError("the gateway was paused while it sent the request") from None
 
 
 class Outgoing(NamedTuple):
@@ -76,6 +89,7 @@ class Upstreams:
         self._connector = aiohttp.TCPConnector(limit=0, keepalive_timeout=self._options.keep_alive)
         tracing = aiohttp.TraceConfig()
         tracing.on_request_headers_sent.append(_sent_once)
+        tracing.on_request_chunk_sent.append(_body_held)
         # Tracing takes its time, so no other request is traced.
         self._usual, self._once = self._opened(), self._opened(tracing)
 
@@ -90,9 +104,10 @@ class Upstreams:
             skip_auto_headers=("User-Agent", "Accept", "Accept-Encoding", "Content-Type"),
         )
 
-    def session(self, method: str) -> aiohttp.ClientSession:
-        """Returns the session that sends a request with a method, and not twice unless it is a GET."""
-        return self._once if method in ("DELETE", "PUT") else self._usual
+    def session(self, method: str, is_kept: bool = False) -> aiohttp.ClientSession:
+        """Returns the session that sends a request with a method, and not twice unless it is a GET; one that a journal
+        keeps only while no other gateway goes on with it."""
+        return self._once if is_kept or method in ("DELETE", "PUT") else self._usual
 
     async def close(self) -> None:
         for session in (self._usual, self._once):
@@ -117,19 +132,21 @@ class Upstreams:
         """Says in the log why there is no answer from a URL."""
         self._reasons.say(url, code, reason, detail)
 
-    async def send(self, request: Outgoing, room: Room) -> Answer:
-        """Sends a request, which has its place, and returns its answer with whole body.
+    async def send(self, request: Outgoing, room: Room, journal: Optional[StoreJournal] = None) -> Answer:
+        """Sends a request, which has its place, and returns its answer with whole body; one that has a journal, and is
+        not a GET, while no other gateway goes on with its batch.
 
         Raises:
-            Refusal: It was not sent: 503 ``Stopping`` or ``Unreachable``. There is no answer: 504 ``Timeout`` or
-                ``Stopped``, or 502 ``BadGateway``. It cannot be shown: 502 ``Encoded``, or 507 ``TooLong`` for a GET.
+            Refusal: It was not sent: 503 ``Stopping``, ``Unreachable`` or ``NoJournal``, or 409 ``InProgress``. There is
+                no answer: 504 ``Timeout`` or ``Stopped``, or 502 ``BadGateway``. It cannot be shown: 502 ``Encoded``,
+                or 507 ``TooLong`` for a GET.
         """
         if self.is_stopping:
             raise Refusal(503, "Stopping", "The gateway stops, and has not sent the request", retry_after="1")
         self._metrics.requests_running += 1
         began, status = time.perf_counter(), 500
         try:
-            answer = await self._answer(request, room)
+            answer = await self._answer(request, room, None if request.method == "GET" else journal)
             status = answer.status
             return answer
         except Refusal as refusal:
@@ -142,9 +159,13 @@ class Upstreams:
             self._metrics.requests_running -= 1
             self._metrics.request(request.method, status, time.perf_counter() - began)
 
-    async def _answer(self, request: Outgoing, room: Room) -> Answer:
+    async def _answer(self, request: Outgoing, room: Room, journal: Optional[StoreJournal]) -> Answer:
         try:
-            return await self._exchanged(request, room)
+            while True:
+                try:
+                    return await self._exchanged(request, room, journal)
+                except Late:
+                    await _hold(journal)
         except Refusal as refusal:
             if refusal.answer.status == 502:
                 self.say(request.url, _code(refusal), "answer", refusal)
@@ -165,18 +186,27 @@ class Upstreams:
             return Refusal(503, "Unreachable", "The service cannot be reached; the request was not sent")
         return Refusal(502, "BadGateway", "The connection broke before an answer came")
 
-    async def _exchanged(self, request: Outgoing, room: Room) -> Answer:
+    async def _exchanged(self, request: Outgoing, room: Room, journal: Optional[StoreJournal]) -> Answer:
         """The answer of a service; raises Refusal if there is no room for it, or it cannot be shown."""
         headers = {"accept-encoding": "identity", **request.headers}
         url = URL(request.url, encoded=True)
-        async with self.session(request.method).request(
-            request.method, url, headers=headers, data=request.body or None, allow_redirects=False
-        ) as answer:
+        session = self.session(request.method, journal is not None)
+        more = {"data": request.body or None, "allow_redirects": False, "trace_request_ctx": journal}
+        async with session.request(request.method, url, headers=headers, **more) as answer:
             if not 200 <= answer.status <= 599:
                 raise Refusal(502, "BadGateway", f"The service has answered with the status {answer.status}")
             with room.read(request.method) as reading:
                 await _read(answer, reading)
                 return Answer(answer.status, headers_of(answer.headers.items()), reading.body())
+
+
+async def _hold(journal: Optional[StoreJournal]) -> None:
+    """Waits until the batch is held again; raises Refusal if it is not: 503 ``NoJournal``, or 409 ``InProgress``."""
+    try:
+        if journal is not None:
+            await journal.sync()
+    except OSError:
+        raise Refusal(503, "NoJournal", "The journal cannot be reached; the request was not sent") from None
 
 
 def _code(refusal: Refusal) -> str:

@@ -1,0 +1,166 @@
+#!/usr/bin/env python3
+"""How many batches a second a gateway answers without a journal, with SQLite and with PostgreSQL: `journals.py [FOLDER] [--two]`.
+
+FOLDER is what `bin/odb_library` has written, `dist/library` unless it is given. A gateway for each kind stands before one
+service that answers at once. 1, 8 and 64 clients send batches of five POSTs, side by side (flat: two syncs) or each after
+the one before (chain: six); the kinds take turns. Shown are medians over the turns, as a share of those without a journal
+of the same turn. SQLite is on the disk of the temporary folder, PostgreSQL too, with its usual `fsync`. With `--two` the
+clients ask two gateways by turns, over one PostgreSQL.
+"""
+
+import asyncio
+import itertools
+import json
+import os
+import re
+import secrets
+import signal
+import statistics
+import subprocess
+import sys
+import tempfile
+import time
+
+ROOT = os.path.dirname(os.path.dirname(os.path.abspath(__file__)))
+NAMES = [it for it in sys.argv[1:] if it != "--two"]
+LIBRARY = os.path.abspath(NAMES[0] if NAMES else os.path.join(ROOT, "dist", "library"))
+os.environ["ODB_BATCH_LIBRARY"] = os.path.join(LIBRARY, "libodb_batch.so.0")
+sys.path.insert(0, os.path.join(ROOT, "tests"))
+
+from support import databases  # noqa: E402
+from support.commands import with_package  # noqa: E402
+from support.servers import FIRST_SENT  # noqa: E402
+
+CLIENTS, TURNS, SECONDS = (1, 8, 64), 3, 2.0
+BODY = b'{"@context":"/odata/$metadata#Orders/$entity","Id":1,"Customer":"a customer","Price":9.990}'
+ANSWER = (
+    b"HTTP/1.1 201 Created\r\nContent-Type: application/json\r\nLocation: /odata/Orders(1)\r\n"
+    b"Content-Length: %d\r\n\r\n%s" % (len(BODY), BODY)
+)
+
+
+class Fast(asyncio.Protocol):
+    """A service that answers each request at once."""
+
+    def connection_made(self, transport):
+        self.transport, self.data = transport, b""
+
+    def data_received(self, data):
+        self.data += data
+        while True:
+            head, found, rest = self.data.partition(b"\r\n\r\n")
+            size = re.search(rb"(?i)content-length: (\d+)", head)
+            length = int(size[1]) if size else 0
+            if not found or len(rest) < length:
+                return
+            self.data = rest[length:]
+            self.transport.write(ANSWER)
+
+
+def batch(shape):
+    requests = []
+    for k in range(5):
+        found = {"id": f"r{k}", "method": "post", "url": "Orders", "body": {"Customer": "x" * 40, "Price": 9.99}}
+        requests.append({**found, **({"dependsOn": [f"r{k - 1}"]} if shape == "chain" and k else {})})
+    return json.dumps({"requests": requests}).encode()
+
+
+async def ask(streams, body):
+    """Sends a batch over a kept connection; returns its status."""
+    reader, writer = streams
+    writer.write(
+        b"POST /odata/$batch HTTP/1.1\r\nHost: a\r\nContent-Type: application/json\r\nPrefer: continue-on-error\r\n%s"
+        b"Content-Length: %d\r\n\r\n%s" % (body[0], len(body[1]), body[1])
+    )
+    head = await reader.readuntil(b"\r\n\r\n")
+    await reader.readexactly(int(re.search(rb"(?i)content-length: (\d+)", head)[1]))
+    return int(head[9:12])
+
+
+def processor(process):
+    """The processor time of a process in ms."""
+    with open(f"/proc/{process.pid}/stat", encoding="utf-8") as file:
+        fields = file.read().rpartition(")")[2].split()
+    return 1000 * (int(fields[11]) + int(fields[12])) / os.sysconf("SC_CLK_TCK")
+
+
+async def rate(gateways, clients, shape, is_kept):
+    """How many batches a second some clients get answers to, the processor time of the gateways for one, the median and the
+    99th of a hundred waits, in ms."""
+    text, waits, port = batch(shape), [], itertools.cycle(port for _, port in gateways)
+    before = sum(processor(it) for it, _ in gateways)
+    opened = [await asyncio.open_connection("127.0.0.1", next(port), limit=2**24) for _ in range(clients)]
+
+    async def client(streams):
+        while (began := time.perf_counter()) < end or not waits:
+            id = f"Repeatability-Request-ID: {secrets.token_hex(16)}\r\nRepeatability-First-Sent: {FIRST_SENT}\r\n"
+            status = await ask(streams, (id.encode() if is_kept else b"", text))
+            assert status == 200, status
+            waits.append(time.perf_counter() - began)
+        streams[1].close()
+
+    began = time.perf_counter()
+    end = began + SECONDS
+    await asyncio.gather(*map(client, opened))
+    took = time.perf_counter() - began
+    used = sum(processor(it) for it, _ in gateways) - before
+    waits.sort()
+    return len(waits) / took, used / len(waits), 1000 * waits[len(waits) // 2], 1000 * waits[int(len(waits) * 0.99)]
+
+
+def gateway(upstream, *options):
+    words = [sys.executable, "-m", "odb_batch", "gateway", "--listen", "127.0.0.1:0", "--upstream", upstream]
+    words += ["--log", "none", "--batches", "500", "--connections", "400", *options]
+    process = subprocess.Popen(words, env=with_package(), stderr=subprocess.PIPE, text=True)
+    return process, int(process.stderr.readline().rpartition(":")[2])
+
+
+async def measure(places):
+    server = await asyncio.get_running_loop().create_server(Fast, "127.0.0.1", 0, backlog=1000)
+    url = f"http://127.0.0.1:{server.sockets[0].getsockname()[1]}/odata/"
+    made = {
+        kind: [gateway(url, *(("--journal", place, "--one-client") if place else ())) for _ in range(count)]
+        for kind, (place, count) in places.items()
+    }
+    found = {}
+    try:
+        for _ in range(TURNS):
+            for shape, clients in itertools.product(("flat", "chain"), CLIENTS):
+                for kind in sorted(made, key=lambda _: secrets.randbits(16)):
+                    row = await rate(made[kind], clients, shape, bool(places[kind][0]))
+                    found.setdefault((shape, clients, kind), []).append(row)
+    finally:
+        for process, _ in itertools.chain(*made.values()):
+            process.send_signal(signal.SIGTERM)
+            process.wait()
+    return found
+
+
+def show(found, kinds):
+    first = kinds[0]
+    print(f"load {os.getloadavg()[0]:.1f}; batches a second, as a share of the first kind; processor ms; ms (half, 99 of 100)")
+    for shape, clients in itertools.product(("flat", "chain"), CLIENTS):
+        for kind in kinds:
+            rows = found[shape, clients, kind]
+            share = statistics.median(row[0] / base[0] for row, base in zip(rows, found[shape, clients, first]))
+            rates, used, half, most = (statistics.median(row[k] for row in rows) for k in range(4))
+            print(f"{shape:6}{clients:3} {kind:18}{rates:8.1f}{share:8.2f}{used:8.2f}{half:8.1f}{most:8.1f}", flush=True)
+
+
+def main():
+    server = databases.Postgresql(folder=tempfile.mkdtemp()) if databases.programs() else None
+    with tempfile.TemporaryDirectory() as folder:
+        try:
+            url = server.url("public") if server else ""
+            if "--two" in sys.argv:
+                places = {"one gateway": (url, 1), "two gateways": (url, 2)}
+            else:
+                places = {"no journal": ("", 1), "SQLite": (folder, 1), **({"PostgreSQL": (url, 1)} if url else {})}
+            show(asyncio.run(measure(places)), list(places))
+        finally:
+            if server:
+                server.end()
+
+
+if __name__ == "__main__":
+    main()

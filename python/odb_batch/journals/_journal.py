@@ -1,0 +1,182 @@
+"""The journal of one batch in a store: what is written until a sync goes there as one part."""
+
+import asyncio
+import contextlib
+from typing import TYPE_CHECKING, List, Optional, Sequence, Set
+
+from .._documents import Report
+from .._events import JournalEvent, ReportUnit, StartUnit, Stop
+from .._messages import Refusal
+from ._lines import chunks_of, events_of
+from ._stores import NOBODY, Found, Late, Mark, Part, clock
+
+if TYPE_CHECKING:
+    from ._journals import Journals
+
+# After how many seconds an answer is kept that comes while others of its batch are waited for.
+_SOON = 0.25
+# How often a lease is looked at that is being renewed, in seconds.
+_LOOK = 0.05
+
+
+def in_progress() -> Refusal:
+    """Returns why a batch cannot be opened, or goes on no more: another one has it."""
+    return Refusal(409, "InProgress", "The batch is being performed", retry_after="1")
+
+
+class StoreJournal:
+    """The journal of one batch, for `journal` of :func:`odb_batch.perform_async`; :meth:`Journals.journal` opens it.
+
+    Attributes:
+        batch: The name of the batch in the store.
+        events: What has happened before.
+        has_kept: Whether something was kept since it was opened. Before that nothing was sent but GETs.
+        size: How many bytes wait for a sync.
+        turn: What the append that has begun, or is waited for, ends with; None if there is none.
+    """
+
+    def __init__(self, owner: "Journals", batch: bytes, first: bytes, found: Sequence[Found]) -> None:
+        self._owner, self.batch, self.events = owner, batch, _events(first, found)
+        self._number, self._after = len(found), found[-1].mark if found else NOBODY
+        self._chunks: List[bytes] = [] if found else [first]
+        self.size = sum(map(len, self._chunks))
+        self._out: Set[str] = set()
+        for event in self.events:
+            self._note(event)
+        self._was_out = frozenset(self._out)
+        self._written = self._kept = self._flying = 0
+        self._lease = self._next_lease = owner.store.lease
+        self._mark: Mark = (self._lease.holder, next(owner.writers))
+        self._is_open = self._is_left = self.has_kept = False
+        self._failure: Optional[Exception] = None
+        self._soon: Optional[asyncio.TimerHandle] = None
+        self.turn: "Optional[asyncio.Future[None]]" = None
+
+    def write(self, event: JournalEvent) -> None:
+        """Appends an event; raises what has failed before."""
+        self._require()
+        chunks = chunks_of(event)
+        self._chunks.extend(chunks)
+        self.size += sum(map(len, chunks))
+        self._written += 1
+        self._note(event)
+        if isinstance(event, Report):
+            self._owner.lost += event.id in self._was_out and event.status == 500 and b'"Lost"' in (event.body or b"")
+        if isinstance(event, (Report, ReportUnit)) and self._out and self._soon is None:
+            with contextlib.suppress(RuntimeError):  # what is lost is written by another thread, and synced at once
+                self._soon = asyncio.get_running_loop().call_later(_SOON, self._keep_soon)
+
+    def _note(self, event: JournalEvent) -> None:
+        """Keeps which requests are out."""
+        if isinstance(event, (Report, ReportUnit)):
+            reports = event.reports if isinstance(event, ReportUnit) else (event,)
+            self._out.difference_update(it.id for it in reports)
+        elif not isinstance(event, Stop):
+            self._out.update(event.ids if isinstance(event, StartUnit) else (event.id,))
+
+    def _keep_soon(self) -> None:
+        """Keeps an answer that the process might else lose while the batch waits for another one."""
+        self._soon = None
+        if self._chunks and self._failure is None:
+            self._owner.flush(self)
+
+    async def sync(self) -> None:
+        """Returns once all events that were written before are kept for good, and what is out may be sent.
+
+        Raises:
+            Refusal: Another process has the batch: 409 ``InProgress``. Nothing more is to be sent.
+            OSError: It is not known whether they are kept, or the lease cannot be renewed.
+        """
+        wanted = self._written
+        while self._kept < wanted:
+            self._require()  # after a failure the same number must not have another text
+            await asyncio.shield(self._owner.flush(self))
+        self._require()
+        if self._out:
+            await self._hold()
+        elif not wanted and self._number:
+            await self._owner.store.confirm()
+
+    async def _hold(self) -> None:
+        """Returns once nobody else goes on with the batch before the lease ends under which its last part is kept."""
+        end = clock() + self._lease.seconds
+        while self._lease.is_over:
+            if not self._owner.store.lease.is_over:  # another one than that of the last part
+                self._written += 1  # a part of no bytes
+                await self.sync()
+            elif clock() < end:
+                await asyncio.sleep(_LOOK)
+            else:
+                raise OSError("the lease cannot be renewed")
+
+    def require_held(self) -> None:
+        """Raises Late if the lease has ended: call it just before the bytes of a request are written, but a GET."""
+        if self._lease.is_over:
+            raise Late
+
+    def _require(self) -> None:
+        if self._failure is not None:
+            raise self._failure
+
+    # The append
+
+    def next_part(self) -> Part:
+        """Returns what is written and not kept yet; `landed` or `failed` says what has become of it."""
+        text, self._chunks, self.size, self._flying = b"".join(self._chunks), [], 0, self._written
+        self._next_lease = self._owner.store.lease
+        self._mark = (self._next_lease.holder, self._mark[1])
+        self._is_open = bool(self._out) and not self._is_left
+        return Part(self.batch, self._number, self._mark, self._after, self._is_open, text)
+
+    def landed(self, is_kept: bool) -> None:
+        """Notes that the part is kept, or that another one has the batch."""
+        if is_kept:
+            self._number, self._after, self._kept = self._number + 1, self._mark, self._flying
+            # Not before: what was started under another lease may have been taken over.
+            self._lease, self.has_kept = self._next_lease, True
+        else:
+            self.failed(in_progress())
+
+    def failed(self, error: Exception) -> None:
+        """Refuses all that comes: what was to be kept may still be kept, under the number of the next part."""
+        self._failure = error
+
+    # The end
+
+    def leave(self) -> bool:
+        """Ends the journal; returns whether others have to be let on, as something is out or not kept."""
+        self._is_left = True
+        if self._soon is not None:
+            self._soon.cancel()
+        if self._failure is not None:
+            return not isinstance(self._failure, Refusal)
+        return self._is_open or bool(self._chunks and self._written)
+
+    async def end(self) -> None:
+        """Keeps what is written, and that nothing is out any more."""
+        self._written += 1
+        while self._kept < self._written:
+            self._require()
+            await asyncio.shield(self._owner.flush(self))
+
+    def has_written(self, part: Found) -> bool:
+        """Returns whether a part is of this journal, also one that was not known to be kept."""
+        return part.mark in (self._mark, self._after)
+
+
+def _events(first: bytes, found: Sequence[Found]) -> List[JournalEvent]:
+    """The events of a batch; raises Refusal if they are those of another one (422), or ValueError if damaged."""
+    events: List[JournalEvent] = []
+    for number, part in enumerate(found):
+        if part.number != number:
+            raise ValueError("a part of the batch is missing")
+        text = part.text
+        if number == 0:
+            if not text.startswith(b"{"):
+                raise ValueError("the journal of the batch is damaged")
+            if not text.startswith(first):
+                message = "The Repeatability-Request-ID is that of another batch"
+                raise Refusal(422, "AnotherBatch", message, repeatability_result="rejected")
+            text = text[len(first) :]
+        events.extend(events_of(text))
+    return events

@@ -1,0 +1,289 @@
+"""The journals in a store: who has which batch, and appends that go together."""
+
+import asyncio
+import contextlib
+import itertools
+from collections import deque
+from typing import AsyncIterator, Callable, Coroutine, Deque, Iterator, List, Set, Tuple
+
+from .._answers import LOG
+from ._journal import StoreJournal, in_progress
+from ._lines import digest
+from ._stores import Found, Hold, Part, Store, clock
+
+# At most so many bytes, unless one part has more, and so many parts are appended at once.
+_MOST_BYTES, _MOST_PARTS = 1_048_576, 256
+# A part with more bytes keeps no others waiting: it goes alone, beside them.
+_LONG = 65_536
+# How often a lease is renewed in its time.
+_RENEWALS = 5
+# After how many seconds something that has failed is tried again, and for how many the end waits for what is left.
+_AGAIN, _END = 1.0, 3.0
+# How often old batches are looked for, in seconds; those that are kept for days less often.
+_PRUNE_SECONDS, _PRUNED_WHILE_KEPT = 60.0, 24
+# For how many seconds a batch has to have been too old before it is removed, unless it is kept for less: the clock may
+# be wrong when the machine starts.
+_PATIENCE = 3_600.0
+
+
+class _Line:
+    """Journals that wait for an append: what comes while others are on their way goes together."""
+
+    def __init__(self, width: int) -> None:
+        self.free, self.waiting = width, deque()  # type: int, Deque[StoreJournal]
+
+    def taken(self) -> List[StoreJournal]:
+        """Takes those that go next."""
+        found, size = [], 0  # type: List[StoreJournal], int
+        while self.waiting and len(found) < _MOST_PARTS:
+            size += self.waiting[0].size
+            if found and size > _MOST_BYTES:
+                break
+            found.append(self.waiting.popleft())
+        return found
+
+
+class Journals:
+    """The journals of batches in a store, for one process and one loop.
+
+    >>> async def answer(batch, name):
+    ...     async with journals.journal(name, identity(batch=digest(batch))) as journal:
+    ...         return await perform_async(batch, send, journal=journal)
+
+    Args:
+        store: Where they are; see :func:`store_of`.
+        keep: For how many seconds a batch is kept after its last event, at least.
+        ahead: By how many seconds the clocks of clients may be ahead: batches are kept so much longer.
+        steady: Seconds of a clock that nobody sets.
+
+    Attributes:
+        broken: Raises OSError once the store turns out to be unusable after `open`.
+        appends, parts, bytes, seconds: How many appends there were, of how many parts and bytes, and their time.
+        refused, lost: How many batches another process has taken over, and how many requests were lost.
+    """
+
+    def __init__(
+        self, store: Store, keep: float = 86_400.0, ahead: float = 0.0, steady: Callable[[], float] = clock
+    ) -> None:
+        self.store, self._keep, self._ahead, self._steady = store, keep, ahead, steady
+        self.writers = itertools.count(1)
+        self._active: Set[bytes] = set()
+        self._lines = _Line(store.width), _Line(1)
+        self._tasks: "Set[asyncio.Task[None]]" = set()
+        self._releases: "Set[asyncio.Task[None]]" = set()
+        # What the clocks have shown: that nobody sets, and that of the store.
+        self._shown: Deque[Tuple[float, float]] = deque()
+        self._is_open = False
+        self.appends = self.parts = self.bytes = self.refused = self.lost = 0
+        self.seconds = 0.0
+
+    @property
+    def is_ready(self) -> bool:
+        """Whether the store was reached, and the lease lasts."""
+        return self._is_open and not self.store.lease.is_over
+
+    async def open(self) -> None:
+        """Opens the store, or begins to wait for it if it cannot be reached; raises OSError if it cannot be used."""
+        self.broken: "asyncio.Future[None]" = asyncio.get_running_loop().create_future()
+        try:
+            await self.store.open()
+            self._begin()
+        except ConnectionError as error:
+            LOG.error("the journal cannot be reached, and is waited for: %s", error)
+            self._spawn(self._open_later(), self._tasks)
+
+    async def _open_later(self) -> None:
+        while not self._is_open:
+            await asyncio.sleep(_AGAIN)
+            try:
+                await self.store.open()
+                self._begin()
+            except ConnectionError:
+                pass
+            except OSError as error:
+                LOG.error("the journal cannot be used: %s", error)
+                return None if self.broken.done() else self.broken.set_exception(error)
+
+    def _begin(self) -> None:
+        self._is_open = True
+        self._spawn(self._prune_always(), self._tasks)
+        if self.store.lease.seconds < float("inf"):
+            self._spawn(self._renew_always(), self._tasks)
+
+    async def close(self) -> None:
+        """Lets others go on with what is left, and closes the store."""
+        if self._releases:
+            await asyncio.wait(self._releases, timeout=_END)
+        rest = [*self._tasks, *self._releases]
+        for task in rest:
+            task.cancel()
+        await asyncio.gather(*rest, return_exceptions=True)
+        if self._is_open:
+            await self.store.close()
+
+    def _spawn(self, work: "Coroutine[None, None, None]", tasks: "Set[asyncio.Task[None]]") -> None:
+        task = asyncio.ensure_future(work)
+        tasks.add(task)  # the loop alone would not keep it
+        task.add_done_callback(tasks.discard)
+
+    async def _renew_always(self) -> None:
+        while True:
+            await asyncio.sleep(self.store.lease.seconds / _RENEWALS)
+            try:
+                await self.store.renew()
+            except OSError as error:
+                LOG.error("the lease is not renewed: %s", error)
+
+    # Opening
+
+    @contextlib.asynccontextmanager
+    async def journal(
+        self, name: bytes, first: bytes, hold: Hold = lambda size: None
+    ) -> AsyncIterator[StoreJournal]:
+        """Opens the journal of a batch. Whoever keeps its next event has the batch.
+
+        Args:
+            name: The name of the batch.
+            first: The first line, as `identity` makes it.
+            hold: Reserves memory for what is read, or raises an exception.
+
+        Raises:
+            Refusal: The batch is being performed (409), or the name is that of another batch (422).
+            ValueError: It is damaged.
+            OSError: The store cannot be read.
+        """
+        batch = bytes.fromhex(digest(name))
+        if batch in self._active:
+            raise in_progress()
+        self._active.add(batch)
+        is_left = False
+        try:
+            journal = StoreJournal(self, batch, first, await self._found(batch, hold))
+            try:
+                yield journal
+            finally:
+                is_left = journal.leave()
+                if is_left:
+                    self._spawn(self._release(journal), self._releases)
+        finally:
+            if not is_left:
+                self._active.discard(batch)
+
+    async def _found(self, batch: bytes, hold: Hold) -> List[Found]:
+        if not self._is_open:
+            raise OSError("the journal was not reached yet")
+        found = await self.store.read(batch, hold)
+        if found and found[-1].is_open:
+            holder, _ = found[-1].mark
+            # What this process has open and does not perform any more was left open by a failure.
+            if holder != self.store.lease.holder and not await self.store.is_over(holder):
+                raise in_progress()
+        return found
+
+    async def _release(self, journal: StoreJournal) -> None:
+        """Lets others go on with a batch that is left open: else they would wait for as long as the process lives."""
+        try:
+            with contextlib.suppress(Exception):  # it is looked at again
+                return await journal.end()
+        finally:
+            self._active.discard(journal.batch)
+        while journal.batch not in self._active:
+            self._active.add(journal.batch)
+            try:
+                if await self._is_released(journal):
+                    return
+            except OSError as error:
+                LOG.error("a batch is left open: %s", error)
+            finally:
+                self._active.discard(journal.batch)
+            await asyncio.sleep(_AGAIN)
+
+    async def _is_released(self, journal: StoreJournal) -> bool:
+        found = await self.store.read(journal.batch, lambda size: None)
+        if not found or not found[-1].is_open or not journal.has_written(found[-1]):
+            return True
+        mark = found[-1].mark
+        part = Part(journal.batch, len(found), (mark[0], next(self.writers)), mark, False, b"")
+        return bool(await self.store.append([part]))
+
+    # Appending
+
+    def flush(self, journal: StoreJournal) -> "asyncio.Future[None]":
+        """Returns what the next append of a journal ends with, or the one that is on its way."""
+        if journal.turn is None:
+            journal.turn = asyncio.get_running_loop().create_future()
+            line = self._lines[journal.size > _LONG]
+            line.waiting.append(journal)
+            if line.free:
+                line.free -= 1
+                self._spawn(self._append_all(line), self._tasks)
+        return journal.turn
+
+    async def _append_all(self, line: _Line) -> None:
+        try:
+            await asyncio.sleep(0)  # what starts in this turn of the loop goes with it
+            while line.waiting:
+                await self._append(line.taken())
+        finally:
+            line.free += 1
+
+    async def _append(self, journals: List[StoreJournal]) -> None:
+        parts, began = [it.next_part() for it in journals], clock()
+        error: BaseException = OSError("it was broken off")
+        try:
+            kept = await self.store.append(parts)
+            for journal in journals:
+                journal.landed(journal.batch in kept)
+            self.refused += len(parts) - len(kept)
+        except BaseException as raised:
+            error = raised if isinstance(raised, OSError) else OSError(f"{type(raised).__name__}: {raised}")
+            for journal in journals:
+                journal.failed(error)
+            if not isinstance(raised, Exception):
+                raise
+        finally:
+            self.appends, self.parts = self.appends + 1, self.parts + len(parts)
+            self.bytes += sum(len(it.text) for it in parts)
+            self.seconds += clock() - began
+            for journal in journals:
+                turn, journal.turn = journal.turn, None
+                if turn is not None and not turn.done():
+                    turn.set_result(None)
+
+    # Removing
+
+    async def _prune_always(self) -> None:
+        while True:
+            try:
+                await self.prune()
+            except OSError as error:
+                LOG.error("old journals cannot be removed: %s", error)
+            await asyncio.sleep(min(max(_PRUNE_SECONDS, self._keep / _PRUNED_WHILE_KEPT), self._keep))
+
+    async def prune(self) -> None:
+        """Removes the batches of which nothing has happened for so long, unless they are being performed.
+
+        A clock may be wrong, so a batch has to stay too old for a while; it is removed by the earliest that was shown.
+        """
+        now, patience = self._steady(), min(_PATIENCE, self._keep)
+        self._shown.append((now, await self.store.now()))
+        while len(self._shown) > 1 and self._shown[1][0] <= now - patience:
+            self._shown.popleft()
+        if self._shown[0][0] <= now - patience:
+            await self.store.prune(min(shown for _, shown in self._shown) - self._keep - self._ahead)
+
+    def metrics(self) -> Iterator[Tuple[str, str, str, float]]:
+        """Yields the name, the kind and the help of each metric, and its value."""
+        for name, help, value in (
+            ("appends", "Commits of the journal.", self.appends),
+            ("parts", "Parts of batches in these; divided by the commits: how many share one.", self.parts),
+            ("bytes", "Bytes of these.", self.bytes),
+            ("seconds", "How long these took.", round(self.seconds, 6)),
+            ("breaks", "Connections to the journal that broke.", getattr(self.store, "breaks", 0)),
+            ("refused", "Batches that another gateway has taken over.", self.refused),
+            ("lost", "Requests that were answered 500 Lost.", self.lost),
+        ):
+            yield f"journal_{name}_total", "counter", help, value
+        if self.store.lease.seconds < float("inf"):
+            left = self.store.lease.deadline - clock()
+            yield "journal_lease_seconds", "gauge", "What is left of the lease.", round(max(left, 0.0), 3)

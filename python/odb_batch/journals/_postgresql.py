@@ -1,0 +1,291 @@
+"""Parts in PostgreSQL, for the processes of several machines. A holder is a row with an end.
+
+No statement needs the one before, or a state of its connection. None is cancelled: a commit that waits for a standby
+would be reported as done. Its connection is ended instead, and the statement is sent again over a new one.
+"""
+
+import asyncio
+import os
+import socket
+from typing import Any, Coroutine, List, Optional, Sequence, Set
+
+import asyncpg
+
+from .._answers import LOG
+from ._stores import Found, Hold, Lease, Part, clock
+
+_FORM = 1
+#: What docs/journal.sql has, for a role that may not make tables.
+TABLES = """\
+CREATE TABLE odb_form (form integer NOT NULL);
+INSERT INTO odb_form VALUES (1);
+CREATE TABLE odb_gateway (holder bigint PRIMARY KEY, name text NOT NULL, until timestamptz NOT NULL);
+CREATE TABLE odb_part (
+    batch bytea NOT NULL, number integer NOT NULL, holder bigint NOT NULL, writer bigint NOT NULL,
+    open boolean NOT NULL, at timestamptz NOT NULL, text bytea NOT NULL, PRIMARY KEY (batch, number)
+) WITH (autovacuum_vacuum_scale_factor = 0.02, autovacuum_vacuum_insert_scale_factor = 0.05);
+ALTER TABLE odb_part ALTER COLUMN text SET STORAGE EXTERNAL;
+CREATE INDEX odb_part_at ON odb_part (at) WHERE number = 0;
+"""
+_APPEND = """INSERT INTO odb_part
+SELECT g.batch, g.number, g.holder, g.writer, g.open, clock_timestamp(), g.text
+FROM unnest($1::bytea[], $2::int[], $3::bigint[], $4::bigint[], $5::bigint[], $6::bigint[], $7::bool[], $8::bytea[])
+    AS g(batch, number, holder, writer, after_holder, after_writer, open, text)
+WHERE g.number = 0 OR EXISTS (SELECT FROM odb_part AS p WHERE p.batch = g.batch AND p.number = g.number - 1
+    AND p.holder = g.after_holder AND p.writer = g.after_writer)
+ON CONFLICT DO NOTHING RETURNING batch"""
+_MARKS = """SELECT p.batch, p.holder, p.writer FROM odb_part AS p
+    JOIN unnest($1::bytea[], $2::int[]) AS g(batch, number) USING (batch, number)"""
+# Long texts come only once there is memory for them.
+_FIND = """SELECT number, holder, writer, open, size, CASE WHEN total <= 65536 THEN text END FROM (
+    SELECT *, octet_length(text) AS size, sum(octet_length(text)) OVER () AS total FROM odb_part WHERE batch = $1
+) AS found ORDER BY number"""
+_TEXTS = "SELECT text FROM odb_part WHERE batch = $1 AND number < $2 ORDER BY number"
+# What is read may not be on the standby, after a restart or a wait that was cancelled. This commit comes after it.
+_WAIT = "SELECT pg_logical_emit_message(true, 'odb_batch', '')"
+_BEGIN = "INSERT INTO odb_gateway VALUES ($1, $2, clock_timestamp() + $3::float8 * interval '1 second')"
+_RENEW = """UPDATE odb_gateway SET until = clock_timestamp() + $2::float8 * interval '1 second' WHERE holder = $1
+    RETURNING 1"""
+_END = "DELETE FROM odb_gateway WHERE holder = $1 AND until < clock_timestamp()"
+_IS_OVER = "SELECT NOT EXISTS (SELECT FROM odb_gateway WHERE holder = $1)"
+_NOW = "SELECT extract(epoch FROM clock_timestamp())::float8"
+_OLD = """DELETE FROM odb_part WHERE batch IN (SELECT batch FROM odb_part AS a
+    WHERE number = 0 AND at < to_timestamp($1::float8)
+    AND NOT EXISTS (SELECT FROM odb_part AS b WHERE b.batch = a.batch AND b.at >= to_timestamp($1::float8))
+    AND NOT EXISTS (SELECT FROM odb_part AS c JOIN odb_gateway USING (holder) WHERE c.batch = a.batch AND c.open
+        AND NOT EXISTS (SELECT FROM odb_part AS d WHERE d.batch = c.batch AND d.number > c.number))
+    ORDER BY at LIMIT 500) RETURNING 1"""
+_OLD_LEASES = "DELETE FROM odb_gateway WHERE until < clock_timestamp() - interval '1 day'"
+_OPTIONS = {"application_name": "odb_batch", "synchronous_commit": "on", "jit": "off"}
+# How many connections all share but the renewals and the removals, and how long one may be idle in a transaction.
+_LINKS, _IDLE_MILLISECONDS = 4, "10000"
+# How fast a long text is sent at least, in bytes a second, and how long there is between two tries.
+_RATE, _BREAK = 1e6, 0.1
+_LOCK = 7283541
+
+_errors = asyncpg.exceptions
+# After these the same statement may be sent again: a connection, or a transaction, was ended from outside.
+_AGAIN = (
+    OSError, asyncio.TimeoutError, asyncpg.InterfaceError, asyncpg.PostgresConnectionError, _errors.InternalClientError,
+    _errors.AdminShutdownError, _errors.CrashShutdownError, _errors.CannotConnectNowError, _errors.QueryCanceledError,
+    _errors.TooManyConnectionsError, _errors.TransactionRollbackError, _errors.ReadOnlySQLTransactionError,
+)  # fmt: skip
+
+
+class PostgresqlStore:
+    """Keeps batches in tables of PostgreSQL; see :class:`Store`.
+
+    Args:
+        url: ``postgresql://..``, as of libpq.
+        seconds: How long a lease is.
+
+    Attributes:
+        breaks: How often a connection broke.
+        patience, timeout: For how many seconds a statement is tried again, and its answer is waited for.
+    """
+
+    width = 2
+
+    def __init__(self, url: str, seconds: float = 15.0) -> None:
+        self._url, self._seconds, self._margin = url, seconds, min(1.0, seconds / 8)
+        self.lease, self.breaks = Lease(seconds, 0.0), 0
+        self.patience, self.timeout = seconds, max(seconds / 3, 1.0)
+        # The servers' processes whose commit was not confirmed by a standby.
+        self._warned: Set[int] = set()
+
+    async def open(self) -> None:
+        # A long removal must not keep the lease from its renewal.
+        self._beats, self._pruner, links = _Link(self), _Link(self), [_Link(self) for _ in range(_LINKS)]
+        self._all, self._free = [self._beats, self._pruner, *links], asyncio.LifoQueue()  # type: List[_Link], Any
+        for link in links:
+            self._free.put_nowait(link)
+        try:
+            connection = await self.connected(self.timeout)
+            try:
+                await self._in_time(connection, self.timeout, self._prepare(connection))
+            finally:
+                connection.terminate()
+            await self._begin()
+        except (ValueError, asyncpg.InterfaceError) as error:  # the URL
+            raise _Unusable(f"PostgreSQL: {error}") from None
+        except _Unusable:
+            raise
+        except _AGAIN as error:
+            raise ConnectionError(f"PostgreSQL: {_text(error)}") from None
+        except asyncpg.PostgresError as error:
+            raise _Unusable(f"PostgreSQL: {_text(error)}") from None
+
+    async def _prepare(self, connection: Any) -> None:
+        """Makes the tables. Two processes that start at once would both make one."""
+        if await connection.fetchval("SHOW fsync") != "on":
+            raise ValueError("fsync is off")
+        async with connection.transaction():
+            await connection.execute(f"SELECT pg_advisory_xact_lock({_LOCK})")
+            if not await connection.fetchval("SELECT to_regclass('odb_form') IS NOT NULL"):
+                await connection.execute(TABLES)
+        form = await connection.fetchval("SELECT form FROM odb_form")
+        if form != _FORM:
+            raise ValueError(f"the tables have the form {form}, not {_FORM}")
+
+    async def connected(self, seconds: float) -> Any:
+        """Returns a connection to the primary; raises one of `_AGAIN`, or PostgresError."""
+        limit = str(int(self.timeout * 2000 + 20_000))
+        settings = {**_OPTIONS, "statement_timeout": limit, "idle_in_transaction_session_timeout": _IDLE_MILLISECONDS}
+        found = await asyncpg.connect(self._url, timeout=seconds, server_settings=settings)
+        # A commit whose wait for a standby was cancelled is reported as done, with a warning.
+        found.add_log_listener(lambda it, note: self._warned.add(it.get_server_pid()))
+        try:
+            if (await self.answered(found, seconds, "SELECT pg_is_in_recovery()"))[0][0]:
+                raise ConnectionError("it is a standby")
+        except BaseException:
+            found.terminate()
+            raise
+        return found
+
+    async def answered(self, connection: Any, seconds: float, words: str, *given: Any) -> List[Any]:
+        """Returns the rows of a statement; raises one of `_AGAIN`, or PostgresError."""
+        rows: List[Any] = await self._in_time(connection, seconds, connection.fetch(words, *given))
+        pid = connection.get_server_pid()
+        if pid in self._warned:
+            self._warned.discard(pid)
+            raise ConnectionError("the commit was not confirmed by a standby")
+        return rows
+
+    async def _in_time(self, connection: Any, seconds: float, work: Coroutine[Any, Any, Any]) -> Any:
+        """What some work over a connection returns; ends the connection where it takes too long.
+
+        Not `wait_for`, which would cancel the statement at the server, too.
+        """
+        task = asyncio.ensure_future(work)
+        try:
+            await asyncio.wait({task}, timeout=seconds)
+        finally:
+            if not task.done():
+                connection.terminate()
+                task.add_done_callback(lambda it: it.cancelled() or it.exception())
+        if not task.done():
+            raise asyncio.TimeoutError("no answer in time")
+        return task.result()
+
+    async def _rows(self, words: str, *given: Any, size: int = 0) -> List[Any]:
+        """The rows of a statement, over the next free connection."""
+        link: _Link = await self._free.get()
+        try:
+            return await link.rows(words, *given, patience=self.patience, size=size)
+        finally:
+            self._free.put_nowait(link)
+
+    async def close(self) -> None:
+        try:
+            await self._beats.rows("DELETE FROM odb_gateway WHERE holder = $1", self.lease.holder, patience=0)
+        except OSError as error:
+            LOG.error("the lease lasts until its time is over: %s", error)
+        for link in self._all:
+            link.drop()
+
+    # The lease
+
+    async def _begin(self) -> None:
+        before, lease = clock(), Lease(self._seconds, 0.0)
+        name = f"{socket.gethostname()}-{os.getpid()}"
+        await self._beats.rows(_BEGIN, lease.holder, name, self._seconds, patience=0)
+        lease.deadline = before + self._seconds - self._margin
+        self.lease = lease
+
+    async def renew(self) -> None:
+        before = clock()
+        if await self._beats.rows(_RENEW, self.lease.holder, self._seconds, patience=0):
+            self.lease.deadline = before + self._seconds - self._margin
+        else:
+            LOG.error("another gateway has ended the lease of this one")
+            await self._begin()
+
+    async def is_over(self, holder: int) -> bool:
+        # It ends for good: a holder that has no row is never renewed.
+        await self._rows(_END, holder)
+        return bool((await self._rows(_IS_OVER, holder))[0][0])
+
+    # Parts
+
+    async def now(self) -> float:
+        return float((await self._rows(_NOW))[0][0])
+
+    async def read(self, batch: bytes, hold: Hold) -> List[Found]:
+        rows = await self._rows(_FIND, batch)
+        size = sum(row[4] for row in rows)
+        hold(size)
+        texts = [row[5] for row in rows]
+        if None in texts:
+            texts = [row[0] for row in await self._rows(_TEXTS, batch, len(rows), size=size)]
+            if len(texts) < len(rows):
+                raise OSError("PostgreSQL: the batch was removed")
+        return [Found(row[0], (row[1], row[2]), row[3], text) for row, text in zip(rows, texts)]
+
+    async def append(self, parts: Sequence[Part]) -> Set[bytes]:
+        parts = sorted(parts)  # two that wait for each other would be a deadlock
+        size = sum(len(it.text) for it in parts)
+        columns = zip(*((it.batch, it.number, *it.mark, *it.after, it.is_open, it.text) for it in parts))
+        kept = {row[0] for row in await self._rows(_APPEND, *map(list, columns), size=size)}
+        rest = {it.batch: it for it in parts if it.batch not in kept}
+        if rest:  # refused, or kept by a try whose answer was lost; a statement does not see what it has waited for
+            numbers = [it.number for it in rest.values()]
+            marks = await self._rows(_MARKS, list(rest), numbers)
+            kept.update(batch for batch, *mark in marks if rest[batch].mark == tuple(mark))
+            await self.confirm()
+        return kept
+
+    async def confirm(self) -> None:
+        await self._rows(_WAIT)
+
+    async def prune(self, before: float) -> None:
+        while await self._pruner.rows(_OLD, before, patience=0):
+            await asyncio.sleep(0)
+        await self._pruner.rows(_OLD_LEASES, patience=0)
+
+
+class _Unusable(OSError):
+    """The database has refused something, and would again."""
+
+
+class _Link:
+    """A connection, which is made anew where it breaks, for one statement at a time."""
+
+    def __init__(self, store: PostgresqlStore) -> None:
+        self._store, self._turn = store, asyncio.Lock()
+        self._connection: Optional[Any] = None
+
+    async def rows(self, words: str, *given: Any, patience: float, size: int = 0) -> List[Any]:
+        """Returns the rows of a statement that may be sent twice; raises OSError once there is no more patience."""
+        end = clock() + patience
+        async with self._turn:
+            while True:
+                try:
+                    return await self._tried(max(end - clock(), _BREAK), size, words, *given)
+                except _AGAIN as error:
+                    self.drop()
+                    self._store.breaks += 1
+                    if clock() >= end:
+                        raise ConnectionError(f"PostgreSQL: {_text(error)}") from None
+                    await asyncio.sleep(_BREAK)
+                except asyncpg.PostgresError as error:
+                    self.drop()
+                    raise _Unusable(f"PostgreSQL: {_text(error)}") from None
+                except BaseException:  # cancelled: the connection must not be used again
+                    self.drop()
+                    raise
+
+    async def _tried(self, left: float, size: int, words: str, *given: Any) -> List[Any]:
+        timeout = self._store.timeout
+        if self._connection is None or self._connection.is_closed():
+            self._connection = await self._store.connected(timeout)
+        return await self._store.answered(self._connection, timeout + size / _RATE, words, *given)
+
+    def drop(self) -> None:
+        """Ends the connection."""
+        connection, self._connection = self._connection, None
+        if connection is not None and not connection.is_closed():
+            connection.terminate()
+
+
+def _text(error: BaseException) -> str:
+    return f"{type(error).__name__} {error}".rstrip()

@@ -1,0 +1,272 @@
+"""Parts in a file of SQLite, for the processes of one machine. A holder is a file that its process has locked."""
+
+import asyncio
+import contextlib
+import fcntl
+import glob
+import json
+import os
+import re
+import sqlite3
+import stat
+import time
+from concurrent.futures import ThreadPoolExecutor
+from typing import Any, Callable, Iterator, List, Optional, Sequence, Set, TypeVar
+
+from ._stores import THREADS, Found, Hold, Lease, Part
+
+_FORM = 1
+_TABLES = """
+CREATE TABLE IF NOT EXISTS part (
+    batch BLOB NOT NULL, number INTEGER NOT NULL, holder INTEGER NOT NULL, writer INTEGER NOT NULL,
+    open INTEGER NOT NULL, at REAL NOT NULL, size INTEGER NOT NULL, pieces INTEGER NOT NULL, text BLOB NOT NULL,
+    PRIMARY KEY (batch, number)
+);
+CREATE INDEX IF NOT EXISTS part_at ON part (at) WHERE number = 0;
+CREATE TABLE IF NOT EXISTS piece (
+    batch BLOB NOT NULL, number INTEGER NOT NULL, holder INTEGER NOT NULL, writer INTEGER NOT NULL,
+    place INTEGER NOT NULL, text BLOB NOT NULL, PRIMARY KEY (batch, number, holder, writer, place)
+);
+"""
+_SIZE = "SELECT coalesce(sum(size), 0) FROM part WHERE batch = ?"
+_FIND = "SELECT number, holder, writer, open, pieces, text FROM part WHERE batch = ? ORDER BY number"
+_MARK = "SELECT holder, writer FROM part WHERE batch = ? AND number = ?"
+_INSERT = "INSERT OR IGNORE INTO part VALUES (?, ?, ?, ?, ?, ?, ?, ?, ?)"
+_INSERT_PIECE = "INSERT OR IGNORE INTO piece VALUES (?, ?, ?, ?, ?, ?)"
+_PIECES = "FROM piece WHERE batch = ? AND number = ? AND holder = ? AND writer = ?"
+_OLD = """DELETE FROM part WHERE batch IN (SELECT batch FROM part AS a WHERE number = 0 AND at < ?1
+    AND NOT EXISTS (SELECT 1 FROM part AS b WHERE b.batch = a.batch AND b.at >= ?1)
+    AND NOT EXISTS (SELECT 1 FROM part AS c WHERE c.batch = a.batch AND c.open
+        AND c.holder IN (SELECT value FROM json_each(?2))
+        AND NOT EXISTS (SELECT 1 FROM part AS d WHERE d.batch = c.batch AND d.number > c.number))
+    ORDER BY at LIMIT 500)"""
+# A piece that no part names is of a batch that was removed, or of a process that ended before it has kept the part.
+_LEFT = """DELETE FROM piece WHERE rowid IN (SELECT rowid FROM piece WHERE NOT EXISTS (SELECT 1 FROM part
+    WHERE part.batch = piece.batch) LIMIT 64)"""
+# A longer text is kept in pieces, each by a commit of its own, between which others have their turn.
+_PIECE = 262_144
+# For how many seconds a commit may take, and for how many one is waited for at the end.
+_SECONDS, _CLOSE_SECONDS = 10.0, 0.5
+_OF_FILES = re.compile("[0-9a-f]{64}").fullmatch
+_Result = TypeVar("_Result")
+
+
+class SqliteStore:
+    """Keeps batches in the file ``journal.sqlite`` of a folder, for the processes of one machine; see :class:`Store`.
+
+    Args:
+        folder: The folder, which must be there, on a device of this machine.
+        most: How many bytes the file may have.
+    """
+
+    width = 1  # there is one writer; what comes meanwhile goes together
+
+    def __init__(self, folder: str, most: int = 17_179_869_184) -> None:
+        self._folder, self._path, self._most = folder, os.path.join(folder, "journal.sqlite"), most
+        self.lease = Lease()
+        self._hanging: "Optional[asyncio.Future[Any]]" = None
+
+    # A thread for what writes, and one for what reads
+
+    async def _run(self, pool: ThreadPoolExecutor, work: Callable[..., _Result], *given: Any) -> _Result:
+        """What a function returns in a thread; raises OSError if that takes too long, also for what comes after it."""
+        if self._hanging is not None and not self._hanging.done():
+            raise OSError("SQLite: the device hangs, or a process that writes is stopped")
+        found = asyncio.wrap_future(pool.submit(work, *given))
+        try:
+            return await asyncio.wait_for(asyncio.shield(found), _SECONDS)
+        except asyncio.TimeoutError:
+            self._hanging = found
+            found.add_done_callback(lambda it: it.cancelled() or it.exception())
+            raise OSError("SQLite: no answer in time") from None
+        except sqlite3.Error as error:
+            raise OSError(f"SQLite: {error}") from None
+
+    async def open(self) -> None:
+        self._require_folder()
+        self._writer, self._reader = ThreadPoolExecutor(1, THREADS), ThreadPoolExecutor(1, THREADS)
+        self._lock = self._locked(self._name(self.lease.holder))
+        self._turn = os.open(f"{self._path}-turn", os.O_RDWR | os.O_CREAT | os.O_CLOEXEC | os.O_NOFOLLOW, 0o600)
+        try:
+            self._to_write = await self._run(self._writer, self._connected)
+            self._to_read = await self._run(self._reader, self._connected)
+        except OSError:
+            await self.close()
+            raise
+
+    def _require_folder(self) -> None:
+        """Raises OSError if the folder is not there, has journals of another form, or something else than a file."""
+        if any(map(_OF_FILES, os.listdir(self._folder))):
+            raise OSError(f"{self._folder} has journals of an earlier version; name an empty folder")
+        if not os.access(self._folder, os.W_OK | os.X_OK):
+            raise PermissionError(13, "Permission denied", self._folder)
+        for path in (self._path, f"{self._path}-wal", f"{self._path}-shm", f"{self._path}-turn"):
+            if os.path.lexists(path) and not stat.S_ISREG(os.lstat(path).st_mode):
+                raise OSError(f"{path} is not a file")
+
+    def _name(self, holder: int) -> str:
+        return f"{self._path}-{holder}.lock"
+
+    def _locked(self, path: str) -> int:
+        """Makes and locks a file; until it is locked another process may remove it."""
+        while True:
+            file = os.open(path, os.O_RDWR | os.O_CREAT | os.O_CLOEXEC | os.O_NOFOLLOW, 0o600)
+            fcntl.flock(file, fcntl.LOCK_EX)
+            with contextlib.suppress(FileNotFoundError):
+                if os.path.samestat(os.fstat(file), os.stat(path)):
+                    return file
+            os.close(file)
+
+    def _connected(self) -> sqlite3.Connection:
+        with contextlib.suppress(FileExistsError):  # SQLite would let others read it
+            os.close(os.open(self._path, os.O_CREAT | os.O_EXCL, 0o600))
+        found = sqlite3.connect(self._path, timeout=_SECONDS, isolation_level=None)
+        with self._in_turn():
+            self._prepare(found)
+        return found
+
+    def _prepare(self, found: sqlite3.Connection) -> None:
+        found.execute("PRAGMA journal_mode = WAL")
+        found.execute("PRAGMA synchronous = FULL")
+        found.execute("PRAGMA journal_size_limit = 67108864")
+        (size,) = found.execute("PRAGMA page_size").fetchone()
+        found.execute(f"PRAGMA max_page_count = {max(1, self._most // size)}")
+        (form,) = found.execute("PRAGMA user_version").fetchone()
+        if form not in (0, _FORM):
+            raise OSError(f"{self._path} has the form {form}, not {_FORM}")
+        if not form:
+            found.executescript(f"BEGIN IMMEDIATE; {_TABLES} PRAGMA user_version = {_FORM}; COMMIT;")
+
+    async def close(self) -> None:
+        for pool, name in ((self._writer, "_to_write"), (self._reader, "_to_read")):
+            connection = getattr(self, name, None)
+            if connection is not None:
+                closing = asyncio.wrap_future(pool.submit(connection.close))
+                await asyncio.wait({closing}, timeout=_CLOSE_SECONDS)
+            pool.shutdown(wait=False)
+        with contextlib.suppress(FileNotFoundError):
+            os.unlink(self._name(self.lease.holder))
+        os.close(self._lock)
+        os.close(self._turn)
+
+    async def renew(self) -> None:
+        """Does nothing: a lock lasts as long as its process."""
+
+    async def now(self) -> float:
+        return time.time()
+
+    async def read(self, batch: bytes, hold: Hold) -> List[Found]:
+        return await self._run(self._reader, self._read, batch, hold)
+
+    def _read(self, batch: bytes, hold: Hold) -> List[Found]:
+        execute, found = self._to_read.execute, []
+        execute("BEGIN")
+        try:
+            hold(execute(_SIZE, (batch,)).fetchone()[0])
+            for number, holder, writer, is_open, pieces, text in execute(_FIND, (batch,)).fetchall():
+                if pieces:
+                    given = (batch, number, holder, writer)
+                    text = b"".join(row[0] for row in execute(f"SELECT text {_PIECES} ORDER BY place", given)) + text
+                found.append(Found(number, (holder, writer), bool(is_open), text))
+            return found
+        finally:
+            execute("COMMIT")
+
+    async def is_over(self, holder: int) -> bool:
+        try:
+            file = os.open(self._name(holder), os.O_RDWR | os.O_CLOEXEC | os.O_NOFOLLOW)
+        except FileNotFoundError:
+            return True
+        try:
+            fcntl.flock(file, fcntl.LOCK_EX | fcntl.LOCK_NB)
+            return True
+        except BlockingIOError:
+            return False
+        finally:
+            os.close(file)
+
+    # Appending
+
+    async def append(self, parts: Sequence[Part]) -> Set[bytes]:
+        for part in parts:
+            for place in range(len(part.text) // _PIECE):
+                await self._run(self._writer, self._append_piece, part, place)
+        return await self._run(self._writer, self._append, parts)
+
+    @contextlib.contextmanager
+    def _in_turn(self) -> Iterator[None]:
+        """SQLite asks again and again for its lock, and may starve; the kernel lets processes in by turns."""
+        fcntl.flock(self._turn, fcntl.LOCK_EX)
+        try:
+            yield
+        finally:
+            fcntl.flock(self._turn, fcntl.LOCK_UN)
+
+    @contextlib.contextmanager
+    def _commit(self) -> Iterator[Callable[..., sqlite3.Cursor]]:
+        """A transaction, which is rolled back if it fails."""
+        execute = self._to_write.execute
+        with self._in_turn():
+            execute("BEGIN IMMEDIATE")
+            try:
+                yield execute
+                execute("COMMIT")
+            except BaseException:
+                with contextlib.suppress(sqlite3.Error):
+                    execute("ROLLBACK")
+                raise
+
+    def _append_piece(self, part: Part, place: int) -> None:
+        text = part.text[place * _PIECE : (place + 1) * _PIECE]
+        with self._commit() as execute:
+            execute(_INSERT_PIECE, (part.batch, part.number, *part.mark, place, text))
+
+    def _append(self, parts: Sequence[Part]) -> Set[bytes]:
+        with self._commit() as execute:
+            return {it.batch for it in parts if self._is_kept(execute, it)}
+
+    def _is_kept(self, execute: Callable[..., sqlite3.Cursor], part: Part) -> bool:
+        before = execute(_MARK, (part.batch, part.number - 1)).fetchone()
+        if part.number and before != part.after:
+            return False
+        pieces = len(part.text) // _PIECE
+        if pieces:
+            (count,) = execute(f"SELECT count(*) {_PIECES}", (part.batch, part.number, *part.mark)).fetchone()
+            if count != pieces:
+                raise OSError("a piece of a long text was removed before it was kept")
+        rest = part.text[pieces * _PIECE :]
+        row = (part.batch, part.number, *part.mark, part.is_open, time.time(), len(part.text), pieces, rest)
+        if execute(_INSERT, row).rowcount:
+            return True
+        return bool(execute(_MARK, (part.batch, part.number)).fetchone() == part.mark)
+
+    async def confirm(self) -> None:
+        await self._run(self._reader, self._sync)
+
+    def _sync(self) -> None:
+        """Syncs what a process may have written and not synced before it ended, which is read after it."""
+        with contextlib.suppress(FileNotFoundError):
+            file = os.open(f"{self._path}-wal", os.O_RDWR | os.O_CLOEXEC)
+            try:
+                os.fsync(file)
+            finally:
+                os.close(file)
+
+    # Removing
+
+    async def prune(self, before: float) -> None:
+        living = [self.lease.holder]
+        for path in glob.glob(f"{glob.escape(self._path)}-*.lock"):
+            holder = int(path.rpartition("-")[2][: -len(".lock")])
+            if holder != self.lease.holder and await self.is_over(holder):
+                with contextlib.suppress(FileNotFoundError):
+                    os.unlink(path)
+            else:
+                living.append(holder)
+        for words, given in ((_OLD, (before, json.dumps(living))), (_LEFT, ())):
+            while await self._run(self._writer, self._delete, words, given):
+                await asyncio.sleep(0)
+
+    def _delete(self, words: str, given: Sequence[Any]) -> int:
+        with self._commit() as execute:
+            return execute(words, given).rowcount
