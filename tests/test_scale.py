@@ -107,7 +107,7 @@ def fresh(path, script):
 @pytest.mark.parametrize("way, status", WAYS)
 def test_way(program, tmp_path, way, status):
     place = fresh(tmp_path / "whole", f'exec "{program}" "$@"')
-    done = subprocess.run([program, "match", "--lines", place / "log.jsonl"], stdout=subprocess.PIPE)
+    done = subprocess.run([program, "match", "--strict", "--lines", place / "log.jsonl"], stdout=subprocess.PIPE)
     lines = done.stdout.splitlines()
     assert len(lines) == len(LINES) * 40 and done.returncode == 1
     assert 0 < sum(b"fault" in it for it in lines) < len(lines), "some lines have to be refused, and some not"
