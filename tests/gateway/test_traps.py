@@ -50,37 +50,39 @@ def test_a_lease_counts_for_a_part_only_once_that_is_kept(schema):
     asyncio.run(run())
 
 
+@contextlib.asynccontextmanager
+async def after_a_lease(schema):
+    """Journals whose lease is over and is not renewed, and one of them with a start."""
+    async with opened(schema, LEASE) as journals:
+        async with journals.journal(b"x", FIRST) as journal:
+            journal.write(Start("a"))
+            await journal.sync()
+            stop_renewing(journals)
+            await soon(lambda: journals.store.lease.is_over)
+            yield journals, journal
+
+
 def test_a_lease_that_is_renewed_late_holds_again(schema):
     """If nobody has ended it, nobody has gone on."""
     async def run():
-        async with opened(schema, LEASE) as journals:
-            async with journals.journal(b"x", FIRST) as journal:
-                journal.write(Start("a"))
-                await journal.sync()
-                stop_renewing(journals)
-                await soon(lambda: journals.store.lease.is_over)
-                syncing = asyncio.ensure_future(journal.sync())
-                await asyncio.sleep(0.1)
-                assert not syncing.done()
-                await journals.store.renew()
-                await syncing
-                journal.require_held()
-                assert len(await parts_of(journals)) == 1
+        async with after_a_lease(schema) as (journals, journal):
+            syncing = asyncio.ensure_future(journal.sync())
+            await asyncio.sleep(0.1)
+            assert not syncing.done()
+            await journals.store.renew()
+            await syncing
+            journal.require_held()
+            assert len(await parts_of(journals)) == 1
 
     asyncio.run(run())
 
 
 def test_holding_without_a_lease_appends_nothing_until_there_is_one(schema):
     async def run():
-        async with opened(schema, LEASE) as journals:
-            async with journals.journal(b"x", FIRST) as journal:
-                journal.write(Start("a"))
+        async with after_a_lease(schema) as (journals, journal):
+            with pytest.raises(OSError, match="the lease cannot be renewed"):
                 await journal.sync()
-                stop_renewing(journals)
-                await soon(lambda: journals.store.lease.is_over)
-                with pytest.raises(OSError, match="the lease cannot be renewed"):
-                    await journal.sync()
-                assert (journals.parts, len(await parts_of(journals))) == (1, 1)
+            assert (journals.parts, len(await parts_of(journals))) == (1, 1)
 
     asyncio.run(run())
 
