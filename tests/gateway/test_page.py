@@ -228,7 +228,7 @@ def wait_for(front):
 
 
 
-# docs/scale.md: gateways behind a balancer
+# docs/scale.md: gateways on several machines
 
 
 def unit():
