@@ -1,0 +1,4 @@
+pub mod BelowLemmas
+pub mod EncodedLemmas
+pub mod PathLemmas
+pub mod TextLemmas
