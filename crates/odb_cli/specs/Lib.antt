@@ -1,2 +1,2 @@
 -- What contracts of the program cite.
-pub mod LineWorks
+pub mod LineTasks

@@ -3,7 +3,7 @@
 use crate::names;
 use crate::parser::program;
 use clap::{ArgMatches, Error};
-use odb_engine::{Form, Task, Work};
+use odb_engine::{Form, Task};
 use odb_sched::{MAX_WIDTH, Mode, Order, Policy};
 use std::alloc::{AllocError, Global};
 
@@ -30,8 +30,8 @@ impl<'a> Origin<'a> {
 /// What a command does on its documents.
 #[derive(Clone, Copy)]
 pub enum Action {
-    /// A work, which may also be done on each line of a log.
-    Work(Work),
+    /// A task, which may also be done on each line of a log.
+    Task(Task),
     /// Write the rest of a batch, by whether an error stops the service.
     Rest(Mode),
 }
@@ -40,7 +40,7 @@ pub enum Action {
 #[derive(Clone, Copy)]
 pub struct LogOptions {
     /// What is done on each line.
-    pub work: Work,
+    pub task: Task,
     /// Whether each answer is written at once.
     pub flush: bool,
     /// Whether each fault has the number of its line.
@@ -148,7 +148,9 @@ fn task_of(name: &str, args: &ArgMatches<'_>) -> Result<Option<Task>, BadArgumen
             all: args.get_flag(names::ALL),
         },
         names::PLAN if args.get_flag(names::DOT) => Task::Draw,
-        names::PLAN => Task::Plan,
+        names::PLAN => Task::Plan {
+            full: args.get_flag(names::FULL),
+        },
         names::CANON => Task::Canon,
         names::MATCH => Task::Match {
             mode: mode_of(args),
@@ -170,11 +172,10 @@ fn task_of(name: &str, args: &ArgMatches<'_>) -> Result<Option<Task>, BadArgumen
 /// Returns what the command of this name does, or `None` if it is not a command over documents.
 fn action_of(name: &str, args: &ArgMatches<'_>) -> Result<Option<Action>, BadArguments> {
     let action = match name {
-        names::PLAN if args.get_flag(names::FULL) => Action::Work(Work::FullPlan),
         names::REST => Action::Rest(mode_of(args)),
         _ => {
             let task = task_of(name, args)?;
-            return Ok(task.map(|task| Action::Work(Work::Task(task))));
+            return Ok(task.map(Action::Task));
         }
     };
     Ok(Some(action))
@@ -192,24 +193,23 @@ fn origin_of<'a>(args: &ArgMatches<'a>, id: &str) -> Origin<'a> {
 fn second_of<'a>(args: &ArgMatches<'a>, action: Action) -> Origin<'a> {
     let task = match action {
         Action::Rest(_) => return origin_of(args, names::RESPONSES),
-        Action::Work(Work::FullPlan) => return Origin::Nowhere,
-        Action::Work(Work::Task(task)) => task,
+        Action::Task(task) => task,
     };
     match task {
         Task::Match { .. } => origin_of(args, names::RESPONSES),
         Task::Replay { .. } => origin_of(args, names::OUTCOMES),
         Task::Run { .. } => origin_of(args, names::EVENTS),
-        Task::Check { .. } | Task::Plan | Task::Draw | Task::Canon => Origin::Nowhere,
+        Task::Check { .. } | Task::Plan { .. } | Task::Draw | Task::Canon => Origin::Nowhere,
     }
 }
 
 /// Returns how a log is answered, if a command is asked for that. There is no log for a rest.
 fn log_of(args: &ArgMatches<'_>, action: Action) -> Option<LogOptions> {
-    let Action::Work(work) = action else {
+    let Action::Task(task) = action else {
         return None;
     };
     args.get_flag(names::LINES).then_some(LogOptions {
-        work,
+        task,
         flush: args.get_flag(names::FLUSH),
         numbered: args.get_flag(names::NUMBER),
     })
@@ -219,8 +219,8 @@ fn log_of(args: &ArgMatches<'_>, action: Action) -> Option<LogOptions> {
 /// a full plan.
 fn form_of(args: &ArgMatches<'_>, action: Action) -> Form {
     let is_json = match action {
-        Action::Work(Work::FullPlan) => true,
-        Action::Work(Work::Task(Task::Check { all: true } | Task::Plan | Task::Match { .. })) => {
+        Action::Task(Task::Plan { full: true }) => true,
+        Action::Task(Task::Check { all: true } | Task::Plan { .. } | Task::Match { .. }) => {
             args.get_flag(names::LINES)
         }
         _ => false,
@@ -301,7 +301,7 @@ impl<'a> CommandLine<'a> {
         match found.subcommand() {
             Some((name, matches)) => asked_by(alloc, name, matches),
             None => {
-                let check = Action::Work(Work::Task(Task::Check { all: false }));
+                let check = Action::Task(Task::Check { all: false });
                 Ok(CommandLine::Answer(job_of(&found, check)?))
             }
         }

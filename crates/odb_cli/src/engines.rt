@@ -8,8 +8,8 @@ use crate::devices::{open, writer_of};
 use crate::ending::{Status, finish};
 use odb_check::Seed;
 use odb_engine::{
-    Disposal, Ended, EngineFault, Form, Names, PairWork, Setup, Work, answer_task, full_plan_batch,
-    locate_batch, locate_pair, rest_batch,
+    Disposal, Ended, EngineFault, Form, Names, PairWork, Setup, answer_task, locate_batch,
+    locate_pair, rest_batch,
 };
 use odb_io::{Input, Output};
 use std::alloc::Global;
@@ -61,8 +61,8 @@ fn locate<I: Read, S: Read, W: Write>(
     let name = job.first.name();
     let work = match job.action {
         Action::Rest(mode) => PairWork::Rest(mode),
-        Action::Work(Work::Task(task)) if task.takes_second() => PairWork::Task(task),
-        Action::Work(work) => return locate_batch(alloc, first, output, name, work, setup),
+        Action::Task(task) if task.takes_second() => PairWork::Task(task),
+        Action::Task(task) => return locate_batch(alloc, first, output, name, task, setup),
     };
     let names = Names {
         batch: name,
@@ -85,8 +85,7 @@ fn answer<I: Read, S: Read, W: Write>(
     requires output { output.old.failed ≡ false }
 {
     match job.action {
-        Action::Work(Work::Task(task)) => answer_task(alloc, first, second, output, task, setup),
-        Action::Work(Work::FullPlan) => full_plan_batch(alloc, first, output, setup),
+        Action::Task(task) => answer_task(alloc, first, second, output, task, setup),
         Action::Rest(mode) => rest_batch(alloc, first, second, output, mode, setup),
     }
 }

@@ -1,8 +1,7 @@
 //! Shows the progress of a log on standard error.
 
-ghost use Rattle.std.specs.Prelude.{◌≡◌, ◌⊎◌, option_map, true};
-ghost use Rattle.odb_engine.specs.declared.ending.Ended.TheVariants.{Refused};
-ghost use Rattle.odb_cli.specs.LineWorks.{OfLine};
+ghost use Rattle.std.specs.Prelude.{option_map};
+ghost use Rattle.odb_cli.specs.LineTasks.{OfNumbered};
 
 use crate::numbered::NumberedLines;
 use odb_engine::{Ended, EngineFault, LineCommand};
@@ -102,16 +101,18 @@ impl<'r, 'n, R: Runtime> Watched<'r, 'n, R> {
 }
 
 impl<'r, 'n, R: Runtime> LineCommand for Watched<'r, 'n, R> {
-    ghost writes = { λ self line ended text. ((self.command.numbered ≡ true) × (ended ≡ Refused))
-        ⊎ OfLine (option_map (λ name. name.now) self.command.located) self.command.work line self.command.setup.form ended text };
+    ghost writes = { λ self number line. OfNumbered self.command.numbered
+        (option_map (λ name. name.now) self.command.located) self.command.task number line
+        self.command.setup.form };
 
     fn answer<W: Write>(
         &self,
         alloc: Global,
+        number: usize,
         line: &[u8],
         output: &mut Output<W>,
     ) -> Result<Ended, EngineFault> {
-        let answered = self.command.answer(alloc, line, output);
+        let answered = self.command.answer(alloc, number, line, output);
         self.count(line.len(), answered == Ok(Ended::Refused));
         self.look();
         answered

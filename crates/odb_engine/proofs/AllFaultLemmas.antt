@@ -18,7 +18,7 @@ use Rattle.odb_check.specs.declared.fault.CheckFault.{CheckFault}
 use Rattle.odb_check.specs.AllNameFaults.{AreNameFaults}
 use Rattle.odb_check.specs.FaultTable.{check_row}
 use Rattle.odb_io.specs.Devices.{Writing}
-use Rattle.odb_engine.specs.declared.answer.Answer.{Answer}
+use Rattle.odb_engine.specs.declared.tasks.answer.Answer.{Answer}
 use Rattle.odb_engine.specs.declared.ending.Ended.{Ended}
 use Rattle.odb_engine.specs.declared.ending.EngineFault.{EngineFault}
 use Rattle.odb_engine.specs.declared.halt.Halt.{Halt}

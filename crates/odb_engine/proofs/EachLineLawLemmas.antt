@@ -1,11 +1,11 @@
 -- The answers to some lines are one.
-use Rattle.std.proofs.Common.{◌≡◌, ◌⊎◌, ℕ, ◌<◌, ◌≤◌, List, [], ◌++◌, length, take, refl, sym, ap, ap₂, subst, ◌∙◌, inl, inr, append-nil, arith}
+use Rattle.std.proofs.Common.{◌≡◌, ◌⊎◌, ℕ, suc, ◌<◌, ◌≤◌, List, [], ◌++◌, length, take, refl, sym, ap, ap₂, subst, ◌∙◌, inl, inr, append-nil, arith}
 use Rattle.std.proofs.lemmas.Bool.{cases_lt}
 use Rattle.std.proofs.lemmas.List.{take_all, take_at}
 use Rattle.odb_engine.specs.Cascade.{Writes, IsOne}
 use Rattle.odb_engine.specs.Inputs.{most_read, IsDocumentOf}
-use Rattle.odb_engine.specs.lines.Answers.{AnswersEach, OfAnyLine, both}
-use Rattle.odb_engine.specs.lines.Answers.AnswersEach.{NoLine, Line}
+use Rattle.odb_engine.specs.lines.Answers.{AnswersFrom, OfAnyLine, both}
+use Rattle.odb_engine.specs.lines.Answers.AnswersFrom.{NoLine, Line}
 use Rattle.odb_engine.specs.lines.Steps.{cut}
 
 -- what is read of a line is what is held of it
@@ -21,14 +21,14 @@ document-cut line bytes is = at most_read is.within is.ends
             let same : length bytes ≡ m = omega arith in
             sym (ap (take m) is.whole ∙ take_at bytes is.rest m same)
 
-pub OfAnyLine-one : (P : List ℕ → Writes) → ((bytes : List ℕ) → IsOne (P bytes)) → (line : List ℕ) → IsOne (OfAnyLine P line)
-OfAnyLine-one P one line ended other text different (bytes, is, so) (others, are, also) =
+pub OfAnyLine-one : (P : ℕ → List ℕ → Writes) → ((number : ℕ) (bytes : List ℕ) → IsOne (P number bytes)) → (number : ℕ) (line : List ℕ) → IsOne (OfAnyLine P number line)
+OfAnyLine-one P one number line ended other text different (bytes, is, so) (others, are, also) =
     let same : others ≡ bytes = document-cut line others are ∙ sym (document-cut line bytes is) in
-    one bytes ended other text different so (subst (λ b. P b other different) same also)
+    one number bytes ended other text different so (subst (λ b. P number b other different) same also)
 
-pub answers-one : (P : List ℕ → Writes) → ((line : List ℕ) → IsOne (P line)) → (lines : List (List ℕ)) → IsOne (AnswersEach P lines)
-answers-one P one lines ended other text different NoLine NoLine = (refl, refl)
-answers-one P one lines ended other text different (Line line answer texts rest first others so more) (Line _ second words _ last ends also further) =
-    let here = one line first last answer second so also in
-    let after = answers-one P one rest others ends texts words more further in
+pub answers-one : (P : ℕ → List ℕ → Writes) → ((number : ℕ) (line : List ℕ) → IsOne (P number line)) → (number : ℕ) (lines : List (List ℕ)) → IsOne (AnswersFrom P number lines)
+answers-one P one number lines ended other text different (NoLine _) (NoLine _) = (refl, refl)
+answers-one P one number lines ended other text different (Line _ line answer texts rest first others so more) (Line _ _ second words _ last ends also further) =
+    let here = one number line first last answer second so also in
+    let after = answers-one P one (suc number) rest others ends texts words more further in
     (ap₂ both here.0 after.0, ap₂ (λ a b. a ++ b) here.1 after.1)

@@ -106,6 +106,11 @@ halt-names P form value batch shaped is_batch = Halted-weaker (RefusesNamesOf ba
 pub accepted-value : (value : Data) (batch planned : List Record) (P : List Record → Type 0) → IsWellShaped value → IsBatchOf value batch → HasGoodNames batch → planned ≡ batch → P planned → AcceptsValue value P
 accepted-value value batch planned P shaped is_batch names same so = record { batch = batch; shaped = shaped; is_batch = is_batch; holds = (names, subst P same so) }
 
+-- what is written of some requests may be written in more cases
+pub answers-weaker : (P Q : List Record → WritesIn) (value : Data) (form : Form) (ended : Ended) (text : List ℕ) → ((batch : List Record) → P batch form ended text → Q batch form ended text) → AnswersValue P value form ended text → AnswersValue Q value form ended text
+answers-weaker P Q value form ended text to (inl x) = inl x
+answers-weaker P Q value form ended text to (inr x) = inr (record { batch = x.batch; shaped = x.shaped; is_batch = x.is_batch; holds = (x.holds.0, to x.batch x.holds.1) })
+
 -- what may be written in less cases may be written
 pub Refuses-weaker : (P Q : WritesIn) (form : Form) (halt : Halt) → ((ended : Ended) (text : List ℕ) → P form ended text → Q form ended text) → Refuses P form halt → Refuses Q form halt
 Refuses-weaker P Q form halt to = Halted-weaker (λ refusal. P form Refused (fault_text form refusal)) (λ refusal. Q form Refused (fault_text form refusal)) (λ refusal. to Refused (fault_text form refusal)) halt

@@ -18,7 +18,7 @@ use Rattle.odb_check.specs.Laws.{HasPositions}
 use Rattle.odb_check.specs.Positions as records
 use Rattle.odb_check.specs.Texts.{newline}
 use Rattle.odb_check.specs.Units as units
-use Rattle.odb_engine.specs.declared.labels.OwnedLabel.{OwnedLabel}
+use Rattle.odb_engine.specs.declared.live.labels.OwnedLabel.{OwnedLabel}
 use Rattle.odb_engine.specs.LabelTables.{id_or_empty, owned_value, values_of}
 use Rattle.odb_engine.specs.Labels.{id_at, id_line, position_of}
 use Rattle.odb_reply.specs.Responses.{LabelValue, label_of, labels_of}

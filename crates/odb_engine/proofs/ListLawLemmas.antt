@@ -3,7 +3,6 @@ use Rattle.std.proofs.Common.{◌≡◌, ◌∙◌, ◌↔◌, ◌⊎◌, ◌<�
 use Rattle.std.specs.Prelude.{Contains}
 use Rattle.std.specs.List.{AllAdjacentBelow, filter_map}
 use Rattle.serde_json.specs.Data.{Data}
-use Rattle.odb_doc.specs.declared.fault.DocFault.{DocFault}
 use Rattle.odb_doc.specs.declared.fault.Place.TheVariants.{Batch}
 use Rattle.odb_doc.specs.AllFaults.{IsBefore}
 use Rattle.odb_doc.specs.AllFaults as listed
@@ -13,13 +12,11 @@ use Rattle.odb_doc.specs.batch.Records.{Record}
 use Rattle.odb_doc.specs.batch.ShapeFaults.{shape_place}
 use Rattle.odb_doc.proofs.ElementLemmas.{Contains-head, Contains-tail}
 use Rattle.odb_doc.proofs.ListedLemmas.{before_itself, before_trans}
-use Rattle.odb_check.specs.declared.fault.CheckFault.{CheckFault}
 use Rattle.odb_check.specs.AllNameFaults.{AreNameFaults, name_place}
 use Rattle.odb_check.specs.FaultTable.{check_row}
 use Rattle.odb_engine.specs.declared.form.Form.{Form}
-use Rattle.odb_engine.specs.declared.ending.Ended.{Ended}
 use Rattle.odb_engine.specs.declared.ending.Ended.TheVariants.{Done, Refused}
-use Rattle.odb_engine.specs.AllFaults.{AreFaultsIn, AreFaultsOf, Lists, ListsAll, ReportsAll}
+use Rattle.odb_engine.specs.AllFaults.{AreFaultsIn, AreFaultsOf, Lists, ListsAll}
 use Rattle.odb_engine.specs.Cascade.{IsOne, WritesIn}
 use Rattle.odb_engine.specs.Forms.{faults_text}
 use Rattle.odb_engine.proofs.LawLemmas.{AreFunctional, one_refusal, refused_no_value}

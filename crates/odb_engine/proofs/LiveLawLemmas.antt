@@ -11,7 +11,7 @@ use Rattle.odb_doc.specs.declared.recorded.event_fault.EventRule.TheVariants as 
 use Rattle.odb_doc.specs.batch.Bodies.{body_of}
 use Rattle.odb_doc.specs.batch.Records.{Record}
 use Rattle.odb_doc.specs.recorded.EventFaults as event_faults
-use Rattle.odb_doc.specs.recorded.Events.{EventValue, AreEventsOf, IsEventBy, IsReport, IsWellFormedEvent, ReadsAs, elements}
+use Rattle.odb_doc.specs.recorded.Events.{EventValue, AreEventsOf, IsEventBy, IsWellFormedEvent, ReadsAs, elements}
 use Rattle.odb_doc.specs.recorded.Events as named
 use Rattle.odb_doc.specs.recorded.LeastEventFault.{AreEvents, BreaksEvent, IsEventsDocument, RefusesEvents}
 use Rattle.odb_doc.specs.WholeNumbers.{IsWhole}

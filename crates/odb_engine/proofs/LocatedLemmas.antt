@@ -26,7 +26,7 @@ use Rattle.odb_engine.specs.declared.halt.Halt.{Halt}
 use Rattle.odb_engine.specs.declared.halt.Halt.TheVariants as halts
 use Rattle.odb_engine.specs.Cascade.{Answers, IsLeast, IsLeastOfBatch, WritesIn, at_place}
 use Rattle.odb_engine.specs.Forms.{fault_text}
-use Rattle.odb_engine.specs.declared.answer.Answer.{Answer}
+use Rattle.odb_engine.specs.declared.tasks.answer.Answer.{Answer}
 use Rattle.odb_engine.specs.Halts.{Found, Halted}
 use Rattle.odb_engine.specs.Answered.{LocatesEither, LocatesFault, LocatesFound}
 use Rattle.odb_engine.specs.Located.{AreLocated, HasPosition, IsInEither, Locates, LocatesAll, PrintsAll, numbered}

@@ -1,6 +1,6 @@
 -- What a task writes of a line with two documents is what it writes of the two documents.
-use Rattle.std.proofs.Common.{◌≡◌, ◌↔◌, Bool, true, false, ℕ, List, Some, inl, inr, refl, sym, subst}
-use Rattle.std.proofs.lemmas.Bool.{false≢true}
+use Rattle.std.proofs.Common.{◌≡◌, ◌∙◌, ◌↔◌, Bool, true, false, ℕ, List, [], Some, inl, inr, refl, sym, subst}
+use Rattle.std.proofs.lemmas.Bool.{false≢true, true≢false}
 use Rattle.serde_json.specs.Data.{Data, array, item, no_items}
 use Rattle.odb_doc.specs.declared.fault.Place.{Place}
 use Rattle.odb_doc.specs.declared.fault.Place.TheVariants as places
@@ -9,20 +9,19 @@ use Rattle.odb_doc.specs.batch.Records.{Record}
 use Rattle.odb_sched.specs.run.Choosing.{AllowsOrder}
 use Rattle.odb_engine.specs.declared.ending.Ended.{Ended}
 use Rattle.odb_engine.specs.declared.form.Form.{Form}
-use Rattle.odb_engine.specs.declared.task.Task.{Task}
-use Rattle.odb_engine.specs.declared.task.Task.TheVariants as tasks
+use Rattle.odb_engine.specs.declared.tasks.task.Task.{Task}
+use Rattle.odb_engine.specs.declared.tasks.task.Task.TheVariants as tasks
 use Rattle.odb_engine.specs.Cascade.{Answers, AnswersValue, OfDocument, WritesIn}
-use Rattle.odb_engine.specs.declared.lines.work.Work.TheVariants as works
 use Rattle.odb_engine.specs.AllFaults.{AreFaultsIn, Lists}
 use Rattle.odb_engine.specs.Contents.{Given}
 use Rattle.odb_engine.specs.Contents.Given.{ByReader, InHand, InMemory}
-use Rattle.odb_engine.specs.FullPlans.{OfWholeLine}
 use Rattle.odb_engine.specs.Inputs.{IsDocumentOf}
 use Rattle.odb_engine.specs.Matches.{MatchesValue}
 use Rattle.odb_engine.specs.Replays.{ReplaysValue}
 use Rattle.odb_engine.specs.Runs.{RunsValue}
-use Rattle.odb_engine.specs.Tasks.{AnswersPair, InLine, IsLineOf, OfDocuments, OfLine, OfTask, lists_all, takes_second}
-use Rattle.odb_engine.proofs.EngineLemmas.{of-value}
+use Rattle.odb_engine.specs.Accepted.{written_alike}
+use Rattle.odb_engine.specs.Tasks.{AnswersPair, InLine, IsLineOf, OfDocuments, OfLine, OfTask, OfWholeLine, lists_all, takes_bytes, takes_second}
+use Rattle.odb_engine.proofs.EngineLemmas.{answers-weaker, of-value}
 use Rattle.odb_engine.proofs.LawLemmas.{refused_no_value}
 use Rattle.odb_engine.proofs.MemoryLemmas.{one_value, whole-document}
 use Rattle.odb_engine.proofs.SecondLemmas.{one_document}
@@ -33,25 +32,40 @@ value-of : (place : Place) (P : Data → WritesIn) (bytes : List ℕ) (value : D
 value-of place P bytes value is form ended text (inl x) = absurd (refused_no_value place bytes x.refusal (λ _. Unit {0}) x.is (record { value = value; document = is; holds = tt }))
 value-of place P bytes value is form ended text (inr has) = subst (λ v. P v form ended text) (one_value bytes has.value value has.document is) has.holds
 
--- what is written of some requests may be written in more cases
-answers-weaker : (P Q : List Record → WritesIn) (value : Data) (form : Form) (ended : Ended) (text : List ℕ) → ((batch : List Record) → P batch form ended text → Q batch form ended text) → AnswersValue P value form ended text → AnswersValue Q value form ended text
-answers-weaker P Q value form ended text to (inl x) = inl x
-answers-weaker P Q value form ended text to (inr x) = inr (record { batch = x.batch; shaped = x.shaped; is_batch = x.is_batch; holds = (x.holds.0, to x.batch x.holds.1) })
+-- ---- a task over two documents takes no bytes, and lists no faults
 
-module _ (second : List ℕ) (value : Data) (is : IsDocument second value) (form : Form) (ended : Ended) (text : List ℕ) (batch : List Record) where
+pub second-alone : (task : Task) → takes_second task ≡ true → lists_all task ≡ false
+second-alone (tasks.Check all) takes = absurd (false≢true takes)
+second-alone (tasks.Plan full) takes = refl
+second-alone tasks.Draw takes = refl
+second-alone tasks.Canon takes = refl
+second-alone (tasks.Match mode strict) takes = refl
+second-alone (tasks.Replay policy order traced) takes = refl
+second-alone (tasks.Run policy) takes = refl
+
+pub values-alone : (task : Task) → takes_second task ≡ true → takes_bytes task ≡ false
+values-alone (tasks.Check all) takes = refl
+values-alone (tasks.Plan full) takes = absurd (false≢true takes)
+values-alone tasks.Draw takes = refl
+values-alone tasks.Canon takes = refl
+values-alone (tasks.Match mode strict) takes = refl
+values-alone (tasks.Replay policy order traced) takes = refl
+values-alone (tasks.Run policy) takes = refl
+
+module _ (document second : List ℕ) (value : Data) (is : IsDocument second value) (form : Form) (ended : Ended) (text : List ℕ) (batch : List Record) where
   -- by a second document in memory as by its value
-  in-memory : (task : Task) → OfTask task (InHand value) batch form ended text → OfTask task (InMemory second) batch form ended text
+  in-memory : (task : Task) → OfTask task document (InHand value) batch form ended text → OfTask task document (InMemory second) batch form ended text
   in-memory (tasks.Check all) so = so
-  in-memory tasks.Plan so = so
+  in-memory (tasks.Plan full) so = so
   in-memory tasks.Draw so = so
   in-memory tasks.Canon so = so
   in-memory (tasks.Match mode strict) so = of-value places.Responses (MatchesValue mode strict batch) second value is form ended text so
   in-memory (tasks.Replay policy order traced) so = of-value places.Outcomes (ReplaysValue (AllowsOrder order) policy traced batch) second value is form ended text so
   in-memory (tasks.Run policy) so = of-value places.Events (RunsValue policy batch) second value is form ended text so
 
-  in-hand : (task : Task) → OfTask task (InMemory second) batch form ended text → OfTask task (InHand value) batch form ended text
+  in-hand : (task : Task) → OfTask task document (InMemory second) batch form ended text → OfTask task document (InHand value) batch form ended text
   in-hand (tasks.Check all) so = so
-  in-hand tasks.Plan so = so
+  in-hand (tasks.Plan full) so = so
   in-hand tasks.Draw so = so
   in-hand tasks.Canon so = so
   in-hand (tasks.Match mode strict) so = value-of places.Responses (MatchesValue mode strict batch) second value is form ended text so
@@ -62,18 +76,18 @@ module _ (second : List ℕ) (value : Data) (is : IsDocument second value) (form
   whole : IsDocumentOf second second
   whole = whole-document second (λ _. Unit {0}) (record { value = value; document = is; holds = tt })
 
-  by-reader : (task : Task) → OfTask task (InMemory second) batch form ended text → OfTask task (ByReader (Some second)) batch form ended text
+  by-reader : (task : Task) → OfTask task document (InMemory second) batch form ended text → OfTask task document (ByReader (Some second)) batch form ended text
   by-reader (tasks.Check all) so = so
-  by-reader tasks.Plan so = so
+  by-reader (tasks.Plan full) so = so
   by-reader tasks.Draw so = so
   by-reader tasks.Canon so = so
   by-reader (tasks.Match mode strict) so = (second, whole, so)
   by-reader (tasks.Replay policy order traced) so = (second, whole, so)
   by-reader (tasks.Run policy) so = (second, whole, so)
 
-  of-reader : (task : Task) → OfTask task (ByReader (Some second)) batch form ended text → OfTask task (InMemory second) batch form ended text
+  of-reader : (task : Task) → OfTask task document (ByReader (Some second)) batch form ended text → OfTask task document (InMemory second) batch form ended text
   of-reader (tasks.Check all) so = so
-  of-reader tasks.Plan so = so
+  of-reader (tasks.Plan full) so = so
   of-reader tasks.Draw so = so
   of-reader tasks.Canon so = so
   of-reader (tasks.Match mode strict) (bytes, gives, so) = subst (λ b. OfDocument places.Responses (MatchesValue mode strict batch) b form ended text) (one_document second bytes second gives whole) so
@@ -82,61 +96,54 @@ module _ (second : List ℕ) (value : Data) (is : IsDocument second value) (form
   of-reader (tasks.Run policy) (bytes, gives, so) = subst (λ b. OfDocument places.Events (RunsValue policy batch) b form ended text) (one_document second bytes second gives whole) so
 
 module _ (task : Task) (takes : takes_second task ≡ true) (batch second line : List ℕ) (is : IsLineOf batch second line) (form : Form) (ended : Ended) (text : List ℕ) where
+  -- whatever the bytes are
+  alike : (document other : List ℕ) (given : Given) (requests : List Record) → OfTask task document given requests form ended text → OfTask task other given requests form ended text
+  alike document other given requests = written_alike task document other (λ bytes. absurd (true≢false (sym bytes ∙ values-alone task takes))) given requests form ended text
+
   abbrev OfPairs : List Record → Data → WritesIn
-  OfPairs requests value = OfTask task (InHand value) requests
+  OfPairs requests value = OfTask task [] (InHand value) requests
 
   abbrev pair : Data
   pair = array (item is.batch_value (item is.second_value no_items))
 
-  pub pair-to : OfLine task line form ended text → Answers (OfTask task (InMemory second)) batch form ended text
+  pub pair-to : OfLine task line form ended text → Answers (OfTask task batch (InMemory second)) batch form ended text
   pair-to so = at (value-of places.Batch (AnswersPair OfPairs) line pair is.line_is form ended text (subst (λ two. InLine two (OfTask task) line form ended text) takes so))
     where
-      at : AnswersPair OfPairs pair form ended text → Answers (OfTask task (InMemory second)) batch form ended text
+      at : AnswersPair OfPairs pair form ended text → Answers (OfTask task batch (InMemory second)) batch form ended text
       at (inl x) = absurd (x.is.none is.batch_value is.second_value refl)
       at (inr y) =
           let first = first-one is.batch_value is.second_value y.first y.second y.pair in
           let other = second-one is.batch_value is.second_value y.first y.second y.pair in
           let so = subst (λ v. AnswersValue (λ requests. OfPairs requests v) is.batch_value form ended text) (sym other) (subst (λ v. AnswersValue (λ requests. OfPairs requests y.second) v form ended text) (sym first) y.so) in
-          of-value places.Batch (AnswersValue (OfTask task (InMemory second))) batch is.batch_value is.batch_is form ended text
-          (answers-weaker (λ requests. OfPairs requests is.second_value) (OfTask task (InMemory second)) is.batch_value form ended text (λ requests. in-memory second is.second_value is.second_is form ended text requests task) so)
+          of-value places.Batch (AnswersValue (OfTask task batch (InMemory second))) batch is.batch_value is.batch_is form ended text
+          (answers-weaker (λ requests. OfPairs requests is.second_value) (OfTask task batch (InMemory second)) is.batch_value form ended text (λ requests so. in-memory batch second is.second_value is.second_is form ended text requests task (alike [] batch (InHand is.second_value) requests so)) so)
 
-  pub pair-from : Answers (OfTask task (InMemory second)) batch form ended text → OfLine task line form ended text
+  pub pair-from : Answers (OfTask task batch (InMemory second)) batch form ended text → OfLine task line form ended text
   pair-from so =
-      let here = answers-weaker (OfTask task (InMemory second)) (λ requests. OfPairs requests is.second_value) is.batch_value form ended text (λ requests. in-hand second is.second_value is.second_is form ended text requests task)
-      (value-of places.Batch (AnswersValue (OfTask task (InMemory second))) batch is.batch_value is.batch_is form ended text so) in
+      let here = answers-weaker (OfTask task batch (InMemory second)) (λ requests. OfPairs requests is.second_value) is.batch_value form ended text (λ requests so. alike batch [] (InHand is.second_value) requests (in-hand batch second is.second_value is.second_is form ended text requests task so))
+      (value-of places.Batch (AnswersValue (OfTask task batch (InMemory second))) batch is.batch_value is.batch_is form ended text so) in
       subst (λ two. InLine two (OfTask task) line form ended text) (sym takes)
       (of-value places.Batch (AnswersPair OfPairs) line pair is.line_is form ended text (inr (record { first = is.batch_value; second = is.second_value; pair = refl; so = here })))
 
-  pub readers-to : OfLine task line form ended text → Answers (OfTask task (ByReader (Some second))) batch form ended text
-  readers-to so = of-value places.Batch (AnswersValue (OfTask task (ByReader (Some second)))) batch is.batch_value is.batch_is form ended text
-      (answers-weaker (OfTask task (InMemory second)) (OfTask task (ByReader (Some second))) is.batch_value form ended text (λ requests. by-reader second is.second_value is.second_is form ended text requests task)
-      (value-of places.Batch (AnswersValue (OfTask task (InMemory second))) batch is.batch_value is.batch_is form ended text (pair-to so)))
+  pub readers-to : OfLine task line form ended text → Answers (OfTask task batch (ByReader (Some second))) batch form ended text
+  readers-to so = of-value places.Batch (AnswersValue (OfTask task batch (ByReader (Some second)))) batch is.batch_value is.batch_is form ended text
+      (answers-weaker (OfTask task batch (InMemory second)) (OfTask task batch (ByReader (Some second))) is.batch_value form ended text (λ requests. by-reader batch second is.second_value is.second_is form ended text requests task)
+      (value-of places.Batch (AnswersValue (OfTask task batch (InMemory second))) batch is.batch_value is.batch_is form ended text (pair-to so)))
 
-  pub readers-from : Answers (OfTask task (ByReader (Some second))) batch form ended text → OfLine task line form ended text
-  readers-from so = pair-from (of-value places.Batch (AnswersValue (OfTask task (InMemory second))) batch is.batch_value is.batch_is form ended text
-      (answers-weaker (OfTask task (ByReader (Some second))) (OfTask task (InMemory second)) is.batch_value form ended text (λ requests. of-reader second is.second_value is.second_is form ended text requests task)
-      (value-of places.Batch (AnswersValue (OfTask task (ByReader (Some second)))) batch is.batch_value is.batch_is form ended text so)))
-
--- ---- a task over two documents lists no faults
-
-pub second-alone : (task : Task) → takes_second task ≡ true → lists_all task ≡ false
-second-alone (tasks.Check all) takes = absurd (false≢true takes)
-second-alone tasks.Plan takes = refl
-second-alone tasks.Draw takes = refl
-second-alone tasks.Canon takes = refl
-second-alone (tasks.Match mode strict) takes = refl
-second-alone (tasks.Replay policy order traced) takes = refl
-second-alone (tasks.Run policy) takes = refl
+  pub readers-from : Answers (OfTask task batch (ByReader (Some second))) batch form ended text → OfLine task line form ended text
+  readers-from so = pair-from (of-value places.Batch (AnswersValue (OfTask task batch (InMemory second))) batch is.batch_value is.batch_is form ended text
+      (answers-weaker (OfTask task batch (ByReader (Some second))) (OfTask task batch (InMemory second)) is.batch_value form ended text (λ requests. of-reader batch second is.second_value is.second_is form ended text requests task)
+      (value-of places.Batch (AnswersValue (OfTask task batch (ByReader (Some second)))) batch is.batch_value is.batch_is form ended text so)))
 
 -- so what it writes is its result or the first fault
-pub whole-line : (task : Task) → takes_second task ≡ true → (line : List ℕ) (form : Form) (ended : Ended) (text : List ℕ) → OfWholeLine (works.Task task) line form ended text ↔ OfLine task line form ended text
+pub whole-line : (task : Task) → takes_second task ≡ true → (line : List ℕ) (form : Form) (ended : Ended) (text : List ℕ) → OfWholeLine task line form ended text ↔ OfLine task line form ended text
 whole-line task takes line form ended text = (
   subst (λ (all : Bool). Lists all (OfLine task line) (AreFaultsIn line) form ended text) (second-alone task takes),
   subst (λ (all : Bool). Lists all (OfLine task line) (AreFaultsIn line) form ended text) (sym (second-alone task takes)),
 )
 
-pub whole-documents : (task : Task) → takes_second task ≡ true → (given : Given) (batch : List ℕ) (form : Form) (ended : Ended) (text : List ℕ) → OfDocuments task given batch form ended text ↔ Answers (OfTask task given) batch form ended text
+pub whole-documents : (task : Task) → takes_second task ≡ true → (given : Given) (batch : List ℕ) (form : Form) (ended : Ended) (text : List ℕ) → OfDocuments task given batch form ended text ↔ Answers (OfTask task batch given) batch form ended text
 whole-documents task takes given batch form ended text = (
-  subst (λ (all : Bool). Lists all (Answers (OfTask task given) batch) (AreFaultsIn batch) form ended text) (second-alone task takes),
-  subst (λ (all : Bool). Lists all (Answers (OfTask task given) batch) (AreFaultsIn batch) form ended text) (sym (second-alone task takes)),
+  subst (λ (all : Bool). Lists all (Answers (OfTask task batch given) batch) (AreFaultsIn batch) form ended text) (second-alone task takes),
+  subst (λ (all : Bool). Lists all (Answers (OfTask task batch given) batch) (AreFaultsIn batch) form ended text) (sym (second-alone task takes)),
 )

@@ -1,18 +1,20 @@
 -- What is written of the document that a source gives.
-use Rattle.std.proofs.Common.{◌≡◌, ◌⊎◌, List, inl, inr, subst}
+use Rattle.std.proofs.Common.{◌≡◌, ◌⊎◌, ℕ, Bool, true, List, inl, inr, sym, subst}
 use Rattle.serde_json.specs.Data.{Data}
 use Rattle.odb_doc.specs.declared.fault.Place.{Place}
+use Rattle.odb_doc.specs.declared.fault.Place.TheVariants.{Batch}
+use Rattle.odb_doc.specs.Documents.{IsJson}
 use Rattle.odb_doc.specs.batch.Records.{Record}
 use Rattle.odb_engine.specs.declared.halt.Halt.{Halt}
 use Rattle.odb_engine.specs.declared.halt.Halt.TheVariants as halts
 use Rattle.odb_engine.specs.declared.ending.Ended.{Ended}
 use Rattle.odb_engine.specs.declared.form.Form.{Form}
-use Rattle.odb_engine.specs.Cascade.{WritesIn, AcceptsValue}
-use Rattle.odb_engine.specs.Contents.{Content, Given, AcceptsContent, IsAskedFor, IsValueOf, OfContent, OfGiven, RefusesContent, SomeContent}
+use Rattle.odb_engine.specs.Cascade.{WritesIn, AcceptsValue, AnswersValue}
+use Rattle.odb_engine.specs.Contents.{Content, Given, AcceptsContent, IsAskedFor, IsBytesOf, IsValueOf, OfContent, OfGiven, RefusesContent, SomeContent, bytes_in}
 use Rattle.odb_engine.specs.Contents.Content.{Bytes, Held}
 use Rattle.odb_engine.specs.Contents.Given.{ByReader, InHand, InMemory}
 use Rattle.odb_engine.specs.Halts.{Found, Halted, Refuses}
-use Rattle.odb_engine.proofs.EngineLemmas.{FoundText, found-weaker, halt-document, of-value}
+use Rattle.odb_engine.proofs.EngineLemmas.{FoundText, answers-weaker, found-weaker, halt-document, of-value}
 
 -- the document that is given has a weaker property
 pub some-weaker : (given : Given) (P Q : Content → Type 0) → ((content : Content) → P content → Q content) → SomeContent given P → SomeContent given Q
@@ -51,3 +53,28 @@ pub given-halt : (given : Given) (place : Place) (P : Data → WritesIn) (form :
 given-halt given place P form (halts.Refused refusal) some = some-weaker given _ _ (λ content is. halt-content place P content form (halts.Refused refusal) is.1) some
 given-halt given place P form halts.Read some = tt
 given-halt given place P form halts.OutOfMemory some = tt
+
+-- what follows from whatever document is given
+pub some-so : (given : Given) (P : Content → Type 0) (Q : Type 0) → ((content : Content) → P content → Q) → SomeContent given P → Q
+some-so (ByReader left) P Q to (bytes, gives, so) = to (Bytes bytes) so
+some-so (InMemory bytes) P Q to so = to (Bytes bytes) so
+some-so (InHand value) P Q to so = to (Held value) so
+
+-- the bytes of a document are JSON
+pub json-content : (content : Content) (bytes : List ℕ) (value : Data) → IsBytesOf content bytes → IsValueOf content value → IsJson bytes value
+json-content (Bytes document) bytes value same is = subst (λ b. IsJson b value) (sym same) is.1
+json-content (Held held) bytes value none is = absurd none
+
+same-content : (content : Content) (bytes : List ℕ) → IsBytesOf content bytes → bytes ≡ bytes_in content
+same-content (Bytes document) bytes same = same
+same-content (Held held) bytes none = absurd none
+
+-- what was found of the value of a document, by its bytes if they matter, is found of the document
+pub found-bytes : (takes : Bool) (writes : List ℕ → List Record → WritesIn) (document : List ℕ) (content : Content) (value : Data) (form : Form) (found : FoundText)
+    → ((other : List ℕ) → (takes ≡ true → document ≡ other) → (batch : List Record) (form : Form) (ended : Ended) (text : List ℕ) → writes document batch form ended text → writes other batch form ended text)
+    → (takes ≡ true → IsBytesOf content document) → IsValueOf content value → Found (AnswersValue (writes document) value) form found → Found (OfContent Batch (AnswersValue (writes (bytes_in content))) content) form found
+found-bytes takes writes document content value form found alike bytes is so =
+    let here = bytes_in content in
+    found-weaker (AnswersValue (writes document) value) (OfContent Batch (AnswersValue (writes here)) content) form found
+    (λ ended text so. of-content Batch (AnswersValue (writes here)) content value is form ended text
+    (answers-weaker (writes document) (writes here) value form ended text (λ batch. alike here (λ yes. same-content content document (bytes yes)) batch form ended text) so)) so

@@ -1,5 +1,5 @@
 -- What a task may write is one text: of a batch and a second document, and of a line.
-use Rattle.std.proofs.Common.{◌≡◌, ◌∙◌, Bool, true, false, List, [], ℕ, Option, None, Some, inl, inr, sym, ap, subst}
+use Rattle.std.proofs.Common.{◌≡◌, ◌∙◌, Bool, true, false, true≢false, List, [], ℕ, Option, None, Some, inl, inr, sym, ap, subst}
 use Rattle.serde_json.specs.Data.{Data, Items, null, boolean, number, string, array, object, item, no_items}
 use Rattle.odb_doc.specs.declared.fault.Place.{Place}
 use Rattle.odb_doc.specs.declared.fault.Place.TheVariants as places
@@ -10,15 +10,13 @@ use Rattle.odb_sched.specs.declared.order.Order.{Order}
 use Rattle.odb_sched.specs.run.Choosing.{AllowsOrder}
 use Rattle.odb_sched.specs.run.State.{State}
 use Rattle.odb_engine.specs.declared.form.Form.{Form}
-use Rattle.odb_engine.specs.declared.task.Task.{Task}
-use Rattle.odb_engine.specs.declared.task.Task.TheVariants as tasks
+use Rattle.odb_engine.specs.declared.tasks.task.Task.{Task}
+use Rattle.odb_engine.specs.declared.tasks.task.Task.TheVariants as tasks
 use Rattle.odb_engine.specs.Cascade.{Answers, AnswersValue, IsOne, OfDocument, WritesIn}
 use Rattle.odb_engine.specs.Forms.{fault_text}
 use Rattle.odb_engine.specs.Contents.{Given, OfGiven}
 use Rattle.odb_engine.specs.Contents.Given.{ByReader, InHand, InMemory}
-use Rattle.odb_engine.specs.declared.lines.work.Work.TheVariants as works
-use Rattle.odb_engine.specs.FullPlans.{OfWholeLine}
-use Rattle.odb_engine.specs.Tasks.{AnswersPair, InLine, OfDocuments, OfLine, OfPair, OfTask, lists_all, takes_second}
+use Rattle.odb_engine.specs.Tasks.{AnswersPair, InLine, OfDocuments, OfLine, OfPair, OfTask, OfWholeLine, lists_all, takes_bytes, takes_second}
 use Rattle.odb_engine.specs.Matches.{MatchesValue}
 use Rattle.odb_engine.specs.Replays.{ReplaysValue}
 use Rattle.odb_engine.specs.Runs.{RunsValue}
@@ -92,26 +90,28 @@ given-one (ByReader (Some left)) known place P form one = some_document_one left
 given-one (InMemory bytes) known place P form one = document_one place P bytes form one
 given-one (InHand value) known place P form one = one value
 
--- one text is written of a batch and a second document
-task-one : AreOneText → (task : Task) (form : Form) (given : Given) → IsKnown given → (batch : List Record) → HasGoodNames batch → IsOne (OfTask task given batch form)
-task-one law (tasks.Check all) form given known batch good a b s t x y = (x.0 ∙ sym y.0, x.1 ∙ sym y.1)
-task-one law tasks.Plan form given known batch good a b s t x y = (x.0 ∙ sym y.0, x.1 ∙ sym y.1)
-task-one law tasks.Draw form given known batch good a b s t x y = (x.0 ∙ sym y.0, x.1 ∙ sym y.1)
-task-one law tasks.Canon form given known batch good a b s t x y = canonical_one batch form a b s t x y
-task-one law (tasks.Match mode strict) form given known batch good a b s t x y = given-one given known places.Responses (MatchesValue mode strict batch) form (λ value. matches_value_one law.matching mode strict batch value form) a b s t x y
-task-one law (tasks.Replay policy order traced) form given known batch good a b s t x y =
+-- one text is written of a batch and a second document, by a task that takes no bytes
+task-one : AreOneText → (task : Task) → takes_bytes task ≡ false → (document : List ℕ) (form : Form) (given : Given) → IsKnown given → (batch : List Record) → HasGoodNames batch → IsOne (OfTask task document given batch form)
+task-one law (tasks.Check all) alone document form given known batch good a b s t x y = (x.0 ∙ sym y.0, x.1 ∙ sym y.1)
+task-one law (tasks.Plan false) alone document form given known batch good a b s t x y = (x.0 ∙ sym y.0, x.1 ∙ sym y.1)
+task-one law (tasks.Plan true) alone document form given known batch good a b s t x y = absurd (true≢false alone)
+task-one law tasks.Draw alone document form given known batch good a b s t x y = (x.0 ∙ sym y.0, x.1 ∙ sym y.1)
+task-one law tasks.Canon alone document form given known batch good a b s t x y = canonical_one batch form a b s t x y
+task-one law (tasks.Match mode strict) alone document form given known batch good a b s t x y =
+    given-one given known places.Responses (MatchesValue mode strict batch) form (λ value. matches_value_one law.matching mode strict batch value form) a b s t x y
+task-one law (tasks.Replay policy order traced) alone document form given known batch good a b s t x y =
     given-one given known places.Outcomes (ReplaysValue (AllowsOrder order) policy traced batch) form (λ value. replays_value_one order (law.order order) law.recorded policy traced batch value form) a b s t x y
-task-one law (tasks.Run policy) form given known batch good a b s t x y = given-one given known places.Events (RunsValue policy batch) form (λ value. runs_value_one law.causes law.history policy batch good value form) a b s t x y
+task-one law (tasks.Run policy) alone document form given known batch good a b s t x y = given-one given known places.Events (RunsValue policy batch) form (λ value. runs_value_one law.causes law.history policy batch good value form) a b s t x y
 
-answers-one : AreOneText → (task : Task) (form : Form) (given : Given) → IsKnown given → (bytes : List ℕ) → IsOne (Answers (OfTask task given) bytes form)
-answers-one law task form given known bytes = answers_one law.batch (OfTask task given) bytes form (task-one law task form given known)
+answers-one : AreOneText → (task : Task) → takes_bytes task ≡ false → (form : Form) (given : Given) → IsKnown given → (bytes : List ℕ) → IsOne (Answers (OfTask task bytes given) bytes form)
+answers-one law task alone form given known bytes = answers_one law.batch (OfTask task bytes given) bytes form (task-one law task alone bytes form given known)
 
-pub documents-one : AreOneText → (task : Task) (form : Form) (given : Given) → IsKnown given → (bytes : List ℕ) → IsOne (OfDocuments task given bytes form)
-documents-one law task form given known bytes = written-one law.batch (lists_all task) (Answers (OfTask task given) bytes) bytes form (answers-one law task form given known bytes)
+pub documents-one : AreOneText → (task : Task) → takes_bytes task ≡ false → (form : Form) (given : Given) → IsKnown given → (bytes : List ℕ) → IsOne (OfDocuments task given bytes form)
+documents-one law task alone form given known bytes = written-one law.batch (lists_all task) (Answers (OfTask task bytes given) bytes) bytes form (answers-one law task alone form given known bytes)
 
-pub line-one : AreOneText → (task : Task) (form : Form) (line : List ℕ) → IsOne (OfWholeLine (works.Task task) line form)
-line-one law task form line = written-one law.batch (lists_all task) (OfLine task line) line form (at (takes_second task))
+pub line-one : AreOneText → (task : Task) → takes_bytes task ≡ false → (form : Form) (line : List ℕ) → IsOne (OfWholeLine task line form)
+line-one law task alone form line = written-one law.batch (lists_all task) (OfLine task line) line form (at (takes_second task))
   where
     at : (two : Bool) → IsOne (InLine two (OfTask task) line form)
-    at false = answers-one law task form (InMemory []) tt line
-    at true = pair-one law.batch (λ batch second. OfTask task (InHand second) batch) form (λ batch good second. task-one law task form (InHand second) tt batch good) line
+    at false = answers-one law task alone form (InMemory []) tt line
+    at true = pair-one law.batch (λ batch second. OfTask task [] (InHand second) batch) form (λ batch good second. task-one law task alone [] form (InHand second) tt batch good) line

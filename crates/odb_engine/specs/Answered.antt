@@ -1,5 +1,5 @@
 -- For private clauses: what is written of an answer in memory, of all faults, and of a fault with where it is.
-use Rattle.std.specs.Prelude.{◌≡◌, ℕ, Bool, true, false, List, Result, Ok, Err, String, map, string_bytes, if◌then◌else◌}
+use Rattle.std.specs.Prelude.{◌≡◌, ℕ, Bool, true, false, List, Result, Ok, Err, String, string_bytes, if◌then◌else◌}
 use Rattle.std.specs.declared.alloc.Global.{Global}
 use Rattle.odb_doc.specs.Refusals.{Printed, printed}
 use Rattle.odb_doc.specs.batch.Records.{Record}
@@ -7,7 +7,7 @@ use Rattle.odb_check.specs.AllNameFaults.{AreNameFaults}
 use Rattle.odb_check.specs.FaultTable.{check_row}
 use Rattle.odb_spans.specs.Positions.{Stands, is_in_batch}
 use Rattle.odb_spans.specs.declared.position.Position.{Position}
-use Rattle.odb_engine.specs.declared.answer.Answer.{Answer}
+use Rattle.odb_engine.specs.declared.tasks.answer.Answer.{Answer}
 use Rattle.odb_engine.specs.declared.ending.Ended.{Ended}
 use Rattle.odb_engine.specs.declared.ending.Ended.TheVariants.{Refused}
 use Rattle.odb_engine.specs.declared.form.Form.{Form}

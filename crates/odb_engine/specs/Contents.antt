@@ -1,5 +1,5 @@
 -- What a document comes from, the document that it gives, and what is written of it.
-use Rattle.std.specs.Prelude.{◌≡◌, ◌⊎◌, ℕ, List, Option}
+use Rattle.std.specs.Prelude.{◌≡◌, ◌⊎◌, ℕ, List, [], Option}
 use Rattle.serde_json.specs.Data.{Data}
 use Rattle.odb_io.specs.Devices.{Reading}
 use Rattle.odb_doc.specs.declared.fault.Place.{Place}
@@ -26,6 +26,16 @@ abbrev pub SomeContent : Given → (Content → Type 0) → Type 0
 SomeContent (ByReader left) P = SomeDocument left (λ bytes. P (Bytes bytes))
 SomeContent (InMemory bytes) P = P (Bytes bytes)
 SomeContent (InHand value) P = P (Held value)
+
+-- the bytes of the document; a value has none
+abbrev pub bytes_in : Content → List ℕ
+bytes_in (Bytes bytes) = bytes
+bytes_in (Held value) = []
+
+-- these are the bytes of the document
+abbrev pub IsBytesOf : Content → List ℕ → Type 0
+IsBytesOf (Bytes bytes) found = found ≡ bytes
+IsBytesOf (Held value) found = ⊥
 
 -- this is the value of the document
 abbrev pub IsValueOf : Content → Data → Type 0

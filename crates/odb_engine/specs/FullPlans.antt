@@ -1,5 +1,5 @@
 -- The full plan of a batch: its plan with what is to be sent of each request, and where its body is in the document.
-use Rattle.std.specs.Prelude.{ℕ, Bool, false, List, Option}
+use Rattle.std.specs.Prelude.{ℕ, List, Option}
 use Rattle.std.specs.List.{AllZip}
 use Rattle.serde_json.specs.Data.{Data}
 use Rattle.odb_doc.specs.Documents.{IsJson}
@@ -11,11 +11,7 @@ use Rattle.odb_text.specs.FullPlans.{full_plan_value}
 use Rattle.odb_text.specs.Results.{json_line}
 use Rattle.odb_engine.specs.declared.ending.Ended.{Ended}
 use Rattle.odb_engine.specs.declared.form.Form.{Form}
-use Rattle.odb_engine.specs.declared.lines.work.Work.{Work}
-use Rattle.odb_engine.specs.declared.lines.work.Work.TheVariants as works
-use Rattle.odb_engine.specs.AllFaults.{AreFaultsIn, Lists}
-use Rattle.odb_engine.specs.Cascade.{Answers, Prints, WritesIn}
-use Rattle.odb_engine.specs.Tasks.{OfLine, lists_all}
+use Rattle.odb_engine.specs.Cascade.{Prints}
 
 -- the spans are the places of the bodies of the requests in the document, in order; without one there is no body
 pub record AreBodiesIn (document : List ℕ) (d : Data) (spans : List (Option Span)) : Type 0 where
@@ -27,21 +23,3 @@ pub record ShowsPlaces (document : List ℕ) (batch : List Record) (form : Form)
   pub bodies : List (Option Span)
   pub places : (d : Data) → IsJson document d → AreBodiesIn document d bodies
   pub prints : Prints (json_line (full_plan_value batch bodies)) ended text
-
--- what is written of a document as a full plan
-abbrev pub FullPlans : List ℕ → WritesIn
-FullPlans document = Answers (ShowsPlaces document) document
-
--- what is written of a line: the result, or the first fault
-abbrev pub OfWork : Work → List ℕ → WritesIn
-OfWork (works.Task task) line = OfLine task line
-OfWork works.FullPlan line = FullPlans line
-
--- whether all faults of a batch document are listed
-abbrev pub work_lists : Work → Bool
-work_lists (works.Task task) = lists_all task
-work_lists works.FullPlan = false
-
--- what is written of a line: the result, or the faults
-abbrev pub OfWholeLine : Work → List ℕ → WritesIn
-OfWholeLine work line = Lists (work_lists work) (OfWork work line) (AreFaultsIn line)

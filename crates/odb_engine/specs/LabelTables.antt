@@ -4,8 +4,8 @@ use Rattle.std.specs.Cmp.Lexicographic.{slice_cmp}
 use Rattle.std.specs.List.Sorted.{IsSortedBy}
 use Rattle.std.specs.Ordering.{is_lt, nat_cmp}
 use Rattle.odb_reply.specs.Responses.{LabelValue}
-use Rattle.odb_engine.specs.declared.labels.OwnedLabel.{OwnedLabel}
-use Rattle.odb_engine.specs.declared.labels.OwnedLabels.TheInside.{Inside}
+use Rattle.odb_engine.specs.declared.live.labels.OwnedLabel.{OwnedLabel}
+use Rattle.odb_engine.specs.declared.live.labels.OwnedLabels.TheInside.{Inside}
 use Rattle.odb_engine.specs.Labels.{id_at, position_of}
 
 abbrev pub owned_value : OwnedLabel → LabelValue

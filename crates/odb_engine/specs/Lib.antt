@@ -15,8 +15,8 @@ pub mod Replayed
 pub mod Matches
 pub mod Rests
 pub mod Contents
-pub mod Tasks
 pub mod FullPlans
+pub mod Tasks
 pub mod Located
 pub mod Labels
 pub mod Live

@@ -13,17 +13,15 @@ use Rattle.odb_engine.specs.declared.ending.Ended.{Ended}
 use Rattle.odb_engine.specs.declared.ending.Ended.TheVariants.{Done, Refused}
 use Rattle.odb_engine.specs.declared.form.Form.{Form}
 use Rattle.odb_engine.specs.declared.form.Form.TheVariants.{Lines, Json}
-use Rattle.odb_engine.specs.declared.lines.work.Work.{Work}
-use Rattle.odb_engine.specs.declared.lines.work.Work.TheVariants as works
-use Rattle.odb_engine.specs.declared.located.pair.PairWork.{PairWork}
-use Rattle.odb_engine.specs.declared.located.pair.PairWork.TheVariants as pair_works
+use Rattle.odb_engine.specs.declared.tasks.located.pair.PairWork.{PairWork}
+use Rattle.odb_engine.specs.declared.tasks.located.pair.PairWork.TheVariants as pair_works
 use Rattle.odb_engine.specs.AllFaults.{AreFaultsIn}
 use Rattle.odb_engine.specs.Cascade.{Answers, WritesIn}
 use Rattle.odb_engine.specs.Contents.Given.{InMemory}
 use Rattle.odb_engine.specs.Forms.{fault_text}
-use Rattle.odb_engine.specs.FullPlans.{OfWork, work_lists}
 use Rattle.odb_engine.specs.Rests.{EndsLine, RestsIn}
-use Rattle.odb_engine.specs.Tasks.{OfTask, takes_second}
+use Rattle.odb_engine.specs.declared.tasks.task.Task.{Task}
+use Rattle.odb_engine.specs.Tasks.{OfLine, OfTask, lists_all, takes_second}
 
 -- what is printed of a fault with where it is, in the document of this name
 abbrev pub located_text : Form → List ℕ → PrintedAt → List ℕ
@@ -74,11 +72,6 @@ pub record HasPosition (number : Option ℕ) (is_pair : Bool) (document : List �
 abbrev pub IsInDocument : List ℕ → Option ℕ → Bool → List ℕ → Whereabouts
 IsInDocument name number is_pair document place shown position = (shown ≡ name) × HasPosition number is_pair document place position
 
--- whether a work is done on an array of two documents
-abbrev pub is_pair : Work → Bool
-is_pair (works.Task task) = takes_second task
-is_pair works.FullPlan = false
-
 -- the faults are those, each with where it is in a document
 pub record AreLocated (number : Option ℕ) (document : List ℕ) (refusals : List Printed) (faults : List PrintedAt) : Type 0 where
   pub are : map (λ fault. fault.refusal) faults ≡ refusals
@@ -104,13 +97,13 @@ abbrev pub LocatesAll : WritesIn → (List Printed → Type 0) → List ℕ → 
 LocatesAll P Are name number document form ended text = ((ended ≡ Done) × P form Done text) ⊎ ReportsAllAt P Are name number document form ended text
 
 -- the same, or with the first fault alone
-abbrev pub LocatesBy : Bool → Work → List ℕ → Option ℕ → List ℕ → WritesIn
-LocatesBy false work name number document = Locates (OfWork work document) (IsInDocument name number (is_pair work) document)
-LocatesBy true work name number document = LocatesAll (OfWork work document) (AreFaultsIn document) name number document
+abbrev pub LocatesBy : Bool → Task → List ℕ → Option ℕ → List ℕ → WritesIn
+LocatesBy false task name number document = Locates (OfLine task document) (IsInDocument name number (takes_second task) document)
+LocatesBy true task name number document = LocatesAll (OfLine task document) (AreFaultsIn document) name number document
 
--- what a work writes of a document, or of a line, with where the faults are
-abbrev pub LocatesWork : Work → List ℕ → Option ℕ → List ℕ → WritesIn
-LocatesWork work = LocatesBy (work_lists work) work
+-- what a task writes of a document, or of a line, with where the faults are
+abbrev pub LocatesTask : Task → List ℕ → Option ℕ → List ℕ → WritesIn
+LocatesTask task = LocatesBy (lists_all task) task
 
 -- ---- a batch document and a second document
 
@@ -121,7 +114,7 @@ IsInEither batch_name batch second_name second place name position =
 
 -- what is written of the requests of a batch document by a second document
 abbrev pub OfPairWork : PairWork → List ℕ → List ℕ → List Record → WritesIn
-OfPairWork (pair_works.Task task) batch second requests = OfTask task (InMemory second) requests
+OfPairWork (pair_works.Task task) batch second requests = OfTask task batch (InMemory second) requests
 OfPairWork (pair_works.Rest mode) batch second requests = EndsLine (RestsIn mode batch second requests)
 
 -- what is written of both documents, with where a fault is

@@ -9,41 +9,57 @@ use Rattle.odb_spans.specs.Positions as spans
 use Rattle.odb_sched.specs.run.Choosing.{AllowsOrder}
 use Rattle.odb_engine.specs.declared.ending.Ended.{Ended}
 use Rattle.odb_engine.specs.declared.form.Form.{Form}
-use Rattle.odb_engine.specs.declared.task.Task.{Task}
-use Rattle.odb_engine.specs.declared.task.Task.TheVariants as tasks
+use Rattle.odb_engine.specs.declared.tasks.task.Task.{Task}
+use Rattle.odb_engine.specs.declared.tasks.task.Task.TheVariants as tasks
 use Rattle.odb_engine.specs.AllFaults.{AreFaultsIn, Lists}
 use Rattle.odb_engine.specs.Cascade.{WritesIn, Answers, AnswersValue, OfDocument, Reports}
 use Rattle.odb_engine.specs.Commands.{Canonical, Counts, Drawings, Plans}
 use Rattle.odb_engine.specs.Contents.{Given, OfGiven}
 use Rattle.odb_engine.specs.Contents.Given.{InHand, InMemory}
+use Rattle.odb_engine.specs.FullPlans.{ShowsPlaces}
 use Rattle.odb_engine.specs.Matches.{MatchesValue}
 use Rattle.odb_engine.specs.Replays.{ReplaysValue}
 use Rattle.odb_engine.specs.Runs.{RunsValue}
 
--- what a task writes of the requests of a batch, by the second document if it takes one
-abbrev pub OfTask : Task → Given → List Record → WritesIn
-OfTask (tasks.Check all) second batch = Counts batch
-OfTask tasks.Plan second batch = Plans batch
-OfTask tasks.Draw second batch = Drawings batch
-OfTask tasks.Canon second batch = Canonical batch
-OfTask (tasks.Match mode strict) second batch = OfGiven second places.Responses (MatchesValue mode strict batch)
-OfTask (tasks.Replay policy order traced) second batch = OfGiven second places.Outcomes (ReplaysValue (AllowsOrder order) policy traced batch)
-OfTask (tasks.Run policy) second batch = OfGiven second places.Events (RunsValue policy batch)
+-- the plan, or the full plan of the batch in these bytes
+abbrev pub PlansBy : Bool → List ℕ → List Record → WritesIn
+PlansBy false document = Plans
+PlansBy true document = ShowsPlaces document
+
+-- what a task writes of the requests of the batch in these bytes, by the second document if it takes one
+abbrev pub OfTask : Task → List ℕ → Given → List Record → WritesIn
+OfTask (tasks.Check all) document second batch = Counts batch
+OfTask (tasks.Plan full) document second batch = PlansBy full document batch
+OfTask tasks.Draw document second batch = Drawings batch
+OfTask tasks.Canon document second batch = Canonical batch
+OfTask (tasks.Match mode strict) document second batch = OfGiven second places.Responses (MatchesValue mode strict batch)
+OfTask (tasks.Replay policy order traced) document second batch = OfGiven second places.Outcomes (ReplaysValue (AllowsOrder order) policy traced batch)
+OfTask (tasks.Run policy) document second batch = OfGiven second places.Events (RunsValue policy batch)
 
 -- whether a task takes a second document
 abbrev pub takes_second : Task → Bool
 takes_second (tasks.Check all) = false
-takes_second tasks.Plan = false
+takes_second (tasks.Plan full) = false
 takes_second tasks.Draw = false
 takes_second tasks.Canon = false
 takes_second (tasks.Match mode strict) = true
 takes_second (tasks.Replay policy order traced) = true
 takes_second (tasks.Run policy) = true
 
+-- whether a task takes the bytes of the batch document, beside its value
+abbrev pub takes_bytes : Task → Bool
+takes_bytes (tasks.Check all) = false
+takes_bytes (tasks.Plan full) = full
+takes_bytes tasks.Draw = false
+takes_bytes tasks.Canon = false
+takes_bytes (tasks.Match mode strict) = false
+takes_bytes (tasks.Replay policy order traced) = false
+takes_bytes (tasks.Run policy) = false
+
 -- whether all faults of a batch document are listed
 abbrev pub lists_all : Task → Bool
 lists_all (tasks.Check all) = all
-lists_all tasks.Plan = false
+lists_all (tasks.Plan full) = false
 lists_all tasks.Draw = false
 lists_all tasks.Canon = false
 lists_all (tasks.Match mode strict) = false
@@ -52,7 +68,7 @@ lists_all (tasks.Run policy) = false
 
 -- what a task writes of a batch document in memory, by the second document if it takes one
 abbrev pub OfDocuments : Task → Given → List ℕ → WritesIn
-OfDocuments task second batch = Lists (lists_all task) (Answers (OfTask task second) batch) (AreFaultsIn batch)
+OfDocuments task second batch = Lists (lists_all task) (Answers (OfTask task batch second) batch) (AreFaultsIn batch)
 
 -- F07
 abbrev pub not_pair : Printed
@@ -79,13 +95,17 @@ abbrev pub OfPair : (List Record → Data → WritesIn) → List ℕ → WritesI
 OfPair P = OfDocument places.Batch (AnswersPair P)
 
 -- what is written of a line: of the document in it, or of the two documents in it
-abbrev pub InLine : Bool → (Given → List Record → WritesIn) → List ℕ → WritesIn
-InLine false P = Answers (P (InMemory []))
-InLine true P = OfPair (λ batch second. P (InHand second) batch)
+abbrev pub InLine : Bool → (List ℕ → Given → List Record → WritesIn) → List ℕ → WritesIn
+InLine false P line = Answers (P line (InMemory [])) line
+InLine true P line = OfPair (λ batch second. P [] (InHand second) batch) line
 
--- what a task writes of a line
+-- what a task writes of a line: the result, or the first fault
 abbrev pub OfLine : Task → List ℕ → WritesIn
 OfLine task = InLine (takes_second task) (OfTask task)
+
+-- what a task writes of a line: the result, or the faults
+abbrev pub OfWholeLine : Task → List ℕ → WritesIn
+OfWholeLine task line = Lists (lists_all task) (OfLine task line) (AreFaultsIn line)
 
 -- the line holds the values of two documents, as an array
 pub record IsLineOf (batch second line : List ℕ) : Type 0 where

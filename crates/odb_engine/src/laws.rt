@@ -20,10 +20,8 @@ ghost use Rattle.odb_engine.specs.declared.ending.Ended.{Ended};
 ghost use Rattle.odb_engine.specs.declared.form.Form.{Form};
 ghost use Rattle.odb_engine.specs.Contents.Given.{ByReader, InMemory};
 ghost use Rattle.odb_engine.specs.Inputs.{IsDocumentOf};
-ghost use Rattle.odb_engine.specs.declared.task.Task.{Task};
-ghost use Rattle.odb_engine.specs.FullPlans.{OfWholeLine};
-ghost use Rattle.odb_engine.specs.declared.lines.work.Work.TheVariants as works;
-ghost use Rattle.odb_engine.specs.Tasks.{IsLineOf, OfDocuments, takes_second};
+ghost use Rattle.odb_engine.specs.declared.tasks.task.Task.{Task};
+ghost use Rattle.odb_engine.specs.Tasks.{IsLineOf, OfDocuments, OfWholeLine, takes_bytes, takes_second};
 ghost use Rattle.odb_engine.specs.Live.{Live, Opens, RecordsOneMore, Shows, with_run};
 ghost use Rattle.odb_engine.specs.declared.ending.Ended.TheVariants.{Done};
 ghost use Rattle.odb_engine.specs.ReadAgain.{IsReadAgain};
@@ -61,19 +59,19 @@ pub fn one_document()
 {}
 
 /// Two texts that a task may write for the same bytes of a batch document and of a second document are equal,
-/// and so are the ends: for each task with its options, in each form, and also if one of the documents is
+/// and so are the ends: for each task with its options, but a full plan, in each form, and also if one of the documents is
 /// refused. Likewise for a line of a log, with one document or with two. So what a task writes is a function of
-/// the bytes and the form.
+/// the bytes and the form. A full plan has places of bodies, of which no law states that they are the only ones.
 ///
 /// The relation `OfDocuments` is that of [`crate::answer_task`], and `OfWholeLine` that of [`crate::answer_line`]. `left` is
 /// what the second reader has left.
 pub fn one_text()
-    ensures task { (task : Task) (form : Form) (bytes left : List ℕ)
+    ensures task { (task : Task) (form : Form) (bytes left : List ℕ) → takes_bytes task ≡ false
         → IsOne (OfDocuments task (ByReader (Some left)) bytes form) }
-    ensures memory { (task : Task) (form : Form) (bytes second : List ℕ)
+    ensures memory { (task : Task) (form : Form) (bytes second : List ℕ) → takes_bytes task ≡ false
         → IsOne (OfDocuments task (InMemory second) bytes form) }
-    ensures line { (task : Task) (form : Form) (line : List ℕ)
-        → IsOne (OfWholeLine (works.Task task) line form) }
+    ensures line { (task : Task) (form : Form) (line : List ℕ) → takes_bytes task ≡ false
+        → IsOne (OfWholeLine task line form) }
 {
     odb_doc::laws::one_batch();
     odb_doc::laws::one_fault();
@@ -95,11 +93,11 @@ pub fn one_text()
 pub fn every_pair()
     ensures memory { (task : Task) (form : Form) (batch second line text : List ℕ) (ended : Ended)
         → takes_second task ≡ true → IsLineOf batch second line
-        → (OfWholeLine (works.Task task) line form ended text)
+        → (OfWholeLine task line form ended text)
         ↔ (OfDocuments task (InMemory second) batch form ended text) }
     ensures readers { (task : Task) (form : Form) (batch second line text : List ℕ) (ended : Ended)
         → takes_second task ≡ true → IsLineOf batch second line
-        → (OfWholeLine (works.Task task) line form ended text)
+        → (OfWholeLine task line form ended text)
         ↔ (OfDocuments task (ByReader (Some second)) batch form ended text) }
 {}
 

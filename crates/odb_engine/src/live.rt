@@ -1,6 +1,6 @@
 //! Live runs: a run that its caller drives, with what its response needs of the batch.
 
-ghost use Rattle.std.specs.Prelude.{◌≡◌, ◌≢◌, ◌<◌, ◌↔◌, true, false, All, None, Some, replicate, Err, IfOk, IfErr, OnOk, OnErr, IsOk, IsTrue, string_bytes};
+ghost use Rattle.std.specs.Prelude.{◌≡◌, ◌≢◌, ◌<◌, ◌↔◌, true, false, All, Some, Err, IfOk, IfErr, OnOk, OnErr, IsOk, IsTrue, string_bytes};
 ghost use Rattle.serde_json.specs.Read.{read};
 ghost use Rattle.odb_check.specs.Plans.{plan_records};
 ghost use Rattle.odb_check.specs.Seeds.{IsSeeded};
@@ -16,20 +16,24 @@ ghost use Rattle.odb_engine.specs.Halts.{Found, Halted, HaltsBy};
 ghost use Rattle.odb_engine.specs.Labels.{id_lines, position_of};
 ghost use Rattle.odb_engine.specs.Live as live;
 
+mod labels;
+mod requests;
 mod units;
 
-use crate::command::plan_of;
 use crate::form::Form;
 use crate::halt::Halt;
 use crate::input::value_in;
-use crate::labels::OwnedLabels;
-use crate::run::UNFINISHED;
 use crate::setup::Setup;
+use crate::tasks::command::plan_of;
+use crate::tasks::run::UNFINISHED;
+use labels::OwnedLabels;
 use odb_check::laws::every_plan;
 use odb_check::{Plan, Seed};
+use odb_dense::none_for_each;
 use odb_doc::{Batch, Events, Outcome, Place};
 use odb_reply::{JsonText, response_of};
 use odb_sched::{OwnedRun, Policy, ReportRefusal, StartRefusal, resolve, run};
+pub use requests::requests_in;
 use std::alloc::{AllocError, Global};
 use std::marker::Model;
 
@@ -82,17 +86,6 @@ fn run_after(
     Ok(scheduler.into_owned())
 }
 
-/// Returns a list of so many absent texts.
-fn no_texts(alloc: Global, count: u32) -> Result<Vec<Option<JsonText>>, AllocError>
-    ensures { IfOk result (λ texts. texts.items ≡ replicate count None) }
-{
-    let mut texts = Vec::with_capacity(alloc, count as usize)?;
-    for _ in 0..count {
-        texts.push(None)?;
-    }
-    Ok(texts)
-}
-
 /// Returns the live run of a plan, which was made with this seed, after the recorded events in a document.
 fn open_on(
     alloc: Global,
@@ -110,7 +103,7 @@ fn open_on(
     every_plan(plan);
     let run = run_after(alloc, plan, events, policy)?;
     let labels = OwnedLabels::of(alloc, plan)?;
-    let texts = no_texts(alloc, plan.len())?;
+    let texts = none_for_each(alloc, plan.len())?;
     Ok(LiveRun { run, labels, texts })
 }
 

@@ -17,7 +17,7 @@ use Rattle.odb_engine.specs.declared.form.Form.TheVariants as forms
 use Rattle.odb_engine.specs.declared.halt.Halt.TheVariants as halts
 use Rattle.odb_engine.specs.Cascade.{Reports, WritesIn}
 use Rattle.odb_engine.specs.Halts.{Found, Halted, text_found}
-use Rattle.odb_engine.specs.declared.answer.Answer.{Answer}
+use Rattle.odb_engine.specs.declared.tasks.answer.Answer.{Answer}
 
 written : (form : Form) (P : WritesIn) (found : Result (String Global) Halt) (ended : Ended) (text : List ℕ) → Found P form found → text_found form found ended text → P form ended text
 written form P (Ok line) ended text so (ends, same) = subst (λ e. P form e text) (sym ends) (subst (P form Done) (sym same) so)

@@ -2,7 +2,7 @@
 use Rattle.std.proofs.Common.{ℕ, List, Result, Ok, Err, IfOk, OnErr}
 use Rattle.std.specs.declared.alloc.AllocError.{AllocError}
 use Rattle.odb_engine.specs.Cascade.{Writes}
-use Rattle.odb_engine.specs.declared.answer.Answer.{Answer}
+use Rattle.odb_engine.specs.declared.tasks.answer.Answer.{Answer}
 use Rattle.odb_ffi.specs.Returns.{Fills, IsOutOfMemory, Returns, status_of}
 use Rattle.odb_ffi.specs.Returns.Returns.{Given, OutOfMemory}
 

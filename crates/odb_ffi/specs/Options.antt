@@ -1,5 +1,5 @@
 -- The options of a call from C, by their numbers.
-use Rattle.std.specs.Prelude.{◌≡◌, ◌<◌, ◌≤◌, ◌⊎◌, ℕ, Bool, true, false}
+use Rattle.std.specs.Prelude.{◌≡◌, ◌≤◌, ℕ, Bool, true, false}
 use Rattle.odb_sched.specs.declared.order.Order.{Order}
 use Rattle.odb_sched.specs.declared.order.Order.TheVariants.{First, Last, Wide}
 use Rattle.odb_sched.specs.declared.policy.Mode.{Mode}
@@ -7,8 +7,8 @@ use Rattle.odb_sched.specs.declared.policy.Mode.TheVariants.{Continue, Stop}
 use Rattle.odb_sched.specs.declared.policy.Policy.{Policy}
 use Rattle.odb_engine.specs.declared.form.Form.{Form}
 use Rattle.odb_engine.specs.declared.form.Form.TheVariants.{Lines, Json}
-use Rattle.odb_engine.specs.declared.task.Task.{Task}
-use Rattle.odb_engine.specs.declared.task.Task.TheVariants as tasks
+use Rattle.odb_engine.specs.declared.tasks.task.Task.{Task}
+use Rattle.odb_engine.specs.declared.tasks.task.Task.TheVariants as tasks
 
 abbrev pub mode_number : Mode → ℕ
 mode_number Continue = 0

@@ -6,7 +6,7 @@ use Rattle.odb_engine.specs.declared.form.Form.{Form}
 use Rattle.odb_engine.specs.Cascade.{Writes}
 use Rattle.odb_engine.specs.Contents.Given.{InMemory}
 use Rattle.odb_engine.specs.Tasks.{OfDocuments}
-use Rattle.odb_engine.specs.declared.task.Task.{Task}
+use Rattle.odb_engine.specs.declared.tasks.task.Task.{Task}
 
 -- the status of an end
 abbrev pub status_of : Ended → ℕ

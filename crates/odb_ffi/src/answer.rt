@@ -2,7 +2,7 @@
 
 ghost use Rattle.std.specs.Prelude.{◌≡◌, IfOk, OnErr};
 ghost use Rattle.odb_ffi.specs.Options as options;
-ghost use Rattle.odb_ffi.specs.Returns.{Does, Fills, IsOutOfMemory, IsWrongOption, Returns, ReturnsBy, status_of};
+ghost use Rattle.odb_ffi.specs.Returns.{Does, Fills, IsOutOfMemory, Returns, ReturnsBy, status_of};
 
 use crate::options::{form_of, setup_of};
 use crate::status::{OUT_OF_MEMORY, SMALL_BUFFER, WRONG_OPTION, of_end};

@@ -16,7 +16,7 @@
 ghost use Rattle.std.specs.Prelude.{◌≡◌, [], true, false};
 ghost use Rattle.odb_sched.specs.declared.policy.Mode.TheVariants as modes;
 ghost use Rattle.odb_engine.specs.declared.form.Form.TheVariants as forms;
-ghost use Rattle.odb_engine.specs.declared.task.Task.TheVariants as tasks;
+ghost use Rattle.odb_engine.specs.declared.tasks.task.Task.TheVariants as tasks;
 ghost use Rattle.odb_ffi.specs.Options as options;
 ghost use Rattle.odb_ffi.specs.Rests.{RestLine};
 ghost use Rattle.odb_ffi.specs.Returns.{Does, Returns, ReturnsBy};
@@ -114,10 +114,11 @@ pub extern "C" fn odb_plan(
     text_length: &mut usize,
     seed: u64,
 ) -> u32
-    ensures { Returns (Does tasks.Plan forms.Lines batch.now [])
+    ensures { Returns (Does (tasks.Plan false) forms.Lines batch.now [])
         result text_length.new text.old text.new }
 {
-    answer(alloc, batch, b"", Plan, Lines, seed, text, text_length)
+    let plan = Plan { full: false };
+    answer(alloc, batch, b"", plan, Lines, seed, text, text_length)
 }
 
 /// Does what [`odb_plan`] does, and writes the text in a form.
@@ -131,10 +132,11 @@ pub extern "C" fn odb_plan_as(
     seed: u64,
 ) -> u32
     ensures { ReturnsBy (options.IsForm form)
-        (λ form. Returns (Does tasks.Plan form batch.now []))
+        (λ form. Returns (Does (tasks.Plan false) form batch.now []))
         result text_length.new text.old text.new }
 {
-    answer_as(alloc, batch, b"", Plan, form, seed, text, text_length)
+    let plan = Plan { full: false };
+    answer_as(alloc, batch, b"", plan, form, seed, text, text_length)
 }
 
 /// Makes the canonical text of the batch in a document, as `odb_batch canon` does. It is the same in each form.

@@ -1,6 +1,6 @@
 //! How what is to be sent reaches the buffers of the caller.
 
-ghost use Rattle.std.specs.Prelude.{◌≡◌, ◌≤◌, length, map};
+ghost use Rattle.std.specs.Prelude.{◌≤◌, length, map};
 ghost use Rattle.odb_ffi.specs.Requests as calls;
 
 use crate::request::Request;

@@ -2,7 +2,6 @@
 //!
 //! - `examples`: what a caller writes, as docs/library.md and the docs of the calls show it;
 //! - `lines`: commands over the lines of a log; `requests`: what is to be sent;
-//! - `all_faults`, `full_plans`, `located`, `rests`: texts that are written whole or not at all;
 //! - `live`, `bodies`: live runs, and the bodies that are reported to them.
 #![tactic(auto)]
 
@@ -12,8 +11,6 @@ mod all_faults;
 mod bodies;
 #[cfg(test)]
 mod examples;
-#[cfg(test)]
-mod full_plans;
 #[cfg(test)]
 mod lines;
 #[cfg(test)]

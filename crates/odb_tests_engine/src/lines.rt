@@ -1,14 +1,14 @@
 //! The lines of an input that comes in pieces, answered by a command that writes how long each is.
 
-ghost use Rattle.std.specs.Prelude.{◌≡◌, IfSome};
+ghost use Rattle.std.specs.Prelude.{◌≡◌, false, IfSome};
 ghost use Rattle.odb_engine.specs.lines.Answers.{AnswersEach, OfAnyLine};
 ghost use Rattle.odb_engine.specs.lines.Lines.{lines_of};
-ghost use Rattle.odb_engine.specs.declared.lines.work.Work.TheVariants as works;
+ghost use Rattle.odb_engine.specs.Tasks.{takes_bytes};
 ghost use Rattle.odb_testing.specs.Readings.{AreOne};
 
 use odb_engine::lines::laws::one_text;
 use odb_engine::{
-    EachLine, Ended, EngineFault, Form, LineCommand, LineInput, Setup, Task, Work, answer_lines,
+    Command, EachLine, Ended, EngineFault, Form, LineCommand, LineInput, Setup, Task, answer_lines,
     laws,
 };
 use odb_io::Output;
@@ -29,11 +29,12 @@ struct Length;
 impl LineCommand for Length {
     ghost use Rattle.odb_tests_engine.specs.Lengths.{WritesLength};
 
-    ghost writes = { λ _. WritesLength };
+    ghost writes = { λ _ _. WritesLength };
 
     fn answer<W: Write>(
         &self,
         alloc: Global,
+        _number: usize,
         line: &[u8],
         output: &mut Output<W>,
     ) -> Result<Ended, EngineFault> {
@@ -106,11 +107,11 @@ const LOG: &str = r#"{"requests":[{"id":"1","method":"get","url":"A"}]}
 
 /// Returns the task on each line, whose answers have this form.
 fn on_each_line(task: Task, form: Form) -> EachLine
-    ensures work { result.work ≡ works.Task task }
+    ensures task { result.task ≡ task }
     ensures form { result.setup.form ≡ form }
 {
     EachLine {
-        work: Work::Task(task),
+        task,
         setup: Setup {
             form,
             ..Setup::plain()
@@ -131,6 +132,7 @@ fn written<C: LineCommand>(alloc: Global, log: &[u8], command: &C) -> Option<Wri
 }
 
 fn written_twice(alloc: Global, log: &[u8], task: Task, form: Form) -> Two<Written>
+    requires { takes_bytes task ≡ false }
     ensures { AreOne result.0 result.1 }
 {
     let command = on_each_line(task, form);
@@ -140,6 +142,9 @@ fn written_twice(alloc: Global, log: &[u8], task: Task, form: Form) -> Two<Writt
 }
 
 fn is_written_again(alloc: Global, log: &[u8], task: Task, form: Form) -> bool {
+    if task.takes_bytes() {
+        return false;
+    }
     match &written_twice(alloc, log, task, form) {
         (Some(one), Some(other)) => one == other,
         _ => false,
@@ -150,7 +155,7 @@ fn is_written_again(alloc: Global, log: &[u8], task: Task, form: Form) -> bool {
 const TASKS: [Task; 4] = [
     Task::Check { all: false },
     Task::Check { all: true },
-    Task::Plan,
+    Task::Plan { full: false },
     Task::Match {
         mode: Mode::Continue,
         strict: false,

@@ -1,8 +1,7 @@
 //! Faults with where they are: of a line in memory, and of documents whose readers are slow or fail.
 
 use odb_engine::{
-    Ended, EngineFault, Names, PairWork, Setup, Task, Work, answer_located, locate_batch,
-    locate_pair,
+    Ended, EngineFault, Names, PairWork, Setup, Task, answer_located, locate_batch, locate_pair,
 };
 use odb_io::{Input, Output};
 use odb_sched::Mode;
@@ -20,7 +19,7 @@ const NAMES: Names<'static> = Names {
     second: "served.json",
 };
 
-const CHECK: Work = Work::Task(Task::Check { all: false });
+const CHECK: Task = Task::Check { all: false };
 
 /// Matches `RESPONSES` against `PAIR` by readers of these paces. Returns how that ended, how often each reader was
 /// called, and whether this text was written.

@@ -38,13 +38,21 @@ pub const FREE: Policy = Policy {
     width: 10_000,
 };
 
-pub const EXAMPLES: [Example; 10] = [
+pub const EXAMPLES: [Example; 11] = [
     (Task::Check { all: false }, "", "ok 2 requests 0 groups\n"),
     (Task::Check { all: true }, "", "ok 2 requests 0 groups\n"),
     (
-        Task::Plan,
+        Task::Plan { full: false },
         "",
         "0 1 level 0 group * needs *\n1 2 level 1 group * needs 1\n",
+    ),
+    (
+        Task::Plan { full: true },
+        "",
+        "{\"requests\":[\
+        {\"headers\":{},\"id\":\"1\",\"level\":0,\"method\":\"GET\",\"needs\":[],\"rest\":\"A\",\"url\":\"A\"},\
+        {\"body\":{\"length\":22,\"offset\":118},\"headers\":{},\"id\":\"2\",\"level\":1,\"method\":\"PUT\",\
+        \"needs\":[\"1\"],\"rest\":\"B\",\"url\":\"B\"}]}\n",
     ),
     (
         Task::Draw,
@@ -125,7 +133,6 @@ pub fn called_plainly<R: Read, S: Read, W: Write>(
         (OfDocuments task (ByReader (S.remaining second.old.reader)) bytes Lines ended))) }
 {
     match task {
-        Task::Plan => plan_batch(alloc, batch, output),
         Task::Canon => canon_batch(alloc, batch, output),
         Task::Run { policy } => run_batch(alloc, batch, second, output, policy),
         _ => answer_task(alloc, batch, second, output, task, Setup::plain()),
@@ -148,6 +155,7 @@ fn called<R: Read, S: Read, W: Write>(
     if disposal == Disposal::Drop {
         return match task {
             Task::Check { all: false } => check_batch(alloc, batch, output),
+            Task::Plan { full: false } => plan_batch(alloc, batch, output),
             Task::Replay {
                 policy,
                 mut order,

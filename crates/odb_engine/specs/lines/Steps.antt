@@ -1,5 +1,5 @@
 -- For private clauses: one step of the way through the lines.
-use Rattle.std.specs.Prelude.{◌≡◌, ◌≢◌, ℕ, List, [], ◌∷◌, ◌++◌, All, Option, Result, Ok, Err, OnOk, take}
+use Rattle.std.specs.Prelude.{◌≡◌, ◌≢◌, ◌+◌, ℕ, List, [], ◌∷◌, ◌++◌, All, Option, Result, Ok, Err, OnOk, take}
 use Rattle.std.specs.Io.Buffered.{reader_buffer}
 use Rattle.std.specs.Io.KnownBytes.{Consumes}
 use Rattle.odb_check.specs.Texts.{newline}
@@ -30,9 +30,10 @@ pub record EndsAnswer {W : Type 0} (contents : W → Option (List ℕ)) (P : Wri
   pub ends : Ends contents P ⊥ old new result
   pub memory : result ≡ Err faults.OutOfMemory → new ≡ old
 
--- What is held of a line and a piece of the input: the piece is held too, or its newline ends the line, which is answered.
-pub data Advances {W : Type 0} (contents : W → Option (List ℕ)) (P : List ℕ → Writes) (left rest : Option (List ℕ)) (held kept : List ℕ) (old new : Writing W) (result : Result Ended EngineFault) : Type 0 where
-  Holds : (piece : List ℕ) → IsOpen piece → Consumes left rest piece → new ≡ old → kept ≡ cut (held ++ piece) → result ≡ Ok Done → Advances contents P left rest held kept old new result
-  Lacks : (piece : List ℕ) → IsOpen piece → Consumes left rest piece → new ≡ old → result ≡ Err faults.OutOfMemory → Advances contents P left rest held kept old new result
-  Answers : (piece : List ℕ) → IsOpen piece → Consumes left rest (piece ++ newline ∷ []) → EndsAnswer contents (P (cut (held ++ piece))) old new result → OnOk result (kept ≡ [])
-      → Advances contents P left rest held kept old new result
+-- What is held of a line and a piece of the input: the piece is held too, or its newline ends the line, which is answered and
+-- counted.
+pub data Advances {W : Type 0} (contents : W → Option (List ℕ)) (P : ℕ → List ℕ → Writes) (left rest : Option (List ℕ)) (count counted : ℕ) (held kept : List ℕ) (old new : Writing W) (result : Result Ended EngineFault) : Type 0 where
+  Holds : (piece : List ℕ) → IsOpen piece → Consumes left rest piece → new ≡ old → counted ≡ count → kept ≡ cut (held ++ piece) → result ≡ Ok Done → Advances contents P left rest count counted held kept old new result
+  Lacks : (piece : List ℕ) → IsOpen piece → Consumes left rest piece → new ≡ old → result ≡ Err faults.OutOfMemory → Advances contents P left rest count counted held kept old new result
+  Answers : (piece : List ℕ) → IsOpen piece → Consumes left rest (piece ++ newline ∷ []) → counted ≡ count + 1 → EndsAnswer contents (P (count + 1) (cut (held ++ piece))) old new result → OnOk result (kept ≡ [])
+      → Advances contents P left rest count counted held kept old new result

@@ -57,20 +57,23 @@ fn look<R: Read, W: Write>(
     }
 }
 
-/// Answers the line that ends in what is ahead, or holds what is ahead.
+/// Answers and counts the line that ends in what is ahead, or holds what is ahead.
 fn advance<R: Read, W: Write, C: LineCommand>(
     alloc: Global,
     input: &mut LineInput<R>,
     output: &mut Output<W>,
     command: &C,
+    count: &mut usize,
     held: &mut Vec<u8>,
 ) -> Result<Ended, EngineFault>
+    requires room { count.old + 1 < 2 ^ 64 }
     requires works { output.old.failed ≡ false }
     requires held { length held.old.items ≤ most_read }
-    ensures advances { Advances W.contents (C.writes command.now) (left R.remaining input.old) (left R.remaining input.new) held.old.items held.new.items
+    ensures advances { Advances W.contents (C.writes command.now) (left R.remaining input.old) (left R.remaining input.new) count.old count.new held.old.items held.new.items
         output.old output.new result }
     ensures failed { input.new.failed ≡ input.old.failed }
     ensures fills { input.new.fills ≡ input.old.fills }
+    ensures most { count.new ≤ count.old + 1 }
 {
     let ahead = input.ahead();
     let Some(at) = memchr(b'\n', ahead) else {
@@ -80,7 +83,8 @@ fn advance<R: Read, W: Write, C: LineCommand>(
         kept?;
         return Ok(Ended::Done);
     };
-    let answered = answer_line(alloc, output, command, held, &ahead[..at]);
+    *count += 1;
+    let answered = answer_line(alloc, output, command, *count, held, &ahead[..at]);
     input.take(at + 1);
     answered
 }
@@ -88,7 +92,7 @@ fn advance<R: Read, W: Write, C: LineCommand>(
 /// Answers each line of an input, in order: writes what the command writes of it, up to the end of the
 /// input.
 ///
-/// A line is what precedes a newline, and what follows the last newline unless that is empty. No more
+/// A line is what precedes a newline, and what follows the last newline unless that is empty. They are counted from 1. No more
 /// than the first 16,777,217 bytes of a line are passed to the command: as many as are read of a
 /// document. The input and the output must not have failed.
 ///
@@ -119,14 +123,14 @@ pub fn answer_lines<R: Read, W: Write, C: LineCommand>(
     ensures ends { AnswersLines R.remaining W.contents (OfAnyLine (C.writes command.now)) input.old input.new output.old output.new result }
 {
     let mut held = Vec::new(alloc);
-    let mut ended = Ended::Done;
+    let (mut ended, mut count) = (Ended::Done, 0);
     while look(input, output, flush)? {
-        let answered = advance(alloc, input, output, command, &mut held)?;
+        let answered = advance(alloc, input, output, command, &mut count, &mut held)?;
         ended = both(ended, answered);
     }
     if held.is_empty() {
         return Ok(ended);
     }
-    let last = answer_line(alloc, output, command, &mut held, &[])?;
+    let last = answer_line(alloc, output, command, count + 1, &mut held, &[])?;
     Ok(both(ended, last))
 }

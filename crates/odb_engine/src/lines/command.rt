@@ -14,10 +14,10 @@ pub trait LineCommand {
     ghost use Rattle.odb_engine.specs.declared.ending.EngineFault.TheVariants as faults;
     ghost use Rattle.odb_engine.specs.Engines.{Ends};
 
-    /// How it ends for the bytes of a line, and what it has written then.
-    ghost writes: { Self → List ℕ → Ended → List ℕ → Type 0 };
+    /// How it ends for the line of this number with these bytes, and what it has written then.
+    ghost writes: { Self → ℕ → List ℕ → Ended → List ℕ → Type 0 };
 
-    /// Writes what the command writes of a line, and returns how it ended.
+    /// Writes what the command writes of a line, and returns how it ended. Lines are counted from 1.
     ///
     /// # Errors
     ///
@@ -26,10 +26,11 @@ pub trait LineCommand {
     fn answer<W: Write>(
         &self,
         alloc: Global,
+        number: usize,
         line: &[u8],
         output: &mut Output<W>,
     ) -> Result<Ended, EngineFault>
         requires { output.old.failed ≡ false }
-        ensures ends { Ends W.contents (writes self.now line.now) ⊥ output.old output.new result }
+        ensures ends { Ends W.contents (writes self.now number line.now) ⊥ output.old output.new result }
         ensures memory { result ≡ Err faults.OutOfMemory → output.new ≡ output.old };
 }

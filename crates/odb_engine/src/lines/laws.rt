@@ -8,6 +8,6 @@ use crate::lines::command::LineCommand;
 
 /// Some lines have one text of answers and one end, if each line has.
 pub fn one_text<C: LineCommand>(command: &C)
-    requires { (bytes : List ℕ) → IsOne (C.writes command.now bytes) }
+    requires { (number : ℕ) (bytes : List ℕ) → IsOne (C.writes command.now number bytes) }
     ensures { (lines : List (List ℕ)) → IsOne (AnswersEach (OfAnyLine (C.writes command.now)) lines) }
 {}

@@ -31,19 +31,21 @@ pub fn answer_line<W: Write, C: LineCommand>(
     alloc: Global,
     output: &mut Output<W>,
     command: &C,
+    number: usize,
     held: &mut Vec<u8>,
     end: &[u8],
 ) -> Result<Ended, EngineFault>
     requires works { output.old.failed ≡ false }
     requires held { length held.old.items ≤ most_read }
-    ensures ends { EndsAnswer W.contents (C.writes command.now (cut (held.old.items ++ end.now))) output.old output.new result }
+    ensures ends { EndsAnswer W.contents (C.writes command.now number (cut (held.old.items ++ end.now))) output.old output.new result }
     ensures emptied { OnOk result (held.new.items ≡ []) }
 {
     if held.is_empty() {
-        return command.answer(alloc, &end[..end.len().min(MAX_LINE_BYTES)], output);
+        let line = &end[..end.len().min(MAX_LINE_BYTES)];
+        return command.answer(alloc, number, line, output);
     }
     hold(held, end)?;
-    let ended = command.answer(alloc, held, output)?;
+    let ended = command.answer(alloc, number, held, output)?;
     held.clear();
     Ok(ended)
 }

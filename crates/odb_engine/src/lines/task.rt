@@ -1,6 +1,6 @@
 //! A task on a line: it holds a batch document, or an array of a batch and a second document.
 
-ghost use Rattle.std.specs.Prelude.{◌≡◌, ◌≢◌, [], true, map, None, Err, IfErr, IfSome};
+ghost use Rattle.std.specs.Prelude.{◌≡◌, ◌≢◌, [], true, false, map, None, Err, IfErr, IfSome};
 ghost use Rattle.serde_json.specs.Data.{Data};
 ghost use Rattle.serde_json.specs.View.{view};
 ghost use Rattle.odb_engine.specs.declared.halt.Halt.TheVariants as halts;
@@ -8,14 +8,15 @@ ghost use Rattle.odb_engine.specs.Contents.Given.{InHand};
 ghost use Rattle.odb_doc.specs.Refusals.{printed};
 ghost use Rattle.odb_engine.specs.AllFaults.{AreFaultsIn};
 ghost use Rattle.odb_engine.specs.Halts.{Found, Halted};
-ghost use Rattle.odb_engine.specs.Tasks.{OfLine, OfPair, OfTask, lists_all};
+ghost use Rattle.odb_engine.specs.Tasks.{OfLine, OfPair, OfTask, lists_all, takes_bytes};
 ghost use Rattle.odb_spans.specs.Positions as spans;
 
-use crate::command::text_of;
+use crate::disposal::DropOrLeak;
 use crate::halt::Halt;
 use crate::input::value_in;
 use crate::setup::Setup;
-use crate::task::Task;
+use crate::tasks::command::{text_in, text_of};
+use crate::tasks::task::Task;
 use odb_doc::{Place, Refusal};
 use serde_json::Value;
 use std::alloc::Global;
@@ -51,16 +52,28 @@ fn text_of_pair(
     setup: Setup,
     faults: &mut Vec<Refusal>,
 ) -> Result<String, Halt>
-    requires { faults.old.items ≡ [] }
-    ensures found { Found (OfPair (λ batch second. OfTask task (InHand second) batch) line.now)
+    requires { takes_bytes task ≡ false }
+    ensures found { Found (OfPair (λ batch second. OfTask task [] (InHand second) batch) line.now)
         setup.form result }
     ensures read { result ≢ Err halts.Read }
 {
-    let Some((mut first, mut second)) = pair_of(value_in(alloc, line, Place::Batch)?) else {
+    let Some((first, mut second)) = pair_of(value_in(alloc, line, Place::Batch)?) else {
         return Err(NOT_PAIR);
     };
+    let first = DropOrLeak {
+        value: first,
+        disposal: setup.disposal,
+    };
     let mut task = task;
-    text_of(alloc, &mut first, &mut second, &mut task, setup, faults)
+    text_in(
+        alloc,
+        &[],
+        &first.value,
+        &mut second,
+        &mut task,
+        setup,
+        faults,
+    )
 }
 
 /// Returns what a task writes of a line: of the document in it, or of the two documents in it if the task takes

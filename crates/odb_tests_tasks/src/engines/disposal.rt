@@ -2,7 +2,7 @@
 //! them, and all if they are to leave them. No clause can say so. Linux counts the pages of a process.
 
 use super::{EXAMPLES, Example, called};
-use odb_engine::{Disposal, Ended, Setup, Work, answer_line};
+use odb_engine::{Disposal, Ended, Setup, answer_line};
 use odb_io::{Input, Output};
 use odb_testing::PAIR;
 use std::alloc::Global;
@@ -59,7 +59,7 @@ fn is_answered(alloc: Global, example: Example, disposal: Disposal) -> bool {
         ..Setup::plain()
     };
     match line {
-        Ok(line) => match answer_line(alloc, line.as_bytes(), Work::Task(task), setup) {
+        Ok(line) => match answer_line(alloc, line.as_bytes(), task, setup) {
             Ok(answer) => answer.ended == Ended::Done,
             Err(_) => false,
         },

@@ -7,16 +7,14 @@ ghost use Rattle.odb_engine.specs.Cascade.{Accepts};
 ghost use Rattle.odb_engine.specs.Contents.Given.{ByReader, InMemory};
 ghost use Rattle.odb_engine.specs.Inputs.{SomeDocument};
 ghost use Rattle.odb_engine.specs.ReadAgain.{IsReadAgain};
-ghost use Rattle.odb_engine.specs.FullPlans.{OfWholeLine};
-ghost use Rattle.odb_engine.specs.Tasks.{OfDocuments};
-ghost use Rattle.odb_engine.specs.declared.lines.work.Work.TheVariants as works;
+ghost use Rattle.odb_engine.specs.Tasks.{OfDocuments, OfWholeLine, takes_bytes};
 ghost use Rattle.odb_engine.specs.declared.ending.Ended.TheVariants.{Done};
 ghost use Rattle.odb_engine.specs.declared.form.Form.TheVariants.{Lines};
 ghost use Rattle.odb_testing.specs.Readings.{AreOne};
 
 use crate::engines::{EVENTS, EXAMPLES, Example, FREE, OUTCOMES, called_plainly};
 use odb_engine::laws::{one_document, one_text, read_again};
-use odb_engine::{Ended, Form, Setup, Task, Work, answer_in_memory, answer_line};
+use odb_engine::{Ended, Form, Setup, Task, answer_in_memory, answer_line};
 use odb_io::{Input, Output};
 use odb_sched::{Mode, Order, Policy};
 use odb_testing::{PAIR, Two};
@@ -44,7 +42,7 @@ pub fn written(alloc: Global, batch: &[u8], second: &[u8], task: Task) -> Option
 }
 
 fn written_twice(alloc: Global, batch: &[u8], second: &[u8], task: Task) -> Two<Written>
-    ensures { AreOne result.0 result.1 }
+    ensures { takes_bytes task ≡ false → AreOne result.0 result.1 }
 {
     one_document();
     one_text();
@@ -88,7 +86,7 @@ fn answered_twice(
     task: Task,
     form: Form,
 ) -> Two<Written>
-    ensures { AreOne result.0 result.1 }
+    ensures { takes_bytes task ≡ false → AreOne result.0 result.1 }
 {
     one_text();
     (
@@ -99,16 +97,16 @@ fn answered_twice(
 
 /// Does a task on a line.
 pub fn line_answered(alloc: Global, line: &[u8], task: Task, form: Form) -> Option<Written>
-    ensures { IfSome result (λ it. OfWholeLine (works.Task task) line.now form it.0 it.1.items) }
+    ensures { IfSome result (λ it. OfWholeLine task line.now form it.0 it.1.items) }
 {
-    match answer_line(alloc, line, Work::Task(task), in_form(form)) {
+    match answer_line(alloc, line, task, in_form(form)) {
         Ok(answer) => Some((answer.ended, answer.text)),
         Err(_) => None,
     }
 }
 
 fn line_answered_twice(alloc: Global, line: &[u8], task: Task, form: Form) -> Two<Written>
-    ensures { AreOne result.0 result.1 }
+    ensures { takes_bytes task ≡ false → AreOne result.0 result.1 }
 {
     one_text();
     (
@@ -222,7 +220,12 @@ fn tasks_write_one_line_of_json_of_a_fault(rt: HostRuntime) {
     for (batch, line) in &REFUSED {
         let twice = answered_twice(rt.alloc(), batch.as_bytes(), &[], CHECK, Form::Json);
         assert!(rt; are_refused(&twice, line));
-        let twice = line_answered_twice(rt.alloc(), batch.as_bytes(), Task::Plan, Form::Json);
+        let twice = line_answered_twice(
+            rt.alloc(),
+            batch.as_bytes(),
+            Task::Plan { full: false },
+            Form::Json,
+        );
         assert!(rt; are_refused(&twice, line));
     }
 }

@@ -33,7 +33,7 @@ returns c =
       causes = record { one_refusal = c.every_cause.ensures.one_refusal; one_unknown = c.every_cause.ensures.one_unknown };
     } in
     record {
-      task = λ task form bytes left. documents-one law task form (ByReader (Some left)) tt bytes;
-      memory = λ task form bytes second. documents-one law task form (InMemory second) tt bytes;
-      line = line-one law;
+      task = λ task form bytes left alone. documents-one law task alone form (ByReader (Some left)) tt bytes;
+      memory = λ task form bytes second alone. documents-one law task alone form (InMemory second) tt bytes;
+      line = λ task form line alone. line-one law task alone form line;
     }

@@ -1,9 +1,8 @@
 use Rattle.std.proofs.Common.{subst, sym}
 use Rattle.odb_engine.specs.declared.form.Form.{Form}
-use Rattle.odb_engine.specs.declared.lines.work.Work.{Work}
-use Rattle.odb_engine.specs.declared.lines.work.Work.TheVariants as works
+use Rattle.odb_engine.specs.declared.tasks.task.Task.{Task}
 use Rattle.odb_engine.specs.Cascade.{Writes, IsOne}
-use Rattle.odb_engine.specs.FullPlans.{OfWholeLine}
+use Rattle.odb_engine.specs.Tasks.{OfWholeLine}
 use Rattle.odb_engine.specs.lines.Answers.{AnswersEach, OfAnyLine}
 use Rattle.odb_engine.specs.lines.Lines.{lines_of}
 use Rattle.odb_testing.proofs.ReadingLemmas.{one_of}
@@ -13,11 +12,11 @@ pub returns : goal.returns
 returns c =
     let command = c.on_each_line-command.result in
     let lines = lines_of c.args.log.now in
-    one_of (λ it. it.0) (λ it. it.1.items) (AnswersEach (OfAnyLine (λ line. OfWholeLine command.work line command.setup.form)) lines) (c.one_text-2.ensures lines)
+    one_of (λ it. it.0) (λ it. it.1.items) (AnswersEach (OfAnyLine (λ _ line. OfWholeLine command.task line command.setup.form)) lines) (c.one_text-2.ensures lines)
     c.written.result c.written-2.result c.written.ensures c.written-2.ensures
 
 pub one_text-requires-2 : goal.one_text-requires-2
-one_text-requires-2 c bytes =
+one_text-requires-2 c number bytes =
     let each = c.on_each_line-command in
-    let P : Form → Work → Writes = λ form work. OfWholeLine work bytes form in
-    subst (λ work. IsOne (P each.result.setup.form work)) (sym each.ensures.work) (subst (λ form. IsOne (P form (works.Task c.args.task))) (sym each.ensures.form) (c.one_text.ensures.line c.args.task c.args.form bytes))
+    let P : Form → Task → Writes = λ form task. OfWholeLine task bytes form in
+    subst (λ task. IsOne (P each.result.setup.form task)) (sym each.ensures.task) (subst (λ form. IsOne (P form c.args.task)) (sym each.ensures.form) (c.one_text.ensures.line c.args.task c.args.form bytes c.requires))

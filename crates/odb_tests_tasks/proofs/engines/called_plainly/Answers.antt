@@ -3,13 +3,9 @@ use Rattle.odb_engine.specs.Contents.Given.{ByReader}
 use Rattle.odb_engine.specs.Engines.{WritesText}
 use Rattle.odb_engine.specs.Inputs.{SomeDocument}
 use Rattle.odb_engine.specs.declared.form.Form.{Form}
-use Rattle.odb_engine.specs.declared.form.Form.TheVariants.{Lines}
 use Rattle.odb_engine.specs.Tasks.{OfDocuments}
 use Rattle.odb_tests_tasks.proofs.LawLemmas.{written-of}
 use Rattle.odb_tests_tasks.proofs.engines.called_plainly.Goals as goal
-
-pub returns-in-Plan : goal.returns-in-Plan
-returns-in-Plan g c = rw c.in-Plan.is (written-of g.W.Write.contents c.args.output.now c.plan_batch.new.output _ _ _ c.plan_batch.result (λ bytes e. e.ended) c.plan_batch.ensures.ends)
 
 pub returns-in-Canon : goal.returns-in-Canon
 returns-in-Canon g c = rw c.in-Canon.is (written-of g.W.Write.contents c.args.output.now c.canon_batch.new.output _ _ _ c.canon_batch.result (λ bytes e. e.ended) c.canon_batch.ensures.ends)

@@ -24,7 +24,7 @@ returns-in_default-clause-advances g c =
     let bytes = c.ahead-ahead.result.now in
     let all : take (length bytes) (ahead c.args.input.now) ≡ bytes = ap (take (length bytes)) (sym c.ahead-ahead.ensures) ∙ take_all (length bytes) bytes (le_refl _) in
     let taken = subst (Consumes (left remaining c.args.input.now) (left remaining c.take.new.self)) all c.take.ensures.taken in
-    Holds bytes (IsOpen-all bytes c.in_default.ensures) taken (refl {a = c.args.output.now}) c.in_ok-kept.ensures refl
+    Holds bytes (IsOpen-all bytes c.in_default.ensures) taken (refl {a = c.args.output.now}) refl c.in_ok-kept.ensures refl
 
 pub returns-clause-advances : goal.returns-clause-advances
 returns-clause-advances g c =
@@ -35,4 +35,4 @@ returns-clause-advances g c =
     let through : take (at + 1) (ahead c.args.input.now) ≡ take at bytes ++ newline ∷ [] =
     ap (take (at + 1)) (sym c.ahead-ahead.ensures) ∙ take-newline bytes at found.0.high found.1 in
     let taken = subst (Consumes (left remaining c.args.input.now) (left remaining c.take-2.new.self)) through c.take-2.ensures.taken in
-    Answers (take at bytes) (IsOpen-take bytes at (omega (arith, found.0.high)) found.0.before) taken c.answer_line-answered.ensures.ends c.answer_line-answered.ensures.emptied
+    Answers (take at bytes) (IsOpen-take bytes at (omega (arith, found.0.high)) found.0.before) taken refl c.answer_line-answered.ensures.ends c.answer_line-answered.ensures.emptied

@@ -5,4 +5,4 @@ use Rattle.odb_engine.proofs.lines.laws.one_text.Goals as goal
 pub returns : goal.returns
 returns g c =
     let P = g.C.LineCommand.writes c.args.command.now in
-    answers-one (OfAnyLine P) (OfAnyLine-one P c.requires)
+    answers-one (OfAnyLine P) (OfAnyLine-one P c.requires) 1

@@ -12,5 +12,5 @@ returns-then-is_empty-clause-ends g c =
     let least : c.min.result ≡ min most_read (length end) = omega (arith, c.min.ensures) in
     let same : take c.min.result end ≡ cut (c.args.held.now.items ++ end) =
     ap (λ n. take n end) least ∙ take_min most_read end ∙ ap (λ l. cut (l ++ end)) (sym none) in
-    subst (λ line. EndsAnswer g.W.Write.contents (g.C.LineCommand.writes c.args.command.now line) c.args.output.now c.answer.new.output c.answer.result) same
+    subst (λ line. EndsAnswer g.W.Write.contents (g.C.LineCommand.writes c.args.command.now c.args.number line) c.args.output.now c.answer.new.output c.answer.result) same
     (record { ends = c.answer.ensures.ends; memory = c.answer.ensures.memory })

@@ -2,7 +2,7 @@ use Rattle.std.proofs.Common.{◌≡◌, ◌∙◌, true, false, sym, subst, rul
 use Rattle.std.proofs.lemmas.Bool.{true≢false}
 use Rattle.odb_engine.specs.Halts.{Found}
 use Rattle.odb_engine.specs.Tasks.{InLine, OfTask, takes_second}
-use Rattle.odb_engine.proofs.PairLawLemmas.{second-alone}
+use Rattle.odb_engine.proofs.PairLawLemmas.{second-alone, values-alone}
 use Rattle.odb_engine.proofs.lines.task.text_of_line.Goals as goal
 
 pub returns-then-takes_second-clause-found : goal.returns-then-takes_second-clause-found
@@ -22,3 +22,8 @@ returns-then-takes_second-clause-listed c lists =
 
 pub returns-clause-listed : goal.returns-clause-listed
 returns-clause-listed c = c.text_of.ensures.found.0.1
+
+pub text_of_pair-requires : goal.text_of_pair-requires
+text_of_pair-requires c =
+    let two : takes_second c.args.task ≡ true = search rules in
+    values-alone c.args.task two

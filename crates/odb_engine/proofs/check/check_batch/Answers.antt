@@ -1,4 +1,0 @@
-use Rattle.odb_engine.proofs.check.check_batch.Goals as goal
-
-pub returns-clause-ends : goal.returns-clause-ends
-returns-clause-ends g c = c.answer_one.ensures.ends

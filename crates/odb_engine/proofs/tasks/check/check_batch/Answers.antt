@@ -1,0 +1,4 @@
+use Rattle.odb_engine.proofs.tasks.check.check_batch.Goals as goal
+
+pub returns-clause-ends : goal.returns-clause-ends
+returns-clause-ends g c = c.answer_one.ensures.ends

@@ -1,0 +1,32 @@
+-- What is written of the documents of two readers.
+use Rattle.std.proofs.Common.{◌≡◌, ◌⊎◌, IfOk, List, inl, refl, subst, ℕ}
+use Rattle.odb_engine.specs.Cascade.{Accepts}
+use Rattle.odb_engine.specs.Contents.{AskedFor}
+use Rattle.odb_engine.specs.Inputs.{SomeDocument, WasRead}
+use Rattle.odb_engine.specs.Located.{LocatesPair}
+use Rattle.odb_engine.proofs.EngineLemmas.{exit-error, some-document}
+use Rattle.odb_engine.proofs.RestLemmas.{asked-after}
+use Rattle.odb_engine.proofs.tasks.located.pair.answer_of.Goals as goal
+
+pub returns-in_err-document-clause-found : goal.returns-in_err-document-clause-found
+returns-in_err-document-clause-found g c =
+    let left = g.R.Read.remaining c.args.batch.now.reader in
+    let left_second = g.S.Read.remaining c.args.second.now.reader in
+    let second = c.args.second.now in
+    let (bytes, gives) = some-document left in
+    let (other, gives_other) = some-document left_second in
+    exit-error
+    (λ r. SomeDocument left (λ bytes. SomeDocument left_second (λ other. IfOk r (λ answer. LocatesPair c.args.work c.args.names.batch.now bytes c.args.names.second.now other c.args.setup.form answer.ended answer.text.items))
+    × AskedFor g.R.Read.remaining c.args.batch.now c.read_document.new.input bytes second second)) _ _ c.from_residual.ensures.1 (bytes, gives, ((other, gives_other, tt), inl refl))
+
+pub returns-clause-found : goal.returns-clause-found
+returns-clause-found g c =
+    let left_second = g.S.Read.remaining c.args.second.now.reader in
+    let old = c.args.second.now in
+    let new = c.answer_second.new.second in
+    let bytes = c.in_ok-document.document.items in
+    let was = WasRead g.R.Read.remaining c.args.batch.now c.read_document.new.input in
+    let so = subst (λ (bytes : List ℕ). SomeDocument left_second (λ other. IfOk c.answer_second.result (λ answer. LocatesPair c.args.work c.args.names.batch.now bytes c.args.names.second.now other c.args.setup.form answer.ended answer.text.items))) c.deref.ensures.value
+    c.answer_second.ensures.found in
+    let asked = subst (λ (bytes : List ℕ). (new ≡ old) ⊎ Accepts bytes (λ _. Unit {0})) c.deref.ensures.value c.answer_second.ensures.asked in
+    (bytes, c.in_ok-document.ensures.document, (so, asked-after (was bytes) bytes old new c.in_ok-document.ensures.whole asked))

@@ -1,0 +1,30 @@
+-- What is found of a batch that the check accepts and of a second document.
+use Rattle.std.proofs.Common.{IfErr, List, subst, ℕ}
+use Rattle.odb_doc.specs.batch.Batches.{records}
+use Rattle.odb_doc.specs.batch.Records.{Record}
+use Rattle.odb_check.specs.Plans.{plan_records}
+use Rattle.odb_engine.specs.Cascade.{Answers, IsLeast}
+use Rattle.odb_engine.specs.Halts.{Found, Halted, RefusesNamesOf}
+use Rattle.odb_engine.specs.Located.{OfPairWork}
+use Rattle.odb_engine.proofs.EngineLemmas.{Halted-weaker, exit-error, found-weaker}
+use Rattle.odb_engine.proofs.LiveLemmas.{least-names}
+use Rattle.odb_engine.proofs.RestLemmas.{accepted-answers}
+use Rattle.odb_engine.proofs.tasks.located.pair.read_second.Goals as goal
+
+pub returns-in_err-plan-clause-batch : goal.returns-in_err-plan-clause-batch
+returns-in_err-plan-clause-batch g c =
+    let bytes = c.args.document.now in
+    let batch = records c.in_ok-read.field-0 in
+    exit-error (λ r. IfErr r (Halted (IsLeast bytes))) _ _ c.from_residual-in_err-plan.ensures.1
+    (Halted-weaker (RefusesNamesOf batch) (IsLeast bytes) (λ refusal refuses. least-names bytes _ batch c.in_ok-value_in.ensures.value c.in_ok-read.ensures.good c.in_ok-read.ensures.records refusal refuses) _ c.in_err-plan.ensures.least)
+
+pub returns-clause-found : goal.returns-clause-found
+returns-clause-found g c =
+    let bytes = c.args.document.now in
+    let form = c.args.setup.form in
+    let batch = records c.in_ok-read.field-0 in
+    let P = OfPairWork c.args.work bytes c.in_ok-bytes.bytes.items in
+    let found = subst (λ (second : List ℕ). Found (OfPairWork c.args.work bytes second (plan_records c.in_ok-plan.plan.value)) form c.text_of-found.result) c.deref.ensures.value c.text_of-found.ensures.found in
+    found-weaker (P batch) (Answers P bytes) form c.text_of-found.result
+    (λ ended text writes. accepted-answers P bytes _ batch form ended text c.in_ok-value_in.ensures.value c.in_ok-read.ensures.good c.in_ok-read.ensures.records c.in_ok-plan.ensures.good writes)
+    (subst (λ (rs : List Record). Found (P rs) form c.text_of-found.result) c.in_ok-plan.ensures.plan found)

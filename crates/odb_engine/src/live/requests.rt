@@ -1,0 +1,42 @@
+//! What is to be sent of each request of a batch.
+
+ghost use Rattle.std.specs.Prelude.{◌≢◌, Err, IfOk, IfErr};
+ghost use Rattle.odb_engine.specs.Cascade.{IsLeast};
+ghost use Rattle.odb_engine.specs.Halts.{Halted};
+ghost use Rattle.odb_engine.specs.Requests.{Sends};
+ghost use Rattle.odb_engine.specs.declared.halt.Halt.TheVariants as halts;
+
+use crate::form::Form;
+use crate::halt::Halt;
+use crate::input::value_in;
+use crate::setup::Setup;
+use crate::tasks::command::plan_of;
+use odb_check::Seed;
+use odb_doc::{Batch, Place};
+use odb_send::{Requests, requests_of};
+use std::alloc::Global;
+
+/// Returns what is to be sent of each request of the batch in a document, in the order of the batch (OData JSON
+/// Format 4.01, section 19.1): its id, method, URL, the request that its URL refers to with the rest of the URL, its
+/// headers and group, and the bytes of its body in the document, which are not changed.
+///
+/// Names are looked up by the seed. Takes O(n log n) time and O(n) memory for a document of n bytes.
+///
+/// Example: `finds_what_is_to_be_sent` in crates/odb_tests_engine/src/requests.rt.
+///
+/// # Errors
+///
+/// `Refused` by the first fault of the batch, as [`crate::check_batch`] refuses it; `OutOfMemory` if an allocation
+/// fails. Never `Read`.
+pub fn requests_in(alloc: Global, batch: &[u8], seed: Seed) -> Result<Requests, Halt>
+    ensures requests { IfOk result (Sends batch.now) }
+    ensures least { IfErr result (Halted (IsLeast batch.now)) }
+    ensures read { result ≢ Err halts.Read }
+{
+    let value = value_in(alloc, batch, Place::Batch)?;
+    let read = Batch::read(alloc, &value)?;
+    let setup = Setup::new(Form::Lines, seed);
+    let plan = plan_of(alloc, &read, setup)?;
+    let found = requests_of(alloc, batch, &plan.value)?;
+    Ok(found)
+}

@@ -1,0 +1,33 @@
+//! Tasks: what is done with a batch document, and with a second document if the task takes one.
+//!
+//! `command` goes from the sources to the text of a [`Command`], and `task` has the [`Task`]s. Each of the others has the
+//! text of a command, or is about what is written of its faults.
+
+mod all_faults;
+mod answer;
+mod canon;
+mod check;
+pub(crate) mod command;
+mod located;
+mod match_responses;
+mod plan;
+mod replay;
+mod response;
+mod rest;
+pub(crate) mod run;
+mod source;
+pub(crate) mod task;
+
+pub use all_faults::faults_in;
+pub use answer::{Answer, answer_in_memory, answer_line};
+pub use canon::canon_batch;
+pub use check::check_batch;
+pub use command::{Command, answer_task, plan_of, text_of};
+pub use located::{Names, PairWork, answer_located, locate_batch, locate_pair};
+pub use match_responses::match_batch;
+pub use plan::plan_batch;
+pub use replay::replay_batch;
+pub use rest::{rest_batch, rest_in, rest_written};
+pub use run::run_batch;
+pub use source::{Document, Source};
+pub use task::Task;

@@ -1,0 +1,159 @@
+//! What a command writes, in memory.
+
+ghost use Rattle.std.specs.Prelude.{◌≡◌, ◌≤◌, ◌++◌, ◌↔◌, true, false, length, drop, map, IfOk, IsTrue, string_bytes};
+ghost use Rattle.odb_doc.specs.Refusals.{printed};
+ghost use Rattle.odb_engine.specs.Answered.{listed_found};
+ghost use Rattle.odb_engine.specs.Contents.Given.{InMemory};
+ghost use Rattle.odb_engine.specs.declared.ending.Ended.TheVariants.{Done};
+ghost use Rattle.odb_engine.specs.Halts.{text_found};
+ghost use Rattle.odb_engine.specs.Tasks.{OfDocuments, OfWholeLine};
+
+use crate::ending::{Ended, fault_text, refused_text};
+use crate::form::Form;
+use crate::halt::Halt;
+use crate::lines::text_of_line;
+use crate::setup::Setup;
+use crate::tasks::command::{Command, text_of};
+use crate::tasks::task::Task;
+use odb_doc::Refusal;
+use std::alloc::{AllocError, Global};
+
+/// How a command ended, and the whole text that it wrote.
+#[derive(Drop)]
+pub struct Answer {
+    /// How it ended.
+    pub ended: Ended,
+    /// What it wrote, in UTF-8.
+    pub text: Vec<u8>,
+}
+
+impl Answer {
+    /// Returns what is written of what was found: the text, or the fault in a form.
+    ///
+    /// # Errors
+    ///
+    /// `AllocError` if memory ran out, or if a read failed, which no read of memory does.
+    pub fn of(alloc: Global, form: Form, found: Result<String, Halt>) -> Result<Self, AllocError>
+        ensures { IfOk result (λ answer. text_found form found answer.ended answer.text.items) }
+    {
+        let (ended, text) = match found {
+            Ok(text) => (Ended::Done, text),
+            Err(halt) => (Ended::Refused, fault_text(alloc, form, halt.refusal()?)?),
+        };
+        Ok(Answer {
+            ended,
+            text: text.into_bytes(),
+        })
+    }
+
+    /// Returns what is written of what was found: the text, the fault in a form, or all faults if they are listed.
+    ///
+    /// # Errors
+    ///
+    /// `AllocError` if memory ran out, or if a read failed, which no read of memory does.
+    pub(crate) fn listed(
+        alloc: Global,
+        form: Form,
+        all: bool,
+        found: Result<String, Halt>,
+        faults: &[Refusal],
+    ) -> Result<Self, AllocError>
+        ensures { IfOk result (λ answer. listed_found all form (map printed faults.now) found
+            answer.ended answer.text.items) }
+    {
+        let (ended, text) = match found {
+            Ok(text) => (Ended::Done, text),
+            Err(halt) => {
+                let refusal = halt.refusal()?;
+                (
+                    Ended::Refused,
+                    refused_text(alloc, form, all, refusal, faults)?,
+                )
+            }
+        };
+        Ok(Answer {
+            ended,
+            text: text.into_bytes(),
+        })
+    }
+
+    /// Returns the answer of a command that writes this text as its result.
+    pub(crate) fn done(text: String) -> Self
+        ensures ended { result.ended ≡ Done }
+        ensures text { result.text.items ≡ string_bytes text }
+    {
+        Answer {
+            ended: Ended::Done,
+            text: text.into_bytes(),
+        }
+    }
+
+    /// Copies the text to the start of a buffer, if it fits, and returns whether it does. The rest of the
+    /// buffer is as it was; all of it is, if the text is longer.
+    pub fn copy_to(&self, buffer: &mut [u8]) -> bool
+        ensures fits { IsTrue result ↔ (length self.now.text.items ≤ length buffer.old) }
+        ensures copied { result ≡ true
+            → buffer.new ≡ self.now.text.items ++ drop (length self.now.text.items) buffer.old }
+        ensures same { result ≡ false → buffer.new ≡ buffer.old }
+    {
+        let length = self.text.len();
+        if length > buffer.len() {
+            return false;
+        }
+        buffer[..length].copy_from_slice(&self.text);
+        true
+    }
+}
+
+/// Does a task on a batch document in memory, and on a second document if the task takes one: returns what
+/// is written, in the form of the setup. The documents are not copied.
+///
+/// Example: `answered` in crates/odb_tests_tasks/src/laws/engines.rt.
+///
+/// # Errors
+///
+/// `AllocError` if an allocation fails.
+pub fn answer_in_memory(
+    alloc: Global,
+    batch: &[u8],
+    second: &[u8],
+    task: Task,
+    setup: Setup,
+) -> Result<Answer, AllocError>
+    ensures { IfOk result (λ answer. OfDocuments task (InMemory second.now) batch.now setup.form
+        answer.ended answer.text.items) }
+{
+    let all = task.lists_all();
+    let (mut first, mut second, mut task) = (batch, second, task);
+    let mut faults = Vec::new(alloc);
+    let found = text_of(
+        alloc,
+        &mut first,
+        &mut second,
+        &mut task,
+        setup,
+        &mut faults,
+    );
+    Answer::listed(alloc, setup.form, all, found, &faults)
+}
+
+/// Does a task on a line of a log: returns what is written of the document in it, or of the two
+/// documents in it if the task takes two, in the form of the setup. The line may be any bytes; they are not copied.
+///
+/// Example: `line_answered` in crates/odb_tests_tasks/src/laws/engines.rt.
+///
+/// # Errors
+///
+/// `AllocError` if an allocation fails.
+pub fn answer_line(
+    alloc: Global,
+    line: &[u8],
+    task: Task,
+    setup: Setup,
+) -> Result<Answer, AllocError>
+    ensures { IfOk result (λ answer. OfWholeLine task line.now setup.form answer.ended answer.text.items) }
+{
+    let mut faults = Vec::new(alloc);
+    let found = text_of_line(alloc, line, task, setup, &mut faults);
+    Answer::listed(alloc, setup.form, task.lists_all(), found, &faults)
+}

@@ -1,0 +1,306 @@
+//! Commands that report each fault with where it is in its document.
+//!
+//! A position can be found only in the bytes of a document, so the documents are held in memory. What a command writes
+//! of good documents is the same, and takes no more time.
+
+ghost use Rattle.std.specs.Prelude.{◌≡◌, ◌↔◌, true, false, Err, IfOk, IsTrue, None, map, string_bytes};
+ghost use Rattle.odb_doc.specs.Refusals.{printed};
+ghost use Rattle.odb_text.specs.Lines.{printed_at};
+ghost use Rattle.odb_engine.specs.declared.halt.Halt.TheVariants as halts;
+ghost use Rattle.odb_engine.specs.Answered.{LocatesFault, answer_found};
+ghost use Rattle.odb_engine.specs.Engines.{Ends};
+ghost use Rattle.odb_engine.specs.Inputs.{IsFresh, ReadsFew, SomeDocument};
+ghost use Rattle.odb_engine.specs.Tasks.{lists_all};
+ghost use Rattle.odb_engine.specs.Located.{AreLocated, HasPosition, LocatesBy, LocatesTask, PrintsAll, StandsIn, all_located_text, located_text, numbered};
+
+mod pair;
+
+use crate::ending::{Ended, EngineFault};
+use crate::form::Form;
+use crate::halt::Halt;
+use crate::input::read_document;
+use crate::lines::text_of_line;
+use crate::setup::Setup;
+use crate::tasks::answer::Answer;
+use crate::tasks::command::Command;
+use crate::tasks::task::Task;
+use odb_doc::{Place, Refusal};
+use odb_io::{Input, Output};
+use odb_spans::{Position, position_in_pair, position_of, positions_of};
+use odb_text::{Located, all_located_json, located_json, located_line, located_lines};
+pub use pair::{Names, PairWork, locate_pair};
+use std::alloc::{AllocError, Global};
+use std::io::{Read, Write};
+
+/// Returns a fault with where it is, in the document of this name.
+fn located_text(alloc: Global, form: Form, name: &str, fault: Located) -> Result<String, AllocError>
+    ensures { IfOk result (λ text. string_bytes text ≡ located_text form name.now (printed_at fault)) }
+{
+    match form {
+        Form::Lines => located_line(alloc, name, fault),
+        Form::Json => located_json(alloc, fault),
+    }
+}
+
+/// Returns faults with where they are, in the document of this name.
+fn all_located_text(
+    alloc: Global,
+    form: Form,
+    name: &str,
+    faults: &[Located],
+) -> Result<String, AllocError>
+    ensures { IfOk result (λ text. string_bytes text
+        ≡ all_located_text form name.now (map printed_at faults.now)) }
+{
+    match form {
+        Form::Lines => located_lines(alloc, name, faults),
+        Form::Json => all_located_json(alloc, faults),
+    }
+}
+
+/// Returns where a fault is in a document, or in an array of two documents.
+fn found_at(
+    alloc: Global,
+    document: &[u8],
+    is_pair: bool,
+    place: Place,
+) -> Result<Position, AllocError>
+    ensures { IfOk result (StandsIn is_pair document.now place) }
+{
+    if is_pair {
+        position_in_pair(alloc, document, place)
+    } else {
+        position_of(alloc, document, place)
+    }
+}
+
+/// Returns a position in the line of a log that has this number, or in a document without one.
+fn numbered(number: Option<usize>, position: Position) -> Position
+    ensures { result ≡ numbered number position }
+{
+    match number {
+        None => position,
+        Some(line) => Position { line, ..position },
+    }
+}
+
+/// Returns where a fault is in a document, in an array of two documents, or in such a line of a log.
+fn position_at(
+    alloc: Global,
+    document: &[u8],
+    number: Option<usize>,
+    is_pair: bool,
+    place: Place,
+) -> Result<Position, AllocError>
+    ensures { IfOk result (HasPosition number is_pair document.now place) }
+{
+    let found = found_at(alloc, document, is_pair, place)?;
+    Ok(numbered(number, found))
+}
+
+/// Returns the fault of a document with where it is. The document, or the log that has it as a line, has this name.
+fn locate(
+    alloc: Global,
+    document: &[u8],
+    is_pair: bool,
+    name: &str,
+    number: Option<usize>,
+    form: Form,
+    refusal: Refusal,
+) -> Result<Answer, AllocError>
+    ensures { IfOk result (λ answer. LocatesFault (HasPosition number is_pair document.now refusal.place)
+        form name.now (printed refusal) answer.ended answer.text.items) }
+{
+    let position = position_at(alloc, document, number, is_pair, refusal.place)?;
+    let text = located_text(alloc, form, name, Located { refusal, position })?;
+    Ok(Answer {
+        ended: Ended::Refused,
+        text: text.into_bytes(),
+    })
+}
+
+/// Returns what a task writes of a document in memory, or its fault with where it is.
+fn answer_of_task(
+    alloc: Global,
+    document: &[u8],
+    name: &str,
+    number: Option<usize>,
+    task: Task,
+    setup: Setup,
+) -> Result<Answer, AllocError>
+    ensures { IfOk result (λ answer. LocatesBy false task name.now number document.now setup.form
+        answer.ended answer.text.items) }
+{
+    match text_of_line(alloc, document, task, setup, &mut Vec::new(alloc)) {
+        Ok(text) => Ok(Answer::done(text)),
+        Err(Halt::Refused(refusal)) => {
+            locate(
+                alloc,
+                document,
+                task.takes_second(),
+                name,
+                number,
+                setup.form,
+                refusal,
+            )
+        }
+        Err(_) => Err(AllocError),
+    }
+}
+
+/// Returns faults of a document with where they are, in this order.
+fn all_located(
+    alloc: Global,
+    document: &[u8],
+    number: Option<usize>,
+    refusals: &[Refusal],
+) -> Result<Vec<Located>, AllocError>
+    ensures { IfOk result (λ faults. AreLocated number document.now (map printed refusals.now)
+        (map printed_at faults.items)) }
+{
+    let positions = positions_of(alloc, document, refusals)?;
+    let mut faults = Vec::with_capacity(alloc, refusals.len())?;
+    for at in 0..refusals.len() {
+        faults.push(Located {
+            refusal: refusals[at],
+            position: numbered(number, positions[at]),
+        })?;
+    }
+    Ok(faults)
+}
+
+/// Returns the answer that prints these faults of a document with where they are.
+fn located_answer(
+    alloc: Global,
+    document: &[u8],
+    name: &str,
+    number: Option<usize>,
+    form: Form,
+    refusals: &[Refusal],
+) -> Result<Answer, AllocError>
+    ensures { IfOk result (λ answer. PrintsAll name.now number document.now form (map printed refusals.now)
+        answer.ended answer.text.items) }
+{
+    let faults = all_located(alloc, document, number, refusals)?;
+    let text = all_located_text(alloc, form, name, &faults)?;
+    Ok(Answer {
+        ended: Ended::Refused,
+        text: text.into_bytes(),
+    })
+}
+
+/// Returns what a task writes of a document in memory, or all its faults with where they are.
+fn answer_of_all(
+    alloc: Global,
+    document: &[u8],
+    name: &str,
+    number: Option<usize>,
+    task: Task,
+    setup: Setup,
+) -> Result<Answer, AllocError>
+    requires { lists_all task ≡ true }
+    ensures { IfOk result (λ answer. LocatesBy true task name.now number document.now setup.form
+        answer.ended answer.text.items) }
+{
+    let mut faults = Vec::new(alloc);
+    match text_of_line(alloc, document, task, setup, &mut faults) {
+        Ok(text) => Ok(Answer::done(text)),
+        Err(Halt::Refused(_)) => {
+            located_answer(alloc, document, name, number, setup.form, &faults)
+        }
+        Err(_) => Err(AllocError),
+    }
+}
+
+/// Does a task on a document in memory, or on a line of a log, as [`crate::answer_line`] does: returns what is written, in the form of the setup, and each fault with where it
+/// is in the document: after `NAME:LINE:COLUMN: `, or as the members `line`, `column` and `offset` of its JSON.
+///
+/// `name` is that of the document, or of the log. If the document is a line of a log, `number` is that of the line,
+/// which is reported as the line of each fault; the column and the offset count within it. Of a good document nothing
+/// else is written, and it takes no more time; the positions of all faults are found in O(n) for a document of n bytes.
+///
+/// # Errors
+///
+/// `AllocError` if an allocation fails.
+pub fn answer_located(
+    alloc: Global,
+    document: &[u8],
+    name: &str,
+    number: Option<usize>,
+    task: Task,
+    setup: Setup,
+) -> Result<Answer, AllocError>
+    ensures { IfOk result (λ answer. LocatesTask task name.now number document.now setup.form
+        answer.ended answer.text.items) }
+{
+    if task.lists_all() {
+        answer_of_all(alloc, document, name, number, task, setup)
+    } else {
+        answer_of_task(alloc, document, name, number, task, setup)
+    }
+}
+
+/// Writes an answer, and returns how the engine ended.
+pub(crate) fn put_answer<W: Write>(
+    found: Result<Answer, Halt>,
+    output: &mut Output<W>,
+) -> Result<Ended, EngineFault>
+    requires { output.old.failed ≡ false }
+    ensures ends { Ends W.contents (answer_found found) (found ≡ Err halts.Read)
+        output.old output.new result }
+    ensures memory { result ≡ Err EngineFault.OutOfMemory → output.new ≡ output.old }
+{
+    let answer = match found {
+        Ok(answer) => answer,
+        Err(Halt::Read) => return Err(EngineFault::Read),
+        Err(_) => return Err(EngineFault::OutOfMemory),
+    };
+    output.put_all(&answer.text)?;
+    Ok(answer.ended)
+}
+
+/// Returns what is written of the document of a reader.
+fn answer_of<R: Read>(
+    alloc: Global,
+    input: &mut Input<R>,
+    name: &str,
+    task: Task,
+    setup: Setup,
+) -> Result<Answer, Halt>
+    requires { IsFresh input.old }
+    ensures found { SomeDocument (R.remaining input.old.reader) (λ bytes. IfOk result (λ answer.
+        LocatesTask task name.now None bytes setup.form answer.ended answer.text.items)) }
+    ensures read { (result ≡ Err halts.Read) ↔ IsTrue input.new.failed }
+    ensures few { ReadsFew R.remaining input.old input.new }
+{
+    let document = read_document(alloc, input)?;
+    Ok(answer_located(alloc, &document, name, None, task, setup)?)
+}
+
+/// Does a task on the document of a reader: writes its result, or each fault with where it is in the document of this
+/// name, as [`answer_located`] does.
+///
+/// The input must be new, and the output must not have failed. The document and the text are held in memory.
+///
+/// # Errors
+///
+/// Those of [`crate::check_batch`].
+pub fn locate_batch<R: Read, W: Write>(
+    alloc: Global,
+    input: &mut Input<R>,
+    output: &mut Output<W>,
+    name: &str,
+    task: Task,
+    setup: Setup,
+) -> Result<Ended, EngineFault>
+    requires input { IsFresh input.old }
+    requires output { output.old.failed ≡ false }
+    ensures ends { SomeDocument (R.remaining input.old.reader) (λ bytes. Ends W.contents
+        (LocatesTask task name.now None bytes setup.form) (IsTrue input.new.failed)
+        output.old output.new result) }
+    ensures memory { result ≡ Err EngineFault.OutOfMemory → output.new ≡ output.old }
+    ensures reads { ReadsFew R.remaining input.old input.new }
+{
+    let found = answer_of(alloc, input, name, task, setup);
+    put_answer(found, output)
+}

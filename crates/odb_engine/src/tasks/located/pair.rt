@@ -1,0 +1,270 @@
+//! Commands over a batch document and a second document, which report a fault with where it is in either.
+
+ghost use Rattle.std.specs.Prelude.{◌≡◌, ◌≢◌, ◌⊎◌, ◌↔◌, false, Err, IfErr, IfOk, IsTrue};
+ghost use Rattle.serde_json.specs.Data.{Data};
+ghost use Rattle.odb_check.specs.Plans.{plan_records};
+ghost use Rattle.odb_check.specs.Seeds.{IsSeeded};
+ghost use Rattle.odb_doc.specs.batch.Batches.{records};
+ghost use Rattle.odb_doc.specs.Refusals.{printed};
+ghost use Rattle.odb_send.specs.Parts.{IsBatchIn};
+ghost use Rattle.odb_engine.specs.Cascade.{Accepts, Answers, IsLeast};
+ghost use Rattle.odb_engine.specs.declared.halt.Halt.TheVariants as halts;
+ghost use Rattle.odb_engine.specs.Engines.{Ends};
+ghost use Rattle.odb_engine.specs.Halts.{Found, Halted};
+ghost use Rattle.odb_engine.specs.Contents.{AskedFor};
+ghost use Rattle.odb_engine.specs.Inputs.{GivesDocument, IsFresh, ReadsFew, SomeDocument};
+ghost use Rattle.odb_engine.specs.Answered.{LocatesEither, LocatesFound};
+ghost use Rattle.odb_engine.specs.Located.{LocatesPair, OfPairWork};
+ghost use Rattle.odb_engine.specs.Rests.{EndsLine, RestsIn};
+
+use crate::disposal::DropOrLeak;
+use crate::ending::{Ended, EngineFault};
+use crate::form::Form;
+use crate::halt::Halt;
+use crate::input::{read_document, value_in};
+use crate::setup::Setup;
+use crate::tasks::answer::Answer;
+use crate::tasks::command::{Command, plan_of};
+use crate::tasks::located::{locate, put_answer};
+use crate::tasks::rest::rest_written;
+use crate::tasks::task::Task;
+use odb_check::Plan;
+use odb_doc::{Batch, Place, Refusal};
+use odb_io::{Input, Output};
+use odb_sched::Mode;
+use odb_spans::is_in_batch;
+use std::alloc::{AllocError, Global};
+use std::io::{Read, Write};
+
+/// What is done on a batch document and a second document.
+#[derive(Clone, Copy, Debug)]
+pub enum PairWork {
+    /// A task that takes a second document.
+    Task(Task),
+    /// Write the rest of the batch, by whether an error stops the service.
+    Rest(Mode),
+}
+
+/// The names of the documents, as faults are reported with them.
+#[derive(Clone, Copy, Debug)]
+pub struct Names<'n> {
+    pub batch: &'n str,
+    pub second: &'n str,
+}
+
+/// Returns the rest of the batch in a document by the responses in another, and a newline.
+fn rest_text(
+    alloc: Global,
+    document: &[u8],
+    plan: &Plan<'_>,
+    responses: &[u8],
+    mode: Mode,
+    setup: Setup,
+) -> Result<String, Halt>
+    requires document { (d : Data) × IsBatchIn document.now d (plan_records plan.now) }
+    requires seed { IsSeeded setup.seed.number plan.now }
+    ensures found { Found (EndsLine (RestsIn mode document.now responses.now (plan_records plan.now)))
+        setup.form result }
+    ensures read { result ≢ Err halts.Read }
+{
+    let value = value_in(alloc, responses, Place::Responses)?;
+    let mut text = rest_written(alloc, document, plan, value, mode, setup)?;
+    text.push_str("\n")?;
+    Ok(text)
+}
+
+/// Returns what is written of the batch in a document by a second document.
+fn text_of(
+    alloc: Global,
+    document: &[u8],
+    batch: &Batch<'_>,
+    plan: &Plan<'_>,
+    second: &[u8],
+    work: PairWork,
+    setup: Setup,
+) -> Result<String, Halt>
+    requires batch { records batch.now ≡ plan_records plan.now }
+    requires document { (d : Data) × IsBatchIn document.now d (plan_records plan.now) }
+    requires seed { IsSeeded setup.seed.number plan.now }
+    ensures found { Found (OfPairWork work document.now second.now (plan_records plan.now)) setup.form
+        result }
+    ensures read { result ≢ Err halts.Read }
+{
+    match work {
+        PairWork::Task(task) => {
+            let (mut second, mut task) = (second, task);
+            task.text(alloc, document, batch, plan, &mut second, setup)
+        }
+        PairWork::Rest(mode) => rest_text(alloc, document, plan, second, mode, setup),
+    }
+}
+
+/// The second document, and what was found of both.
+#[derive(Drop)]
+struct Second {
+    bytes: Vec<u8>,
+    found: Result<String, Halt>,
+}
+
+/// Reads the second document, if the check accepts the batch in the first, and returns it with what is found of both.
+fn read_second<S: Read>(
+    alloc: Global,
+    document: &[u8],
+    second: &mut Input<S>,
+    work: PairWork,
+    setup: Setup,
+) -> Result<Second, Halt>
+    requires { IsFresh second.old }
+    ensures batch { IfErr result (Halted (IsLeast document.now)) }
+    ensures second { IfOk result (λ it. GivesDocument (S.remaining second.old.reader) it.bytes.items) }
+    ensures found { IfOk result (λ it. Found (Answers (OfPairWork work document.now it.bytes.items)
+        document.now) setup.form it.found) }
+    ensures asked { (second.new ≡ second.old) ⊎ Accepts document.now (λ _. Unit {0}) }
+    ensures read { (result ≡ Err halts.Read) ↔ IsTrue second.new.failed }
+    ensures few { ReadsFew S.remaining second.old second.new }
+{
+    let value = DropOrLeak {
+        value: value_in(alloc, document, Place::Batch)?,
+        disposal: setup.disposal,
+    };
+    let batch = DropOrLeak {
+        value: Batch::read(alloc, &value.value)?,
+        disposal: setup.disposal,
+    };
+    let plan = plan_of(alloc, &batch.value, setup)?;
+    let bytes = read_document(alloc, second)?;
+    let found = text_of(
+        alloc,
+        document,
+        &batch.value,
+        &plan.value,
+        &bytes,
+        work,
+        setup,
+    );
+    Ok(Second { bytes, found })
+}
+
+/// Returns a fault with where it is, in the batch document or in the second one.
+fn locate_in_either(
+    alloc: Global,
+    form: Form,
+    names: Names<'_>,
+    batch: &[u8],
+    second: &[u8],
+    refusal: Refusal,
+) -> Result<Answer, AllocError>
+    ensures { IfOk result (λ answer. LocatesEither form names.entry.batch.now batch.now
+        names.entry.second.now second.now (printed refusal) answer.ended answer.text.items) }
+{
+    if is_in_batch(refusal.place) {
+        locate(alloc, batch, false, names.batch, None, form, refusal)
+    } else {
+        locate(alloc, second, false, names.second, None, form, refusal)
+    }
+}
+
+/// Returns what was found of two documents, or the fault with where it is in either.
+fn locate_found(
+    alloc: Global,
+    form: Form,
+    names: Names<'_>,
+    document: &[u8],
+    second: Second,
+) -> Result<Answer, AllocError>
+    ensures { IfOk result (λ answer. LocatesFound form names.entry.batch.now document.now
+        names.entry.second.now second.bytes.items second.found answer.ended answer.text.items) }
+{
+    let Second { bytes, found } = second;
+    match found {
+        Ok(text) => Ok(Answer::done(text)),
+        Err(Halt::Refused(refusal)) => {
+            locate_in_either(alloc, form, names, document, &bytes, refusal)
+        }
+        Err(_) => Err(AllocError),
+    }
+}
+
+/// Returns what is written of the batch in a document by the second document of a reader.
+fn answer_second<S: Read>(
+    alloc: Global,
+    document: &[u8],
+    second: &mut Input<S>,
+    names: Names<'_>,
+    work: PairWork,
+    setup: Setup,
+) -> Result<Answer, Halt>
+    requires { IsFresh second.old }
+    ensures found { SomeDocument (S.remaining second.old.reader) (λ bytes. IfOk result (λ answer.
+        LocatesPair work names.entry.batch.now document.now names.entry.second.now bytes setup.form
+        answer.ended answer.text.items)) }
+    ensures asked { (second.new ≡ second.old) ⊎ Accepts document.now (λ _. Unit {0}) }
+    ensures read { (result ≡ Err halts.Read) ↔ IsTrue second.new.failed }
+    ensures few { ReadsFew S.remaining second.old second.new }
+{
+    match read_second(alloc, document, second, work, setup) {
+        Ok(found) => Ok(locate_found(alloc, setup.form, names, document, found)?),
+        Err(Halt::Refused(refusal)) => {
+            Ok(locate_in_either(alloc, setup.form, names, document, &[], refusal)?)
+        }
+        Err(halt) => Err(halt),
+    }
+}
+
+/// Returns what is written of the documents of two readers.
+fn answer_of<R: Read, S: Read>(
+    alloc: Global,
+    batch: &mut Input<R>,
+    second: &mut Input<S>,
+    names: Names<'_>,
+    work: PairWork,
+    setup: Setup,
+) -> Result<Answer, Halt>
+    requires batch { IsFresh batch.old }
+    requires second { IsFresh second.old }
+    ensures found { SomeDocument (R.remaining batch.old.reader) (λ bytes.
+        SomeDocument (S.remaining second.old.reader) (λ other. IfOk result (λ answer. LocatesPair work
+        names.entry.batch.now bytes names.entry.second.now other setup.form answer.ended answer.text.items))
+        × AskedFor R.remaining batch.old batch.new bytes second.old second.new) }
+    ensures read { (result ≡ Err halts.Read) ↔ (IsTrue batch.new.failed ⊎ IsTrue second.new.failed) }
+    ensures batch { ReadsFew R.remaining batch.old batch.new }
+    ensures second { ReadsFew S.remaining second.old second.new }
+{
+    let document = read_document(alloc, batch)?;
+    answer_second(alloc, &document, second, names, work, setup)
+}
+
+/// Does a work on the batch in the document of a reader, by the second document of another: writes its result, or the
+/// least fault with where it is in either document, in the form of the setup: after `NAME:LINE:COLUMN: `, or as the
+/// members `line`, `column` and `offset` of its JSON.
+///
+/// The second document is read only if the check accepts the batch. The inputs must be new, and the output must not
+/// have failed. The documents and the text are held in memory.
+///
+/// # Errors
+///
+/// Those of [`crate::check_batch`], of either input.
+pub fn locate_pair<R: Read, S: Read, W: Write>(
+    alloc: Global,
+    batch: &mut Input<R>,
+    second: &mut Input<S>,
+    output: &mut Output<W>,
+    names: Names<'_>,
+    work: PairWork,
+    setup: Setup,
+) -> Result<Ended, EngineFault>
+    requires batch { IsFresh batch.old }
+    requires second { IsFresh second.old }
+    requires output { output.old.failed ≡ false }
+    ensures ends { SomeDocument (R.remaining batch.old.reader) (λ bytes.
+        SomeDocument (S.remaining second.old.reader) (λ other. Ends W.contents (LocatesPair work
+        names.entry.batch.now bytes names.entry.second.now other setup.form)
+        (IsTrue batch.new.failed ⊎ IsTrue second.new.failed) output.old output.new result)
+        × AskedFor R.remaining batch.old batch.new bytes second.old second.new) }
+    ensures memory { result ≡ Err EngineFault.OutOfMemory → output.new ≡ output.old }
+    ensures batch { ReadsFew R.remaining batch.old batch.new }
+    ensures second { ReadsFew S.remaining second.old second.new }
+{
+    let found = answer_of(alloc, batch, second, names, work, setup);
+    put_answer(found, output)
+}
