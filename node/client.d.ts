@@ -1,7 +1,7 @@
 // The entry `odb-batch/client`.
 
 import type { Bytes, Counts, Document, HeaderValues } from './index'
-import type { Answer, Fetched, Signal } from './perform'
+import type { Answer, FetchResponse, Signal } from './perform'
 
 /** A request of a {@link Batch}. As a text it is the reference `$id`, for URLs and conditions of later requests. */
 export class Reference {
@@ -48,7 +48,7 @@ export interface PostedBatch {
 }
 
 /** Posts a batch, and returns what that is answered. The body is the response document: bytes, a text or an object. */
-export type Post = (batch: PostedBatch) => Answer | Fetched | Promise<Answer | Fetched>
+export type Post = (batch: PostedBatch) => Answer | FetchResponse | Promise<Answer | FetchResponse>
 
 /**
  * A batch of requests (OData JSON Format 4.01, section 19), made by calls.
@@ -120,7 +120,7 @@ export class Batch {
 /** Options of a {@link BatchClient}. */
 export interface ClientOptions {
   /** What posts, as the global `fetch`, which is the default: with own authentication, or an agent. */
-  fetch?: (url: string, options: PostedBatch & { signal?: Signal }) => Fetched | Promise<Fetched>
+  fetch?: (url: string, options: PostedBatch & { signal?: Signal }) => FetchResponse | Promise<FetchResponse>
   /** Headers that each batch has besides, as `Authorization`. */
   headers?: HeaderValues
   /** For how many milliseconds an answer is waited for, up to 2³¹ - 1 or `Infinity`; 60,000 is the default. */

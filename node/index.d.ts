@@ -392,5 +392,6 @@ export interface Run extends Disposes {}
 export const version: string
 
 export {
-  Answer, Fetched, GroupFailed, PerformanceOptions, PerformOptions, PreparedRequest, Refusal, Send, Signal, Transaction, perform,
+  Answer, Fetched, FetchResponse, GroupFailed, PerformanceOptions, PerformOptions, PreparedRequest, Refusal, Send, SharedPerformOptions,
+  Signal, Transaction, perform,
 } from './perform'

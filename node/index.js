@@ -2,16 +2,16 @@
 
 // odb_batch in this process. index.d.ts says what each call takes and returns.
 
-const { canon, check, faults, match, output, plan, replay, rest, run } = require('./commands.js')
-const { Fault, Refused } = require('./faults.js')
-const { version: number } = require('./library.js')
-const { GroupFailed, Refusal } = require('./messages.js')
-const { perform } = require('./perform.js')
-const { requests } = require('./requests.js')
-const { Run } = require('./run.js')
+const { canon, check, faults, match, output, plan, replay, rest, run } = require('./calls/commands.js')
+const { requests } = require('./calls/requests.js')
+const { Run } = require('./calls/run.js')
+const { Fault, Refused } = require('./errors/faults.js')
+const { GroupFailed, Refusal } = require('./errors/refusals.js')
+const { version: number } = require('./library/index.js')
+const { perform } = require('./perform/index.js')
 
 /** The version of the library, MAJOR.MINOR.PATCH. */
-const version = [number / 10000, number / 100, number].map((it) => Math.floor(it) % 100).join('.')
+const version = [number / 10000, number / 100, number].map((part) => Math.floor(part) % 100).join('.')
 
 module.exports = {
   Fault,

@@ -1,6 +1,6 @@
 // The entry `odb-batch/middleware`.
 
-import type { PerformanceOptions, PreparedRequest } from './perform'
+import type { PreparedRequest, SharedPerformOptions } from './perform'
 
 /** A handler of `node:http`, as an app of Express is one, or what `app.callback()` of Koa returns. */
 export type Handler = (request: any, response: any) => unknown
@@ -10,7 +10,7 @@ export interface Injectable {
   inject(request: any): PromiseLike<{ statusCode: number; headers: Record<string, unknown>; rawPayload: Uint8Array }>
 }
 
-export interface BatchOptions extends PerformanceOptions {
+export interface BatchOptions extends SharedPerformOptions {
   /** The path to which batches are sent; `/$batch` is the default. The URLs of their requests are relative to its folder. */
   path?: string
   /** What the path of each request begins with, with a slash at its end; the folder of `path` is the default. */

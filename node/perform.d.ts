@@ -38,7 +38,7 @@ export interface Answer {
 }
 
 /** The response of a `fetch`, whose body is read. */
-export interface Fetched {
+export interface FetchResponse {
   status: number
   headers: Iterable<readonly [string, string]>
   arrayBuffer(): Promise<ArrayBuffer>
@@ -48,7 +48,7 @@ export interface Fetched {
  * Sends a request. What it throws is an answer, too: a {@link Refusal} its own, an error of the name `TimeoutError` or
  * `AbortError` or of a code such as `ETIMEDOUT` 504, one of a code such as `ECONNRESET` 502, and any other 500.
  */
-export type Send = (request: PreparedRequest) => Answer | Fetched | Promise<Answer | Fetched>
+export type Send = (request: PreparedRequest) => Answer | FetchResponse | Promise<Answer | FetchResponse>
 
 /**
  * Performs an atomicity group in a transaction: begins one, calls `body` once and waits for it, and commits if it is fulfilled,
@@ -57,8 +57,8 @@ export type Send = (request: PreparedRequest) => Answer | Fetched | Promise<Answ
  */
 export type Transaction = (group: string, body: () => Promise<void>) => PromiseLike<unknown>
 
-/** Options of a performance that a `$batch` has, too. */
-export interface PerformanceOptions {
+/** Options of `perform` that a `$batch` has, too. */
+export interface SharedPerformOptions {
   /** How many requests are sent at once, from 1, which is the default, to 10,000. */
   width?: number
   /** Without it a batch with atomicity groups is refused: 501, before anything is sent. */
@@ -81,7 +81,7 @@ export interface PerformanceOptions {
   log?: (error: unknown, what: string) => void
 }
 
-export interface PerformOptions extends PerformanceOptions {
+export interface PerformOptions extends SharedPerformOptions {
   /** `stop` starts nothing more after a status from 400 to 599; `continue` is the default. */
   mode?: 'continue' | 'stop'
   /** The absolute URL, with a slash at its end, that URLs are relative to; without it they stay as they are. */
@@ -106,6 +106,11 @@ export interface PerformOptions extends PerformanceOptions {
  * transaction; nothing was sent then. Rejects with a `TypeError` or a `RangeError` for an option that has none of its values.
  */
 export function perform(batch: Document, send: Send, options?: PerformOptions): Promise<Bytes>
+
+/** @deprecated The name of {@link FetchResponse} before. */
+export type Fetched = FetchResponse
+/** @deprecated The name of {@link SharedPerformOptions} before. */
+export type PerformanceOptions = SharedPerformOptions
 
 /** Thrown in place of an answer, from a function that sends or from a transaction. */
 export class Refusal extends Error {

@@ -6,7 +6,7 @@ const assert = require('node:assert/strict')
 const http = require('node:http')
 const { once } = require('node:events')
 const { test } = require('node:test')
-const { Batch, BatchClient, BatchFailed } = require('../client.js')
+const { Batch, BatchClient, BatchFailed } = require('../client/index.js')
 const { batchOf, outcomesOf, randomFrom } = require('./batches.js')
 const { Service } = require('./scripted.js')
 

@@ -5,10 +5,10 @@
 const assert = require('node:assert/strict')
 const { test } = require('node:test')
 const { inspect } = require('node:util')
-const { Batch, Group, Reference, RequestFailed } = require('../client.js')
+const { Batch, Group, Reference, RequestFailed } = require('../client/index.js')
 const { GROUP, SILENT, batch: described } = require('./performing.js')
 const { PATH, listening } = require('./serving.js')
-const { batch: mounted } = require('../middleware.js')
+const { batch: mounted } = require('../middleware/index.js')
 
 /** The elements of a batch. */
 function elementsOf(batch) {

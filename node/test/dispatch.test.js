@@ -9,8 +9,8 @@ const { test } = require('node:test')
 const { IncomingMessage, ServerResponse } = http
 http.IncomingMessage = class extends IncomingMessage {}
 http.ServerResponse = class extends ServerResponse {}
-const { dispatcher } = require('../dispatch.js')
-const { Room } = require('../room.js')
+const { dispatcher } = require('../middleware/dispatch.js')
+const { BodyBudget } = require('../middleware/body_budget.js')
 
 const GET = { method: 'GET', url: '/', headers: {} }
 
@@ -18,7 +18,7 @@ test('needs no call of a class without new', async () => {
   const app = (req, res) => res.end(`${req instanceof http.IncomingMessage} ${res instanceof http.ServerResponse}`)
   app.request = Object.create(http.IncomingMessage.prototype)
   app.response = Object.create(http.ServerResponse.prototype)
-  const { status, body } = await dispatcher(app)({}, GET, new Room(1000), {})
+  const { status, body } = await dispatcher(app)({}, GET, new BodyBudget(1000), {})
   assert.deepEqual([status, body.toString()], [200, 'true true'])
 })
 
@@ -35,14 +35,14 @@ function parted(count, after = () => {}) {
   }
 }
 
-test('takes of the room what is written as it is written, and gives back what is not kept', async () => {
-  const all = new Room(1000)
-  const room = new Room(60, all)
-  const left = () => [60, 50, 40, 30, 20, 10, 0].find((size) => room.take(size) && (room.give(size), true))
+test('takes of the budget what is written as it is written, and gives back what is not kept', async () => {
+  const all = new BodyBudget(1000)
+  const budget = new BodyBudget(60, all)
+  const left = () => [60, 50, 40, 30, 20, 10, 0].find((size) => budget.take(size) && (budget.giveBack(size), true))
   const found = []
   const lengthOf = async (count, method = 'GET') => {
     const handler = parted(count, () => found.push(left()))
-    return (await dispatcher(handler)({}, { ...GET, method }, room, {})).body?.length
+    return (await dispatcher(handler)({}, { ...GET, method }, budget, {})).body?.length
   }
   assert.equal(await lengthOf(2), 20)
   assert(found[1] <= 40 && found[1] < found[0], String(found))
@@ -52,8 +52,8 @@ test('takes of the room what is written as it is written, and gives back what is
   assert.equal(await lengthOf(7, 'POST'), undefined)
   assert.equal(await lengthOf(2), 20)
   assert.deepEqual([left(), all.take(961), all.take(960)], [20, false, true])
-  room.close()
-  assert.deepEqual([all.take(40), room.take(1)], [true, false])
-  room.give(1)
+  budget.close()
+  assert.deepEqual([all.take(40), budget.take(1)], [true, false])
+  budget.giveBack(1)
   assert.equal(all.take(1), false)
 })

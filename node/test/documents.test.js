@@ -4,7 +4,7 @@ const assert = require('node:assert/strict')
 const { test } = require('node:test')
 const vm = require('node:vm')
 const { Run, canon, check, match, output, replay, run } = require('..')
-const { bytesOf } = require('../documents.js')
+const { documentBytes } = require('../documents/bytes.js')
 
 const BATCH = { requests: [{ id: 'a', method: 'post', url: 'X', headers: { A: 'ä' } }, { id: 'b', method: 'get', url: 'Y' }] }
 const TEXT = JSON.stringify(BATCH)
@@ -51,7 +51,7 @@ test('refuses bytes that were handed to another thread', () => {
   structuredClone(gone.buffer, { transfer: [gone.buffer] })
   const expected = { name: 'TypeError', message: 'the bytes of a detached ArrayBuffer are gone' }
   for (const document of [gone, gone.buffer]) {
-    for (const call of [check, (it) => match(BATCH, it), (it) => new Run(it), (it) => bytesOf(it)]) {
+    for (const call of [check, (it) => match(BATCH, it), (it) => new Run(it), (it) => documentBytes(it)]) {
       assert.throws(() => call(document), expected)
     }
   }
@@ -62,12 +62,12 @@ test('refuses bytes that were handed to another thread', () => {
 test('copies the bytes that another thread shares', () => {
   const memory = shared()
   for (const document of [memory, new Uint8Array(memory), Buffer.from(memory)]) {
-    const bytes = bytesOf(document)
+    const bytes = documentBytes(document)
     assert.ok(bytes.buffer instanceof ArrayBuffer)
     assert.deepEqual(Buffer.from(bytes), BYTES)
     assert.deepEqual(check(document), COUNTS)
   }
-  assert.ok(bytesOf(BYTES) === BYTES)
+  assert.ok(documentBytes(BYTES) === BYTES)
   const body = new Uint8Array(new SharedArrayBuffer(1)).fill(0x37)
   const live = new Run(new Uint8Array(memory), { events: [{ step: 'start', id: 'a' }, { step: 'start', id: 'b' }] })
   live.report('a', 200, null, body)

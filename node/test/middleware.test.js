@@ -10,7 +10,7 @@ const { IncomingMessage, ServerResponse } = require('node:http')
 const { Readable } = require('node:stream')
 const { test } = require('node:test')
 const { Refusal } = require('..')
-const { batch: mounted } = require('../middleware.js')
+const { batch: mounted } = require('../middleware/index.js')
 const { batch } = require('./performing.js')
 const { CONTINUES, JSON_TYPE, MOUNTS, PATH, express, listening, serving } = require('./serving.js')
 
@@ -241,6 +241,16 @@ everywhere('hands requests to the handler with what they inherit', {}, async ({ 
   })
   assert.deepEqual([a.body.method, a.body.url, a.body.body], ['PATCH', '/odata/echo?x=a%20b', '{"p":1}'])
   assert.deepEqual([`http://${host}`, a.body.address.endsWith('127.0.0.1')], [origin, true])
+})
+
+everywhere('takes no header away that Connection names', {}, async ({ port }) => {
+  const document = JSON.stringify(batch(['a', 'get', 'echo']))
+  const named = ['Authorization: Bearer 1', 'X-Forwarded-For: 9.9.9.9', 'Connection: close, Authorization, X-Forwarded-For']
+  const head = [`POST ${PATH} HTTP/1.1`, 'Host: h', 'Content-Type: application/json', ...named]
+  const socket = net.connect(port, '127.0.0.1')
+  socket.end([...head, `Content-Length: ${document.length}`, '', document].join('\r\n'))
+  const { headers } = JSON.parse(/\{"responses".*/.exec(await textOf(socket))[0]).responses[0].body
+  assert.deepEqual([headers.authorization, headers['x-forwarded-for'], headers.connection], ['Bearer 1', '9.9.9.9', undefined])
 })
 
 everywhere('refuses headers by which a proxy may say who the client is', { allowed: ['X-Tenant'] }, async ({ responses }) => {
@@ -483,6 +493,16 @@ test('has an app answer by its own call for that, as Fastify has one', async () 
   })
 })
 
+test('limits what an app answers by its own call', async () => {
+  const headers = { 'content-type': 'text/plain' }
+  const app = { inject: async ({ method }) => ({ statusCode: method === 'GET' ? 200 : 201, headers, rawPayload: Buffer.from(LONG) }) }
+  const answer = mounted(app, { path: PATH, maxSize: 5000, log: () => {} })
+  await listening((req, res) => answer(req, res, () => res.writeHead(404).end()), async ({ post }) => {
+    const { responses } = await (await post(JSON.stringify(batch(['a', 'get', 'x'], ['b', 'get', 'x'], ['c', 'post', 'x'])))).json()
+    assert.deepEqual(responses.map(({ status, body }) => [status, body?.length]), [[200, 3000], [507, undefined], [201, undefined]])
+  })
+})
+
 test('refuses options that have none of their values', () => {
   assert.throws(() => mounted({}), TypeError)
   const paths = [{ path: 'odata' }, { root: '/odata' }, { root: 'odata/' }]
@@ -492,4 +512,5 @@ test('refuses options that have none of their values', () => {
     assert.throws(() => mounted(handler, options), TypeError)
   }
   assert.throws(() => mounted(handler, { width: 0 }), RangeError)
+  mounted(handler, { maxSize: 300000000 })
 })

@@ -6,7 +6,7 @@ const assert = require('node:assert/strict')
 const { EventEmitter, once } = require('node:events')
 const net = require('node:net')
 const { test } = require('node:test')
-const { batch: mounted } = require('../middleware.js')
+const { batch: mounted } = require('../middleware/index.js')
 const { batch } = require('./performing.js')
 const { CONTINUES, MOUNTS, PATH, express, listening, serving } = require('./serving.js')
 
@@ -94,16 +94,15 @@ everywhere('ends at its time a POST that is answered without an end', SHORT, asy
   await until(() => isClosed)
 })
 
-everywhere('waits half a minute for an answer if nothing else is said', {}, async ({ responses }) => {
+everywhere('waits half a minute for an answer if nothing else is said', {}, async ({ events, responses }) => {
+  events.on('held', () => {})
   const { setTimeout: given } = globalThis
-  const times = []
-  globalThis.setTimeout = (call, time, ...more) => times.push(time) && given(call, time, ...more)
+  globalThis.setTimeout = (call, time, ...more) => given(call, time === 30000 ? 500 : time, ...more)
   try {
-    await responses(batch(['a', 'get', 'short']))
+    assert.equal((await responses(batch(['a', 'get', 'held']))).a.status, 504)
   } finally {
     globalThis.setTimeout = given
   }
-  assert(times.includes(30000))
 })
 
 everywhere('waits for the bytes of a batch no longer than half a minute', {}, async ({ begun, port }) => {
@@ -180,7 +179,7 @@ test('rolls back a group whose client has left', { timeout: WAITS }, async () =>
   })
 })
 
-everywhere('ends at its deadline', { deadline: 1000, width: 2 }, async ({ begun, events, responses, errors }) => {
+everywhere('ends at its deadline', { deadline: 1000, timeout: 3_600_000, width: 2 }, async ({ begun, events, responses, errors }) => {
   events.on('held', () => {})
   const last = ['e', 'get', 'late', { dependsOn: ['b', 'd'] }]
   const document = batch(['a', 'get', 'held'], ['b', 'get', 'short'], ['c', 'post', 'held'], ['d', 'get', 'late'], last)
@@ -231,6 +230,55 @@ everywhere('has one bound of memory for all batches', { maxSize: 1000, memory: 1
   await until(async () => (await responses(batch(['a', 'get', 'long']))).a.status === 200)
 })
 
+test('lets a GET of a group end whose client has left', { timeout: WAITS }, async () => {
+  const { events, handler } = watched()
+  const ended = []
+  const transaction = (group, body) => body().then(() => ended.push('committed'), () => ended.push('rolled back'))
+  await serving('node:http', handler, { transaction }, async ({ port }) => {
+    const reached = once(events, 'held')
+    const socket = sent(port, batch(['a', 'get', 'held', { atomicityGroup: 'g' }]))
+    const [req, res] = await reached
+    const over = once(req.socket.outer, 'close')
+    socket.destroy()
+    await over
+    await new Promise(setImmediate)
+    res.writeHead(200).end()
+    await until(() => ended.length > 0)
+    assert.deepEqual(ended, ['committed'])
+  })
+})
+
+test('takes no memory for an answer that comes after the end of its batch', { timeout: WAITS }, async () => {
+  const late = new EventEmitter()
+  const answer = { statusCode: 200, headers: { 'content-type': 'text/plain' }, rawPayload: Buffer.alloc(600, 'x') }
+  const app = { inject: ({ url }) => (url.endsWith('late') ? once(late, 'answer').then(() => answer) : Promise.resolve(answer)) }
+  const mount = mounted(app, { path: PATH, maxSize: 1000, memory: 1000, timeout: 100, log: () => {} })
+  await listening((req, res) => mount(req, res, () => res.end()), async ({ post }) => {
+    const statusOf = async (url) => (await (await post(JSON.stringify(batch(['a', 'get', url])))).json()).responses[0].status
+    assert.equal(await statusOf('late'), 504)
+    late.emit('answer')
+    await new Promise(setImmediate)
+    assert.equal(await statusOf('soon'), 200)
+  })
+})
+
+const WITHOUT_EXPRESS = { skip: express() === undefined && 'express is not installed', timeout: WAITS }
+
+test('express: counts the bytes that a parser has left', WITHOUT_EXPRESS, async () => {
+  const { events, handler } = watched()
+  const app = express()().use(express().raw({ type: '*/*' }))
+  const options = { path: PATH, maxSize: 1000, memory: 1000 }
+  await listening(app.use(mounted(app, options)).use(handler), async ({ post }) => {
+    const large = JSON.stringify(batch(['a', 'put', 'held', { body: 'x'.repeat(500) }]))
+    const reached = once(events, 'held')
+    const first = post(large)
+    const [, res] = await reached
+    assert.equal((await post(large)).status, 503)
+    res.writeHead(204).end()
+    assert.equal((await first).status, 200)
+  })
+})
+
 test('gives back the memory of batches that are refused, cut or left', { timeout: WAITS }, async () => {
   const { events, handler } = watched()
   await serving('node:http', handler, { maxSize: 1000, memory: 1000 }, async ({ port, post }) => {
@@ -255,9 +303,11 @@ test('gives back the memory of batches that are refused, cut or left', { timeout
 test('refuses a batch that may be sent again', { timeout: WAITS }, async () => {
   const { handler } = watched()
   await serving('node:http', handler, {}, async ({ post }) => {
-    const answer = await post(JSON.stringify(batch(['a', 'get', 'short'])), { ...CONTINUES, 'repeatability-request-id': 'x' })
-    assert.deepEqual([answer.status, answer.headers.get('repeatability-result')], [501, 'rejected'])
-    assert.equal((await answer.json()).error.code, 'NotRepeatable')
+    for (const name of ['repeatability-request-id', 'repeatability-first-sent']) {
+      const answer = await post(JSON.stringify(batch(['a', 'get', 'short'])), { ...CONTINUES, [name]: 'x' })
+      assert.deepEqual([answer.status, answer.headers.get('repeatability-result')], [501, 'rejected'])
+      assert.equal((await answer.json()).error.code, 'NotRepeatable')
+    }
   })
 })
 

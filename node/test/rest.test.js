@@ -5,7 +5,7 @@
 const assert = require('node:assert/strict')
 const { test } = require('node:test')
 const { check, match, output, plan, requests, rest } = require('..')
-const { Batch } = require('../client.js')
+const { Batch } = require('../client/index.js')
 const { batchOf, outcomesOf, randomFrom } = require('./batches.js')
 const { Service } = require('./scripted.js')
 

@@ -4,7 +4,7 @@
 
 const http = require('node:http')
 const { once } = require('node:events')
-const { batch } = require('../middleware.js')
+const { batch } = require('../middleware/index.js')
 
 const PATH = '/odata/$batch'
 const JSON_TYPE = { 'content-type': 'application/json' }

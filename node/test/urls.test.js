@@ -7,7 +7,7 @@ const { existsSync, readFileSync } = require('node:fs')
 const { join } = require('node:path')
 const { test } = require('node:test')
 const { perform } = require('..')
-const { Service } = require('../urls.js')
+const { Service } = require('../http/urls.js')
 const { batch, responsesOf } = require('./performing.js')
 
 const TABLE = [process.env.URL_CASES, join(__dirname, '../../tests/support/urls.json')].find((it) => it && existsSync(it))

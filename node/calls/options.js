@@ -1,0 +1,37 @@
+'use strict'
+
+// The options of calls: their names, their values, and the numbers by which the library takes them.
+
+const { kindName } = require('../documents/bytes.js')
+
+const MODES = ['continue', 'stop']
+const ORDERS = ['first', 'last', 'wide']
+const FORMS = ['lines', 'json']
+const MAX_WIDTH = 10000
+
+/** The number of a named value. */
+function valueNumber(values, option, value) {
+  const number = values.indexOf(value)
+  if (number < 0) throw new RangeError(`${option} must be one of ${values.join(', ')}, not ${String(value)}`)
+  return number
+}
+
+/** The options that a caller passes, which have to be an object with no other names. */
+function requireOptions(options, names) {
+  if (kindName(options) !== 'Object') throw new TypeError(`the options must be an object, not ${kindName(options)}`)
+  const unknown = Object.keys(options).find((name) => !names.includes(name))
+  if (unknown !== undefined) throw new TypeError(`an option must be one of ${names.join(', ')}, not ${unknown}`)
+  return options
+}
+
+/** The numbers of the options. */
+function optionNumbers(options) {
+  const { mode = 'continue', width = MAX_WIDTH, order = 'first', trace = false, strict = false, form = 'lines' } = options
+  if (!Number.isInteger(width) || width < 1 || width > MAX_WIDTH) {
+    throw new RangeError(`width must be a whole number from 1 to ${MAX_WIDTH}, not ${String(width)}`)
+  }
+  const flags = [trace, strict].map((flag) => (flag ? 1 : 0))
+  return [valueNumber(MODES, 'mode', mode), width, valueNumber(ORDERS, 'order', order), ...flags, valueNumber(FORMS, 'form', form)]
+}
+
+module.exports = { optionNumbers, requireOptions, valueNumber }

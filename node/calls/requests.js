@@ -1,0 +1,41 @@
+'use strict'
+
+// What is to be sent of each request of a batch. index.d.ts says what the call takes and returns.
+
+const { documentBytes } = require('../documents/bytes.js')
+const { DONE, callError } = require('../errors/faults.js')
+const library = require('../library/index.js')
+
+// How many numbers a request has: a start and a length for each of seven parts, and a position.
+const NUMBERS = 15
+
+/** The request whose parts lie there, from a number on; its reference is missing yet. `slice` is a text by start and length. */
+function readRequest(document, slice, all, from) {
+  const [id, method, url, rest, headers, group] = [0, 2, 4, 6, 8, 10].map((at) => slice(all[from + at], all[from + at + 1]))
+  const [start, length] = [all[from + 12], all[from + 13]]
+  const body = start < 0 ? undefined : document.subarray(start, start + length)
+  return { id, method, url, reference: null, rest, headers: JSON.parse(headers), group, body }
+}
+
+/** What returns the part of a text by its start and its length in bytes; null if there is no such part. */
+function slicer(text) {
+  const all = text.toString()
+  if (all.length === text.length) return (start, length) => (start < 0 ? null : all.slice(start, start + length))
+  return (start, length) => (start < 0 ? null : text.toString('utf8', start, start + length))
+}
+
+function requests(batch) {
+  const given = documentBytes(batch)
+  const document = Buffer.from(given.buffer, given.byteOffset, given.length)
+  const [status, text, all] = library.requests(document)
+  if (status !== DONE) throw callError('requests', status, text, given)
+  const slice = slicer(text)
+  const found = Array.from({ length: all.length / NUMBERS }, (_, at) => readRequest(document, slice, all, NUMBERS * at))
+  found.forEach((request, at) => {
+    const reference = all[NUMBERS * (at + 1) - 1]
+    if (reference >= 0) request.reference = found[reference].id
+  })
+  return found
+}
+
+module.exports = { requests }

@@ -1,0 +1,179 @@
+'use strict'
+
+// Live runs. index.d.ts says what each call takes and returns.
+
+const { bodyBytes, documentBytes, eventBytes, headerBytes } = require('../documents/bytes.js')
+const { DONE, Fault, REFUSED, Refused, callError, errorWithCode } = require('../errors/faults.js')
+const library = require('../library/index.js')
+const { run } = require('./commands.js')
+const { optionNumbers, requireOptions } = require('./options.js')
+const { requests } = require('./requests.js')
+
+const OPTIONS = ['mode', 'width', 'events']
+const MOST = 2 ** 32 - 1
+
+// Why a start or a report is refused, by the status that says so.
+const CAUSES = new Map([
+  [11, ['S1', 'AlreadyStarted']],
+  [12, ['S2', 'Stopped']],
+  [13, ['S3', 'UnitFailed']],
+  [14, ['S4', 'Waiting']],
+  [15, ['S5', 'WidthReached']],
+  [21, ['P1', 'NotRunning']],
+  [22, ['P2', 'BadStatus']],
+])
+
+/** Throws what a start or a report returns but that it is done. */
+function requireTaken(name, status, id) {
+  if (status === DONE) return
+  if (CAUSES.has(status)) throw new Refused(...CAUSES.get(status), id)
+  throw callError(name, status, '')
+}
+
+/** Why headers or a body are refused: the fault that the same report has as a recorded event. */
+function findFault(headers, body) {
+  const [first, second] = [headers, body].map((part) => (part.length > 0 ? part : Buffer.from('null')))
+  const parts = ['{"events":[{"report":"","status":200,"headers":', first, ',"body":', second, '}]}']
+  try {
+    run({ requests: [] }, Buffer.concat(parts.map((part) => Buffer.from(part))))
+  } catch (error) {
+    // F65 is that they were read, so one of them is JSON only together with what is around it here.
+    if (!(error instanceof Fault)) return error
+    if (error.code !== 'F65') return new Fault(error.code, error.faultName, 'report')
+  }
+  return new Fault('F02', 'NotJson', 'report')
+}
+
+/** @type {import('../index').RequestState['state'][]} The states of a request, by their numbers. */
+const STATES = ['waiting', 'ready', 'running', 'reported', 'skipped', 'undone']
+
+class Run {
+  #run
+  #ids
+  #positions
+  #listed
+  #size
+  #batch
+  #requests
+
+  constructor(batch, options = {}) {
+    const { mode, width, events = [] } = requireOptions(options, OPTIONS)
+    const [modeNumber, widthNumber] = optionNumbers({ mode, width })
+    const [document, recorded] = [documentBytes(batch), eventBytes(events)]
+    // How many bytes the response is made of.
+    this.#size = document.length + recorded.length
+    const [status, text, opened] = library.open(document, recorded, modeNumber, widthNumber)
+    if (status !== DONE) throw callError('open', status, text, document, recorded)
+    this.#run = opened
+    // For who asks what is to be sent of the requests.
+    this.#batch = document
+    const [listed, lines] = library.ids(opened, document.length >> 3)
+    if (listed !== DONE) throw callError('ids', listed, lines)
+    // The ids of the requests by their positions, and the positions by the ids.
+    this.#ids = lines.toString('latin1').split('\n').slice(0, -1)
+    this.#positions = new Map(this.#ids.map((id, position) => [id, position]))
+    // Room for all positions, so that a list of some always fits.
+    this.#listed = new Uint32Array(Math.max(this.#ids.length, 1))
+  }
+
+  /** The run, or an error if it is closed. */
+  get #open() {
+    if (this.#run === undefined) throw errorWithCode('ERR_ODB_CLOSED', 'the run is closed')
+    return this.#run
+  }
+
+  /** The position of a request, or an error if the batch has none with this id. */
+  #position(id) {
+    const position = this.#positions.get(id)
+    if (position === undefined) {
+      throw errorWithCode('ERR_ODB_UNKNOWN_ID', `the batch has no request with the id ${String(id)}`, RangeError)
+    }
+    return position
+  }
+
+  /** The positions that a call lists. What is undone it lists only at the end. */
+  #listPositions(name) {
+    const [status, count] = library[name](this.#open, this.#listed)
+    if (status === REFUSED) throw new Fault('F66', 'Unfinished', 'events')
+    if (status !== DONE) throw callError(name, status, '')
+    return this.#listed.subarray(0, count)
+  }
+
+  /** The ids of the requests at positions. */
+  #idsAt(positions) {
+    const ids = []
+    for (const position of positions) ids.push(this.#ids[position])
+    return ids
+  }
+
+  get ready() {
+    return this.#idsAt(this.#listPositions('ready').sort())
+  }
+
+  get running() {
+    return this.#idsAt(this.#listPositions('running').sort())
+  }
+
+  get undone() {
+    return this.#idsAt(this.#listPositions('undone'))
+  }
+
+  get finished() {
+    return library.finished(this.#open) === 1
+  }
+
+  nextUnit() {
+    const positions = this.#listPositions('nextUnit')
+    return positions.length > 0 ? this.#idsAt(positions) : null
+  }
+
+  request(id) {
+    if (this.#open) this.#requests ??= requests(this.#batch)
+    return this.#requests[this.#position(id)]
+  }
+
+  state(id) {
+    const numbers = new Uint32Array(2)
+    requireTaken('state', library.state(this.#open, this.#position(id), numbers), id)
+    const [state, status] = numbers
+    return { state: STATES[state], status: status > 0 ? status : null }
+  }
+
+  stop() {
+    library.stop(this.#open)
+  }
+
+  start(id) {
+    requireTaken('start', library.start(this.#open, this.#position(id)), id)
+  }
+
+  startUnit(id) {
+    requireTaken('startUnit', library.startUnit(this.#open, this.#position(id)), id)
+  }
+
+  report(id, status, headers, body) {
+    if (!Number.isInteger(status)) throw new TypeError(`a status must be a whole number, not ${String(status)}`)
+    const position = this.#position(id)
+    const [head, text] = [headerBytes(headers), bodyBytes(body)]
+    const end = library.report(this.#open, position, Math.min(Math.max(status, 0), MOST), head, text)
+    if (end === DONE) this.#size += head.length + text.length
+    if (end === REFUSED) throw findFault(head, text)
+    requireTaken('report', end, id)
+  }
+
+  response() {
+    const [status, text] = library.response(this.#open, Math.min(this.#size, MOST))
+    if (status !== DONE) throw callError('response', status, text)
+    return text.subarray(0, -1)
+  }
+
+  close() {
+    if (this.#run !== undefined) library.close(this.#run)
+    this.#run = undefined
+  }
+}
+
+// Where the language has it, `using` closes a run.
+if (Symbol.dispose) Run.prototype[Symbol.dispose] = Run.prototype.close
+
+module.exports = { Run }

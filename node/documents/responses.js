@@ -1,0 +1,57 @@
+'use strict'
+
+// The responses of a service, with the bytes of their bodies as they are in the document.
+
+const { Refusal } = require('../errors/refusals.js')
+const { isJson, mediaType, toWire } = require('../http/bodies.js')
+const { foldHeaders } = require('../http/headers.js')
+const { elementsAt, membersAt, skipSpace } = require('./json_scanner.js')
+
+/** The headers of a response; what is not a text or a number is left out, since no rule asks for them. */
+function readHeaders(members) {
+  const all = typeof members === 'object' && members !== null ? Object.entries(members) : []
+  return foldHeaders(Object.fromEntries(all.filter(([, value]) => ['string', 'number'].includes(typeof value))))
+}
+
+/** Whether a text is base64url, or base64, with its `=` or without. */
+function isBase64(text) {
+  return /^[\w+/-]*={0,2}$/.test(text) && text.replace(/=+$/, '').length % 4 !== 1
+}
+
+/** The bytes on the wire of a body; where it is not what its media type says, those of its JSON or its text. */
+function wireBytes(text, headers) {
+  const type = mediaType(headers)
+  if (isJson(type)) return text
+  const value = JSON.parse(text.toString())
+  if (typeof value !== 'string') return text
+  if (!type.startsWith('text/') && !isBase64(value)) return Buffer.from(value)
+  try {
+    return toWire(text, headers)
+  } catch (error) {
+    if (!(error instanceof Refusal)) throw error
+    return Buffer.from(value)
+  }
+}
+
+/**
+ * What each request was answered, by its id: header names in lower case, the body as bytes on the wire. The responses are a
+ * document that `match` accepts (OData JSON Format 4.01, section 19.5).
+ */
+function readResponses(document) {
+  const text = document.toString('latin1') // a character for each byte
+  const found = new Map()
+  for (const { start } of elementsAt(text, membersAt(text, skipSpace(text, 0)).get('responses').value.start)) {
+    const members = membersAt(text, start)
+    const [id, status, given, body] = ['id', 'status', 'headers', 'body'].map((name) => {
+      const { value } = members.get(name) ?? {}
+      return value && document.subarray(value.start, value.end)
+    })
+    const headers = readHeaders(given === undefined ? null : JSON.parse(given.toString()))
+    const isThere = body !== undefined && !body.equals(Buffer.from('null'))
+    const answer = { status: Number(status.toString()), headers, body: isThere ? wireBytes(body, headers) : Buffer.alloc(0) }
+    found.set(JSON.parse(id.toString()), answer)
+  }
+  return found
+}
+
+module.exports = { readResponses }

@@ -1,0 +1,96 @@
+'use strict'
+
+// Why a call does not do what it is asked for.
+
+const { describeFault } = require('./findings.js')
+const explanations = require('./explanations.json')
+const library = require('../library/index.js')
+
+const NUMBERS = 3 // of an odb_position
+
+const DONE = 0
+const REFUSED = 1
+const OUT_OF_MEMORY = 4
+
+class Fault extends Error {
+  // The bytes of the document, if there is one, and where the place is in it, once that was asked for.
+  #document
+  #position
+
+  constructor(code, faultName, place, document) {
+    super(`${code} ${faultName} ${place}`)
+    this.name = 'Fault'
+    this.code = code
+    this.faultName = faultName
+    this.place = place
+    this.#document = document
+  }
+
+  get line() {
+    return this.#numbers[0]
+  }
+
+  get column() {
+    return this.#numbers[1]
+  }
+
+  get offset() {
+    return this.#numbers[2]
+  }
+
+  get explanation() {
+    return explanations[this.code] ?? ''
+  }
+
+  get details() {
+    const begin = this.#document === undefined ? '' : describeFault(this.code, this.#document, this.place)
+    return `${begin}${this.faultName}: ${this.explanation.replace(/\s+/g, ' ').trim()}`
+  }
+
+  get #numbers() {
+    this.#position ??= this.#document === undefined ? [] : findPlace(this.#document, this.place)
+    return this.#position
+  }
+}
+
+/** The line, the column and the offset of a place in a document; nothing if it is none. */
+function findPlace(document, place) {
+  const numbers = new Float64Array(NUMBERS)
+  const status = library.where(document, Buffer.from(place), numbers)
+  if (status === OUT_OF_MEMORY) throw errorWithCode('ERR_ODB_OUT_OF_MEMORY', 'out of memory')
+  return status === DONE ? [...numbers] : []
+}
+
+class Refused extends Error {
+  constructor(code, causeName, id) {
+    super(`${code} ${causeName} ${id}`)
+    this.name = 'Refused'
+    this.code = code
+    this.causeName = causeName
+    this.id = id
+  }
+
+  get explanation() {
+    return explanations[this.code] ?? ''
+  }
+}
+
+function errorWithCode(code, message, Kind = Error) {
+  return Object.assign(new Kind(message), { code })
+}
+
+/** The fault of a line, in one of the documents: the batch, and maybe a second one. */
+function readFault(line, documents) {
+  const [, code, name, place] = line.split(' ')
+  const isInBatch = place === 'batch' || place.startsWith('/requests/')
+  return new Fault(code, name, place, documents[isInBatch ? 0 : documents.length - 1])
+}
+
+/** What a call over documents throws that is not done. */
+function callError(name, status, text, ...documents) {
+  if (status === REFUSED) return readFault(text.toString().trimEnd(), documents)
+  if (status === OUT_OF_MEMORY) return errorWithCode('ERR_ODB_OUT_OF_MEMORY', 'out of memory')
+  return errorWithCode('ERR_ODB_STATUS', `${name} returned the status ${status}`)
+}
+
+module.exports = { DONE, Fault, REFUSED, Refused, callError, errorWithCode, readFault }

@@ -1,0 +1,144 @@
+'use strict'
+
+// What the requests of a batch refer to: URLs and ETags that other requests were answered.
+
+const { Refusal } = require('../errors/refusals.js')
+const { readEntity: entityOf } = require('./bodies.js')
+const { entityUrl, followed } = require('./urls.js')
+
+// In these headers `$` and an id stand for the ETag that the request was answered (OData JSON Format 4.01, section 19.3).
+const OF_ETAGS = ['if-match', 'if-none-match']
+
+const PLACES = ['location', 'odata-entityid']
+const PLACES_IN_BODY = ['@id', '@odata.id']
+const CONTEXTS = ['@context', '@odata.context']
+const TAGS_IN_BODY = ['@etag', '@odata.etag']
+
+const NONE = new Set()
+
+/** The first of some members that an object has, if it is a string. */
+function textAmong(object, names) {
+  return names.map((name) => object[name]).find((it) => typeof it === 'string')
+}
+
+/** What a call returns, or the refusal that it throws, as a function. */
+function outcomeOf(call) {
+  try {
+    const value = call()
+    return () => value
+  } catch (error) {
+    if (!(error instanceof Refusal)) throw error
+    return () => {
+      throw error
+    }
+  }
+}
+
+/** What a call returns, or undefined for a refusal. */
+function foundBy(call) {
+  try {
+    return call()
+  } catch (error) {
+    if (error instanceof Refusal) return undefined
+    throw error
+  }
+}
+
+class References {
+  #requests
+  #service
+  // The ids of the requests that others refer to; of these, functions that return their URLs, and what they were answered.
+  #named
+  #urls = new Map()
+  #answers = new Map()
+
+  /** `service` says where requests may lead. */
+  constructor(requests, service) {
+    this.#requests = new Map(requests.map((request) => [request.id, request]))
+    this.#named = new Set(requests.flatMap(({ reference, headers }) => [reference, ...this.#tagged(headers).map(([, id]) => id)]))
+    this.#service = service
+  }
+
+  /** The request with an id, as it is in the batch. */
+  of(id) {
+    return this.#requests.get(id)
+  }
+
+  /** Keeps what a request was answered, if others refer to it: its headers, and the JSON of its body. */
+  keep(id, headers, text) {
+    if (!this.#named.has(id)) return
+    this.#answers.set(id, { headers, text })
+    this.#urlOf(id)
+  }
+
+  /** What others may refer to of what a request was answered, as headers: its URL and its ETag, where it has them. */
+  recorded(id) {
+    if (!this.#answers.has(id)) return {}
+    const [location, etag] = [() => this.#placeOf(id), () => this.#tagOf(id)].map(foundBy)
+    return { ...(location !== undefined && { location }), ...(etag !== undefined && { etag }) }
+  }
+
+  /** The URL to which a request is sent, or a refusal. */
+  url(id) {
+    return this.#urlOf(id)()
+  }
+
+  /** The headers of a request with ETags in place of references, but for those to the ids that are kept; or a refusal. */
+  headersOf({ headers }, kept = NONE) {
+    const found = { ...headers }
+    for (const [name, id] of this.#tagged(headers)) if (!kept.has(id)) found[name] = this.#tagOf(id)
+    return found
+  }
+
+  /** A request as it is in a batch with the requests of these ids: references to others are replaced; or a refusal. */
+  member(id, ids) {
+    const request = this.of(id)
+    const headers = this.headersOf(request, ids)
+    return { ...request, headers, url: ids.has(request.reference) ? request.url : this.url(id) }
+  }
+
+  /** What returns the URL of a request. It is kept if others refer to it, so that a long chain of them needs no deep stack. */
+  #urlOf(id) {
+    const found = this.#urls.get(id)
+    if (found !== undefined) return found
+    const { url, reference, rest } = this.of(id)
+    const made = outcomeOf(() => {
+      return reference === null ? this.#service.target(url, url) : this.#service.target(this.#placeOf(reference) + rest)
+    })
+    if (this.#named.has(id)) this.#urls.set(id, made)
+    return made
+  }
+
+  /** The headers of a request that refer to an ETag, each with the id that it names. */
+  #tagged(headers) {
+    const pairs = OF_ETAGS.filter((name) => headers[name]?.startsWith('$')).map((name) => [name, headers[name].slice(1)])
+    return pairs.filter(([, id]) => this.#requests.has(id))
+  }
+
+  /** The URL of what a request has created or returned. */
+  #placeOf(id) {
+    const { headers, text } = this.#answers.get(id)
+    const place = textAmong(headers, PLACES)
+    if (place !== undefined) return entityUrl(followed(place, this.url(id)))
+    const entity = entityOf(text)
+    const own = textAmong(entity, PLACES_IN_BODY)
+    if (own === undefined && this.of(id).method === 'POST') {
+      throw new Refusal(424, 'NoLocation', `${id} was answered without the URL of what it has created`, { target: id })
+    }
+    // The URLs in a body are relative to its context, if it has one (OData JSON Format 4.01, section 4.6.1).
+    const from = own === undefined ? this.url(id) : followed(textAmong(entity, CONTEXTS) ?? '', this.url(id))
+    return entityUrl(followed(own ?? '', from))
+  }
+
+  #tagOf(id) {
+    const { headers, text } = this.#answers.get(id) ?? {}
+    if (headers === undefined) {
+      throw new Refusal(400, 'NoETag', `${id} is not answered yet; it has to be in dependsOn`, { target: id })
+    }
+    const tag = headers.etag ?? textAmong(entityOf(text), TAGS_IN_BODY)
+    if (tag === undefined) throw new Refusal(424, 'NoETag', `${id} was answered without an ETag`, { target: id })
+    return tag
+  }
+}
+
+module.exports = { OF_ETAGS, References }

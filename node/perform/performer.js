@@ -1,0 +1,191 @@
+'use strict'
+
+// A batch on its way from its document to its response: each request is sent once it may start, with references resolved, and its
+// answer is reported to the run.
+
+const { Run } = require('../calls/run.js')
+const { Fault } = require('../errors/faults.js')
+const { Refusal, toRefusal } = require('../errors/refusals.js')
+const { MOST_BYTES, toJson, toJsonString, toWire } = require('../http/bodies.js')
+const { References } = require('../http/references.js')
+const { GroupTransaction } = require('./group.js')
+
+// Of an answer these speak of its connection alone.
+const OF_CONNECTION = new Set([
+  'connection', 'content-encoding', 'content-length', 'date', 'keep-alive', 'proxy-authenticate', 'server', 'set-cookie', 'te',
+  'trailer', 'transfer-encoding', 'upgrade',
+])
+
+/** The headers that a response shows. */
+function visibleHeaders(headers) {
+  const found = { __proto__: null }
+  for (const name in headers) if (!OF_CONNECTION.has(name)) found[name] = headers[name]
+  return found
+}
+
+/** Headers of an answer that the library takes whatever they hold. */
+function asciiHeaders(headers) {
+  return Object.fromEntries(Object.entries(headers).filter((pair) => /^[\x00-\x7f]*$/.test(pair.join(''))))
+}
+
+class Performer {
+  #run
+  #requests
+  #references
+  #send
+  #settings
+  #isStopped = false
+
+  /** `send` is given a request, and the wait for its answer, if that has an end. */
+  constructor(batch, requests, service, send, settings) {
+    const { mode, width } = settings
+    this.#run = new Run(batch, { mode, width })
+    this.#requests = new Map(requests.map((request) => [request.id, request]))
+    this.#references = new References(requests, service)
+    this.#send = send
+    this.#settings = settings
+  }
+
+  /** Performs one unit after another, as many at once as the width allows. */
+  perform() {
+    return new Promise((resolve, reject) => {
+      let performing = 0
+      const fill = () => {
+        for (let ids; performing < this.#settings.width && (ids = this.#startUnit()) !== null; ) {
+          performing++
+          this.#performUnit(ids).then(() => {
+            performing--
+            fill()
+          }).catch(reject)
+        }
+        if (performing === 0) resolve()
+      }
+      fill()
+    })
+  }
+
+  /** The response document of the finished run. */
+  response() {
+    return this.#run.response()
+  }
+
+  close() {
+    this.#run.close()
+  }
+
+  /** Whether nothing starts any more. */
+  get isStopped() {
+    this.#heedStop()
+    return this.#isStopped
+  }
+
+  /** Starts a request of a group: call it before it is sent. */
+  start(id) {
+    this.#heedStop()
+    this.#run.start(id)
+  }
+
+  /** Sends a request, and returns its answer with its body as it is in a response. An exception is an answer, too. */
+  async answer(id) {
+    const { stop, timeout } = this.#settings
+    try {
+      const request = this.#requests.get(id)
+      const { status, headers, body } = await stop.within(timeout, (wait) => this.#send(this.#prepare(request), wait))
+      return { status, headers, text: this.#requireFitting(request, toJson(body, headers)) }
+    } catch (error) {
+      return this.#explain(error, `the request ${id}`)
+    }
+  }
+
+  /** Reports what a started request is answered. */
+  report(id, { status, headers, text }) {
+    this.#reportReadable(id, status, visibleHeaders(headers), text)
+    this.#references.keep(id, headers, text)
+    this.#isStopped ||= this.#settings.mode === 'stop' && status >= 400
+  }
+
+  /** The ids of the first unit that may begin, or null. Its first request is started, so that it does not begin twice. */
+  #startUnit() {
+    this.#heedStop()
+    const ids = this.#run.nextUnit()
+    if (ids !== null) this.#run.start(ids[0])
+    return ids
+  }
+
+  /** Stops once that is over. It is asked, since a signal that many batches share would warn of their listeners. */
+  #heedStop() {
+    if (this.#isStopped || !this.#settings.stop.isOver) return
+    this.#isStopped = true
+    this.#run.stop()
+  }
+
+  /** Performs a unit, whose first request has started. */
+  async #performUnit(ids) {
+    const [first] = ids
+    const { group } = this.#requests.get(first)
+    if (group === null) this.report(first, await this.answer(first))
+    else await this.#performGroup(group, new GroupTransaction(this, group, ids))
+  }
+
+  async #performGroup(name, group) {
+    const what = `the transaction of ${name}`
+    let reason
+    try {
+      await this.#settings.transaction(name, () => group.perform())
+      reason = group.shortcoming
+    } catch (error) {
+      reason = error ?? new Error(`${what} was rejected without a reason`)
+    }
+    const isKnown = await group.end(reason, (error) => this.#explain(error, what))
+    if (!isKnown) this.#settings.log(reason, what)
+  }
+
+  /** A request as it is to be sent, or a refusal if nothing can be sent. */
+  #prepare(request) {
+    const { id, method, group, body } = request
+    const headers = this.#references.headersOf(request)
+    const url = this.#references.url(id)
+    if (body === undefined) return { id, method, url, headers, body, group }
+    headers['content-type'] ??= 'application/json'
+    return { id, method, url, headers, body: toWire(body, headers), group }
+  }
+
+  /** The text of a body that is answered. If it is too long for a response a GET is refused, and any other request loses it. */
+  #requireFitting({ method }, text) {
+    if (text === undefined || text.length <= MOST_BYTES) return text
+    if (method === 'GET') throw new Refusal(507, 'TooLong', 'The answer is too long for a batch')
+    return undefined
+  }
+
+  /** What is answered in place of an exception, which is logged unless it is a refusal. */
+  #explain(error, what) {
+    if (!(error instanceof Refusal)) this.#settings.log(error, what)
+    const { status, headers, body } = toRefusal(error).answer
+    return { status, headers, text: toJson(body, headers) }
+  }
+
+  /**
+   * Reports a body as JSON. What the run cannot read is left out as little as may be: a body that is not JSON, though its answer
+   * claims it, is a string, unless that is too long; of headers that are not Unicode those in ASCII stay.
+   */
+  #reportReadable(id, status, headers, text) {
+    if (this.#tryReport(id, status, headers, text)) return
+    const string = text && toJsonString(text, {})
+    const fitting = string?.length > MOST_BYTES ? undefined : string
+    if (this.#tryReport(id, status, headers, fitting) || this.#tryReport(id, status, asciiHeaders(headers), text)) return
+    this.#run.report(id, status, asciiHeaders(headers), fitting)
+  }
+
+  /** Reports an answer, and returns whether the run can read it. */
+  #tryReport(id, status, headers, text) {
+    try {
+      this.#run.report(id, status, headers, text)
+      return true
+    } catch (error) {
+      if (error instanceof Fault) return false
+      throw error
+    }
+  }
+}
+
+module.exports = { Performer }
