@@ -2,8 +2,8 @@
 
 // A run in the making: its events so far, over a live run of the library, which decides which of them may come.
 
-const { Run } = require('../node/run.js')
-const { Fault, Refused } = require('../node/faults.js')
+const { Run } = require('../node/calls/run.js')
+const { Fault, Refused } = require('../node/errors/faults.js')
 const { STATES, usualStatus } = require('./states.js')
 const { Queue } = require('./queue.js')
 const { explain } = require('./verdict.js')
@@ -11,7 +11,7 @@ const { explain } = require('./verdict.js')
 const encoder = new TextEncoder()
 
 /** The text of an event in a document of events. Headers and body are JSON texts. */
-function eventText({ id, status, headers, body }) {
+function writeEvent({ id, status, headers, body }) {
   if (status === undefined) return `{"start": ${JSON.stringify(id)}}`
   const parts = [`"report": ${JSON.stringify(id)}`, `"status": ${status}`]
   if (headers) parts.push(`"headers": ${headers}`)
@@ -20,16 +20,16 @@ function eventText({ id, status, headers, body }) {
 }
 
 /** Headers as the library takes them, of a JSON text. */
-function headersOf(text) {
+function readHeaders(text) {
   if (!text) return null
   const found = JSON.parse(text)
   const isObject = typeof found === 'object' && found !== null && !Array.isArray(found)
-  if (!isObject || Object.values(found).some((it) => typeof it !== 'string')) throw new SyntaxError('not an object of strings')
-  return found
+  if (isObject && Object.values(found).every((value) => typeof value === 'string')) return found
+  throw new SyntaxError('not an object of strings')
 }
 
 /** Why an event is refused, as the page shows it; throws what else went wrong. */
-function refusalOf(error, id) {
+function readRefusal(error, id) {
   if (error instanceof Refused) return { code: error.code, name: error.causeName, id, explanation: explain(error.code) }
   if (error instanceof Fault) return { code: error.code, name: error.faultName, id, explanation: explain(error.code) }
   if (error instanceof SyntaxError) return { code: '', name: '', id, explanation: 'Headers must be a JSON object of strings.' }
@@ -62,7 +62,7 @@ class Course {
     try {
       this.#apply(event)
     } catch (error) {
-      return refusalOf(error, event.id)
+      return readRefusal(error, event.id)
     }
     this.events.push(event)
     this.#queue.take(event, this.#isReady)
@@ -73,7 +73,7 @@ class Course {
     if (status === undefined) return this.#run.start(id)
     // What is not a number is no status either, so that it is refused as 0 is.
     const number = Number.isInteger(status) ? status : 0
-    return this.#run.report(id, number, headersOf(headers), body ? encoder.encode(body) : null)
+    return this.#run.report(id, number, readHeaders(headers), body ? encoder.encode(body) : null)
   }
 
   /** Takes the last event back: the others come anew in another run. */
@@ -130,7 +130,7 @@ class Course {
 
   /** The events as a document. */
   get document() {
-    return `{"events": [${this.events.map((it) => `\n  ${eventText(it)}`).join(',')}\n]}\n`
+    return `{"events": [${this.events.map((event) => `\n  ${writeEvent(event)}`).join(',')}\n]}\n`
   }
 
   /** The states and the statuses of all requests, by their positions, and the ids of those that have to be undone. */

@@ -11,7 +11,7 @@ function fill(made, attributes, children) {
     else if (name === 'style') made.style.cssText = value
     else if (value !== undefined && value !== false) made.setAttribute(name, value === true ? '' : value)
   }
-  made.append(...children.filter((it) => it !== undefined && it !== ''))
+  made.append(...children.filter((child) => child !== undefined && child !== ''))
   return made
 }
 
@@ -21,11 +21,11 @@ function element(name, attributes = {}, ...children) {
 }
 
 /** An element of a picture. */
-function drawn(name, attributes = {}, ...children) {
+function drawElement(name, attributes = {}, ...children) {
   return fill(document.createElementNS(SVG, name), attributes, children)
 }
 
-/** The element of the page with an id. */
+/** @returns {any} The element of the page with an id. */
 function byId(id) {
   return document.getElementById(id)
 }
@@ -53,7 +53,7 @@ async function copy(text, note, elsewhere = '') {
 // Where there is no clipboard for pages, as on file:// in some browsers.
 function copyByHand(text) {
   const field = element('textarea', { class: 'hidden' })
-  const focused = document.activeElement
+  const focused = /** @type {HTMLElement | null} */ (document.activeElement)
   field.value = text
   document.body.append(field)
   field.select()
@@ -65,4 +65,4 @@ function copyByHand(text) {
   }
 }
 
-module.exports = { byId, copy, count, cut, drawn, element }
+module.exports = { byId, copy, count, cut, drawElement, element }

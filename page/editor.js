@@ -21,8 +21,8 @@ function* segments(marks, from, to) {
   const sorted = [...edges].sort((a, b) => a - b)
   for (let i = 0; i + 1 < sorted.length; i++) {
     const [start, end] = [sorted[i], sorted[i + 1]]
-    const covering = inside.filter((it) => it.start <= start && it.end >= end)
-    yield { start, end, kind: covering.some((it) => it.isPart) ? 'part' : covering.length > 0 ? 'whole' : undefined }
+    const covering = inside.filter((mark) => mark.start <= start && mark.end >= end)
+    yield { start, end, kind: covering.some(({ isPart }) => isPart) ? 'part' : covering.length > 0 ? 'whole' : undefined }
   }
 }
 
@@ -41,7 +41,7 @@ class Editor {
   #onReplace
 
   /** `onInput` is called with the text, `onLarge` with one that is too long to be edited, `onReplace` before a paste over all. */
-  constructor(place, { id, label, isLow, onInput, onLarge, onMove, onReplace }) {
+  constructor(place, { id, label, isLow = false, onInput, onLarge, onMove, onReplace = () => {} }) {
     this.#field = element('textarea', {
       id, 'aria-label': label, spellcheck: 'false', autocomplete: 'off', autocapitalize: 'off', wrap: 'off',
     })
@@ -54,7 +54,7 @@ class Editor {
     this.#onReplace = onReplace
     this.onMove = onMove
     this.#field.addEventListener('input', () => {
-      this.#taken(this.#field.value)
+      this.#readLines(this.#field.value)
       onInput(this.#field.value)
     })
     this.#field.addEventListener('scroll', () => this.#draw())
@@ -76,7 +76,7 @@ class Editor {
     this.#field.value = text
     this.#field.scrollTop = 0
     this.#field.scrollLeft = 0
-    this.#taken(this.#field.value)
+    this.#readLines(this.#field.value)
   }
 
   /** Whether a text can be edited here. */
@@ -129,7 +129,7 @@ class Editor {
     return start >= this.#begin && start <= this.#begin + this.#field.value.length
   }
 
-  #taken(text) {
+  #readLines(text) {
     this.#lines = new Lines(text)
     this.#list = []
     this.#draw()
@@ -139,7 +139,7 @@ class Editor {
     const pasted = event.clipboardData?.getData('text/plain') ?? ''
     const { value, selectionStart, selectionEnd } = this.#field
     const { readOnly } = this.#field
-    if (pasted !== '' && !readOnly && selectionEnd - selectionStart === value.length) this.#onReplace?.()
+    if (pasted !== '' && !readOnly && selectionEnd - selectionStart === value.length) this.#onReplace()
     if (pasted === '' || (!readOnly && value.length + pasted.length <= MOST)) return
     event.preventDefault()
     // A document that is shown in part is replaced as a whole.
@@ -155,7 +155,7 @@ class Editor {
     const [numbers, lines] = [[], []]
     for (let line = first; line <= last; line++) {
       const [start, end] = [this.#lines.start(line), this.#lines.start(line + 1)]
-      const has = this.#list.some((it) => !it.isPart && it.start >= start && it.start < Math.max(end, start + 1))
+      const has = this.#list.some((mark) => !mark.isPart && mark.start >= start && mark.start < Math.max(end, start + 1))
       const place = { class: has ? 'has-fault' : undefined, style: `top:${top + (line - first) * LINE}px` }
       numbers.push(element('div', place, String(this.#firstLine + line - 1)))
       lines.push(this.#line(start, Math.min(end, start + LONGEST)))

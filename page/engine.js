@@ -2,14 +2,14 @@
 
 // What the page asks of the library. It runs in a worker: it keeps the batch and its run, and does one job after another.
 
-const { bytesOf } = require('../node/documents.js')
-const commands = require('../node/commands.js')
-const { requests } = require('../node/requests.js')
+const commands = require('../node/calls/commands.js')
+const { requests } = require('../node/calls/requests.js')
+const { documentBytes } = require('../node/documents/bytes.js')
 const { Course } = require('./course.js')
-const { elementsAt, membersAt, skipSpace } = require('./json.js')
+const { elementsAt, membersAt, skipSpace } = require('../node/documents/json_scanner.js')
 const { Places } = require('./places.js')
-const { answersOf } = require('./served.js')
-const { verdictOf } = require('./verdict.js')
+const { deriveAnswers } = require('./service_answers.js')
+const { judge } = require('./verdict.js')
 
 // How much of a document the page shows if it is too long to be edited, and how much of it before a place.
 const EXCERPT = 20_000
@@ -21,7 +21,7 @@ const KINDS = ['events', 'outcomes', 'responses']
 const decoder = new TextDecoder('utf-8', { ignoreBOM: true })
 
 /** The requests of a batch that is accepted, as the page shows them. */
-function shownRequests(batch) {
+function summarizeRequests(batch) {
   const sent = requests(batch)
   let names = 0
   return commands.plan(batch).map(({ position, id, level, group, needs }) => {
@@ -35,10 +35,11 @@ function shownRequests(batch) {
 /** A document: its bytes, its text, and the places of its faults. */
 class Document {
   #text
+  #places
 
   /** `given` is a text, or bytes. */
   constructor(given) {
-    this.bytes = bytesOf(given)
+    this.bytes = documentBytes(given)
     this.#text = typeof given === 'string' ? given : undefined
   }
 
@@ -48,13 +49,13 @@ class Document {
   }
 
   get places() {
-    this.found ??= new Places(this.text)
-    return this.found
+    this.#places ??= new Places(this.text)
+    return this.#places
   }
 
   /** Where faults are, found only once there is one. */
   get lazyPlaces() {
-    return { of: (fault) => this.places.of(fault) }
+    return { locate: (fault) => this.places.locate(fault) }
   }
 
   /** Some text around a place. */
@@ -68,7 +69,7 @@ class Document {
 }
 
 /** The events of a document of events, or the answers of one of outcomes or responses: `id`, and headers and body as JSON texts. */
-function elementsOf(text, kind) {
+function readElements(text, kind) {
   const list = membersAt(text, skipSpace(text, 0)).get(kind)
   return Array.from(elementsAt(text, list.value.start), ({ start }) => {
     const members = membersAt(text, start)
@@ -80,19 +81,19 @@ function elementsOf(text, kind) {
     const id = JSON.parse(kind === 'events' ? (raw('start') ?? raw('report')) : raw('id'))
     const status = raw('status')
     if (status === undefined) return { id }
-    return { id, status: Number(status), ...present({ headers: raw('headers'), body: raw('body') }) }
+    return { id, status: Number(status), ...dropUndefined({ headers: raw('headers'), body: raw('body') }) }
   })
 }
 
-function present(values) {
+function dropUndefined(values) {
   return Object.fromEntries(Object.entries(values).filter(([, value]) => value !== undefined))
 }
 
 /** What a text is by its member: events, outcomes or responses. */
-function kindOf(text) {
+function findKind(text) {
   try {
     const members = membersAt(text, skipSpace(text, 0))
-    return KINDS.find((it) => members.has(it))
+    return KINDS.find((kind) => members.has(kind))
   } catch {
     return undefined // It is not JSON.
   }
@@ -110,9 +111,9 @@ class Engine {
     this.#course?.close()
     this.#course = undefined
     const { bytes, lazyPlaces } = this.#batch
-    const verdict = verdictOf('check', [bytes], lazyPlaces)
+    const verdict = judge('check', [bytes], lazyPlaces)
     const took = performance.now() - begun
-    this.#requests = verdict.accepted ? shownRequests(bytes) : []
+    this.#requests = verdict.accepted ? summarizeRequests(bytes) : []
     const run = verdict.accepted ? this.open(options) : undefined
     return { ...verdict, size: bytes.length, took, requests: this.#requests, run }
   }
@@ -176,32 +177,32 @@ class Engine {
   /** The response that `run` prints of the events, or that of the live run if `run` refuses a body, as one with 1.5 in it. */
   #response({ document, options, response }) {
     const given = new Document(document)
-    const { accepted, text } = verdictOf('run', [this.#batch.bytes, given.bytes], this.#placesOf(given), options)
+    const { accepted, text } = judge('run', [this.#batch.bytes, given.bytes], this.#locator(given), options)
     return accepted ? text : response
   }
 
   /** What `match` makes of responses, and the status of each by its id. */
   #match(responses, options) {
     const document = new Document(responses)
-    const verdict = verdictOf('match', [this.#batch.bytes, document.bytes], this.#placesOf(document), options)
-    return { ...verdict, statuses: verdict.accepted ? linesOf(verdict.text) : [] }
+    const verdict = judge('match', [this.#batch.bytes, document.bytes], this.#locator(document), options)
+    return { ...verdict, statuses: verdict.accepted ? readStatuses(verdict.text) : [] }
   }
 
   /** What `match` makes of the responses of a service, also with --strict, and what a run has to be answered to end so. */
-  #served({ bytes, text }, mode) {
+  #matchService({ bytes, text }, mode) {
     const verdict = this.#match(bytes, { mode })
     if (!verdict.accepted) return verdict
     const { faults: [fault], text: line } = this.#match(bytes, { mode, strict: true })
     const impossible = fault && { line, explanation: fault.explanation }
-    return { ...verdict, impossible, ...answersOf(this.#requests, elementsOf(text, 'responses'), mode) }
+    return { ...verdict, impossible, ...deriveAnswers(this.#requests, readElements(text, 'responses'), mode) }
   }
 
   /** The places of a second document; a fault may also be about a request of the batch. */
-  #placesOf(document) {
+  #locator(document) {
     return {
-      of: (fault) => {
+      locate: (fault) => {
         const inBatch = fault.place.startsWith('/requests/')
-        return { ...(inBatch ? this.#batch : document).places.of(fault), inBatch }
+        return { ...(inBatch ? this.#batch : document).places.locate(fault), inBatch }
       },
     }
   }
@@ -209,29 +210,29 @@ class Engine {
   /** Reads events, outcomes or responses, and does with them what the program does. */
   read({ document: given, kind, mode, width, order }) {
     const document = new Document(given)
-    const found = kindOf(document.text) ?? kind
-    if (found === 'responses') return { kind: found, ...this.#served(document, mode) }
+    const found = findKind(document.text) ?? kind
+    if (found === 'responses') return { kind: found, ...this.#matchService(document, mode) }
     const options = found === 'events' ? { mode, width } : { mode, width, order, trace: true }
     const command = found === 'events' ? 'run' : 'replay'
-    const verdict = verdictOf(command, [this.#batch.bytes, document.bytes], this.#placesOf(document), options)
+    const verdict = judge(command, [this.#batch.bytes, document.bytes], this.#locator(document), options)
     const isWhole = verdict.accepted || verdict.faults[0]?.code === 'F66'
     if (!isWhole) return { kind: found, ...verdict }
-    const events = found === 'events' ? elementsOf(document.text, found) : this.#replayed(document, options)
+    const events = found === 'events' ? readElements(document.text, found) : this.#replay(document, options)
     this.#course.close()
     this.#course = new Course(this.#batch.bytes, this.#requests, { mode, width })
     return { kind: found, ...verdict, run: this.add({ events }) }
   }
 
   /** The events of a replay, with headers and bodies of the outcomes. */
-  #replayed({ text, bytes }, options) {
-    const outcomes = new Map(elementsOf(text, 'outcomes').map((it) => [it.id, it]))
+  #replay({ text, bytes }, options) {
+    const outcomes = new Map(readElements(text, 'outcomes').map((outcome) => [outcome.id, outcome]))
     const { steps } = commands.replay(this.#batch.bytes, bytes, options)
     return steps.map(({ step, id }) => (step === 'start' ? { id } : outcomes.get(id)))
   }
 }
 
 /** The pairs of id and status in the lines of a match. */
-function linesOf(text) {
+function readStatuses(text) {
   return text.split('\n').slice(1).map((line) => line.split(' ')).map(([id, status]) => [id, Number(status)])
 }
 

@@ -31,9 +31,10 @@ function shops(number) {
   }
   const dependsOn = Array.from({ length: number }, (_, at) => `total${at + 1}`)
   requests.push({ id: 'report', dependsOn, method: 'get', url: 'Report' })
-  return `{"requests": [\n${requests.map((it) => `  ${JSON.stringify(it)}`).join(',\n')}\n]}\n`
+  return `{"requests": [\n${requests.map((request) => `  ${JSON.stringify(request)}`).join(',\n')}\n]}\n`
 }
 
+/** @type {[string, string, () => string][]} */
 const MADE = [
   ['6 shops', 'groups side by side', () => shops(6)],
   ['249 shops', 'some 1,000 requests', () => shops(249)],

@@ -2,50 +2,39 @@
 
 // What the requests of a plan need, and what needs them, directly or not.
 
+const { indexRequests, neededNames, ownNames } = require('./states.js')
+
 class Graph {
   #requests
-  #members = new Map()
-  #dependents = new Map()
+  #members
+  #dependents
 
   constructor(requests) {
     this.#requests = requests
-    const add = (map, name, position) => {
-      if (!map.has(name)) map.set(name, [])
-      map.get(name).push(position)
-    }
-    for (const { position, id, group, needs } of requests) {
-      add(this.#members, id, position)
-      if (group !== null) add(this.#members, group, position)
-      for (const name of needs) add(this.#dependents, name, position)
-    }
+    this.#members = indexRequests(requests, ownNames)
+    this.#dependents = indexRequests(requests, neededNames)
   }
 
   /** The positions of all that a request needs. */
   needed(position) {
-    return this.#reached(position, (at) => this.#requests[at].needs, this.#members)
+    return this.#reach(position, neededNames, this.#members)
   }
 
   /** The positions of all that needs a request. */
   dependents(position) {
-    return this.#reached(position, (at) => this.#namesOf(at), this.#dependents)
+    return this.#reach(position, ownNames, this.#dependents)
   }
 
-  /** The names by which others may depend on a request. */
-  #namesOf(position) {
-    const { id, group } = this.#requests[position]
-    return group === null ? [id] : [id, group]
-  }
-
-  #reached(position, namesOf, positionsOf) {
-    const [found, names, open] = [new Set(), new Set(), [position]]
+  #reach(position, namesOf, requestsOf) {
+    const [found, seen, open] = [new Set(), new Set(), [this.#requests[position]]]
     while (open.length > 0) {
       for (const name of namesOf(open.pop())) {
-        if (names.has(name)) continue
-        names.add(name)
-        for (const at of positionsOf.get(name) ?? []) {
-          if (found.has(at) || at === position) continue
-          found.add(at)
-          open.push(at)
+        if (seen.has(name)) continue
+        seen.add(name)
+        for (const request of requestsOf.get(name) ?? []) {
+          if (found.has(request.position) || request.position === position) continue
+          found.add(request.position)
+          open.push(request)
         }
       }
     }

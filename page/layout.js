@@ -12,7 +12,7 @@ const MARGIN = 14
 const LEAST_ROWS = 12
 
 /** The units of the requests: groups, and requests without one, with their members by level. */
-function unitsOf(requests) {
+function groupUnits(requests) {
   const units = new Map()
   for (const request of requests) {
     const key = request.group === null ? `/${request.position}` : request.group
@@ -46,7 +46,7 @@ class Layout {
     this.rows = mostRows(requests, sizes)
     this.#columns(sizes)
     const begun = sizes.map(() => [])
-    for (const unit of unitsOf(requests)) begun[unit.first].push(unit)
+    for (const unit of groupUnits(requests)) begun[unit.first].push(unit)
     for (const units of begun) this.#placeLevel(units)
     this.height = Math.max(HEAD + BOX.height, ...this.#heights.flat()) + MARGIN
   }
@@ -67,9 +67,9 @@ class Layout {
   /** Places the units that begin in a level: first those that other levels share, then the others near what they need. */
   #placeLevel(units) {
     const middle = (unit) => {
-      const needs = [...unit.levels.values()].flat().flatMap((it) => it.needs)
-      const known = needs.map((it) => this.#middles.get(it)).filter((it) => it !== undefined)
-      return known.length > 0 ? known.reduce((sum, it) => sum + it, 0) / known.length : Infinity
+      const names = [...unit.levels.values()].flat().flatMap(({ needs }) => needs)
+      const known = names.map((name) => this.#middles.get(name)).filter((at) => at !== undefined)
+      return known.length > 0 ? known.reduce((sum, at) => sum + at, 0) / known.length : Infinity
     }
     const keyed = units.map((unit) => ({ unit, isLong: unit.last > unit.first, at: middle(unit) }))
     keyed.sort((a, b) => b.isLong - a.isLong || (a.at === b.at ? 0 : a.at - b.at))
@@ -84,7 +84,7 @@ class Layout {
     const y = this.#take(unit, from, columns, height)
     const top = y + (isFramed ? FRAME.top : 0)
     for (const [level, all] of unit.levels) {
-      all.forEach((it, n) => this.#box(it, level, from + Math.floor(n / rows), top + (n % rows) * (BOX.height + GAP_Y)))
+      all.forEach((request, n) => this.#box(request, level, from + Math.floor(n / rows), top + (n % rows) * (BOX.height + GAP_Y)))
     }
     if (isFramed) this.#frame(unit, from, columns, y, height)
   }
@@ -126,20 +126,20 @@ class Layout {
     return y
   }
 
-  #xOf(level, column) {
+  #columnX(level, column) {
     return this.levels[level].x + column * (BOX.width + GAP_X + 2 * FRAME.side)
   }
 
   #box({ position, id }, level, column, y) {
-    const x = this.#xOf(level, column)
+    const x = this.#columnX(level, column)
     this.boxes[position] = { x, y, ...BOX, column }
     this.#middles.set(id, y + BOX.height / 2)
   }
 
   #frame({ group, first, last }, from, columns, y, height) {
     const to = columns === undefined ? this.levels[last].columns - 1 : from + columns - 1
-    const x = this.#xOf(first, from) - FRAME.side
-    const width = this.#xOf(last, to) + BOX.width + FRAME.side - x
+    const x = this.#columnX(first, from) - FRAME.side
+    const width = this.#columnX(last, to) + BOX.width + FRAME.side - x
     this.frames.push({ group, x, y: y + 4, width, height: height - GAP_Y + 2 })
     this.#middles.set(group, y + height / 2)
   }

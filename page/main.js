@@ -5,12 +5,12 @@
 const { byId, copy, count, element } = require('./dom.js')
 const { Editor } = require('./editor.js')
 const { batches, seconds } = require('./examples.js')
-const { showNote, showVerdict } = require('./faults.js')
-const { Kept } = require('./kept.js')
-const { Link } = require('./link.js')
+const { showNote, showVerdict } = require('./verdict_view.js')
+const { Restorer } = require('./restorer.js')
+const { EngineClient } = require('./engine_client.js')
 const { Picture } = require('./picture.js')
-const { RunView } = require('./run.js')
-const { linkOf, readLink } = require('./share.js')
+const { RunView } = require('./run_view.js')
+const { makeLink, readLink } = require('./batch_link.js')
 
 const LONG = 100_000 // characters from which a text is checked once nobody types
 const PAUSE = 250 // milliseconds
@@ -19,8 +19,8 @@ const OWN = 'own'
 const DIGITS = '0123456789ABCDEFGHIJKLMNOPQRSTUVWXYZabcdefghijklmnopqrstuvwxyz!#$%&.)*+-;,=>?@^_`{|}~'
 
 /** The bytes of a text that bin/odb_page has written: five digits to the base 85 stand for four bytes. */
-function bytesOfDigits(text) {
-  const values = new Map(Array.from(DIGITS, (it, at) => [it, at]))
+function readDigits(text) {
+  const values = new Map(Array.from(DIGITS, (digit, value) => [digit, value]))
   const length = Math.floor((text.length * 4) / 5)
   const words = new DataView(new ArrayBuffer(length + 4))
   const full = text + DIGITS.at(-1).repeat(4)
@@ -34,7 +34,7 @@ function bytesOfDigits(text) {
 
 /** The bytes of the module, which the page has packed. */
 async function moduleBytes() {
-  const packed = bytesOfDigits(byId('module').textContent)
+  const packed = readDigits(byId('module').textContent)
   const stream = new Blob([packed]).stream().pipeThrough(new DecompressionStream('gzip'))
   return new Response(stream).arrayBuffer()
 }
@@ -51,7 +51,7 @@ function plainText(bytes) {
 }
 
 class Page {
-  #link
+  #engine
   #editor
   #second
   #picture
@@ -60,7 +60,7 @@ class Page {
   // The batch that was checked last, the example that it is, and what was replaced.
   #checked
   #example = OWN
-  #kept = new Kept((kept) => this.#bringBack(kept))
+  #restorer = new Restorer((replaced) => this.#bringBack(replaced))
   // The batch that is to be checked next, and whether one is being checked.
   #wanted
   #isChecking = false
@@ -69,10 +69,10 @@ class Page {
   checked = Promise.resolve()
   count = 0
 
-  constructor(link) {
-    this.#link = link
+  constructor(engine) {
+    this.#engine = engine
     this.#editor = new Editor(byId('batch-editor'), {
-      id: 'text', label: 'The batch', onInput: (text) => this.#typed(text),
+      id: 'text', label: 'The batch', onInput: (text) => this.#checkTyped(text),
       onLarge: (text) => this.open(new TextEncoder().encode(text)), onMove: (at) => this.#showPart(at),
       onReplace: () => this.#keep('.batch'),
     })
@@ -81,7 +81,7 @@ class Page {
       onLarge: (text) => this.openSecond(new TextEncoder().encode(text)), onMove: () => {},
     })
     this.#picture = new Picture(byId('picture'), byId('about'), (position) => this.#run.goTo(position))
-    this.#run = new RunView(link, this.#picture)
+    this.#run = new RunView(engine, this.#picture)
     this.#offer(byId('examples'), batches, (text, example) => this.write(text, example))
     this.#offer(byId('second-examples'), seconds, (text) => this.#writeSecond(text))
     this.#listen()
@@ -100,8 +100,8 @@ class Page {
     click('read', () => this.readSecond())
     click('copy-events', () => this.#run.copyEvents(byId('copied')))
     addEventListener('hashchange', () => this.fromLink())
-    addEventListener('dragover', (event) => this.#dragged(event, true))
-    addEventListener('dragleave', (event) => this.#dragged(event, false))
+    addEventListener('dragover', (event) => this.#markDrop(event, true))
+    addEventListener('dragleave', (event) => this.#markDrop(event, false))
     addEventListener('drop', (event) => this.#drop(event))
   }
 
@@ -141,13 +141,13 @@ class Page {
   }
 
   #put(batch, example) {
-    this.#of(example)
+    this.#noteExample(example)
     const isText = typeof batch === 'string'
     this.#editor.text = isText ? batch : ''
     this.#check(isText ? this.#editor.text : batch)
   }
 
-  #of(example) {
+  #noteExample(example) {
     this.#example = example
     byId('examples').value = example
   }
@@ -156,26 +156,26 @@ class Page {
   #keep(section) {
     const { events } = this.#run
     const values = { batch: this.#checked, example: this.#example, isOwn: this.#example === OWN, events }
-    this.#kept.keep(document.querySelector(section), values)
+    this.#restorer.keep(document.querySelector(section), values)
   }
 
   async #bringBack({ batch, example, events }) {
     this.#keep('.batch')
     this.#put(batch, example)
     await this.checked
-    await this.#run.bring(events)
+    await this.#run.restore(events)
     byId('text').focus({ preventScroll: true })
   }
 
-  #typed(text) {
-    this.#of(OWN)
+  #checkTyped(text) {
+    this.#noteExample(OWN)
     clearTimeout(this.#pause)
     if (text.length < LONG) return this.#check(text)
-    this.#working()
+    this.#sayWorking()
     this.#pause = setTimeout(() => this.#check(text), PAUSE)
   }
 
-  #working() {
+  #sayWorking() {
     showNote(byId('verdict'), byId('faults'), 'Checking …')
   }
 
@@ -188,12 +188,12 @@ class Page {
 
   async #checkAll() {
     this.#isChecking = true
-    const sign = setTimeout(() => this.#working(), SLOW)
+    const sign = setTimeout(() => this.#sayWorking(), SLOW)
     try {
       while (this.#wanted !== undefined) {
         const batch = this.#wanted
         this.#wanted = undefined
-        const found = await this.#link.ask('check', { batch, options: this.#run.options })
+        const found = await this.#engine.ask('check', { batch, options: this.#run.options })
         this.#checked = batch
         clearTimeout(sign)
         if (this.#wanted === undefined) await this.#show(found, typeof batch !== 'string')
@@ -226,7 +226,7 @@ class Page {
 
   /** Shows a part of a document that cannot be edited here. */
   async #showPart(at) {
-    const part = await this.#link.ask('excerpt', { at: Math.floor(at) })
+    const part = await this.#engine.ask('excerpt', { at: Math.floor(at) })
     this.#editor.showPart(part, 'This document is too long to be edited here, or it is not text: a part of it is shown.')
     this.#editor.marks = this.found?.faults ?? []
   }
@@ -244,7 +244,7 @@ class Page {
     open(bytes)
   }
 
-  #dragged(event, isOver) {
+  #markDrop(event, isOver) {
     if (!event.dataTransfer?.types.includes('Files')) return
     event.preventDefault()
     document.body.classList.toggle('drop', isOver)
@@ -263,7 +263,7 @@ class Page {
   }
 
   async #share() {
-    const part = await linkOf(this.#editor.text)
+    const part = await makeLink(this.#editor.text)
     if (part === undefined || this.found?.size !== new TextEncoder().encode(this.#editor.text).length) {
       byId('shared').textContent = 'The batch is too long for a link.'
       return
@@ -302,7 +302,7 @@ class Page {
     }
     const given = this.#secondBytes ?? this.#second.text
     const values = { document: given, kind: 'events', ...this.#run.options, order: this.#run.order }
-    const read = await this.#link.ask('read', values)
+    const read = await this.#engine.ask('read', values)
     const commands = { events: 'run', outcomes: 'replay', responses: 'match' }
     this.second = read
     this.#second.marks = read.faults.filter(({ inBatch }) => !inBatch)
@@ -325,7 +325,7 @@ class Page {
 
 async function start() {
   const module = await WebAssembly.compile(await moduleBytes())
-  const page = new Page(new Link(byId('code').textContent, module))
+  const page = new Page(new EngineClient(byId('code').textContent, module))
   await page.begin()
   await page.checked
   return page

@@ -3,12 +3,12 @@
 // The plan as a picture: a box a request, a frame a group, an arrow a dependency. Requests that are too many for that are shown
 // by their levels, with counts.
 
-const { cut, count, drawn, element } = require('./dom.js')
+const { cut, count, drawElement, element } = require('./dom.js')
 const { Graph } = require('./graph.js')
 const { Layout, arrow } = require('./layout.js')
 const { drawLevels } = require('./levels.js')
 const { Scroll } = require('./scroll.js')
-const { SIGNS, asks, listed } = require('./words.js')
+const { SIGNS, describeRequest, joinNames } = require('./reasons.js')
 
 const MOST_BOXES = 2000
 const MOST_ARROWS = 6000
@@ -92,11 +92,11 @@ class Picture {
     const layout = new Layout(this.#requests)
     this.#layout = layout
     this.#graph = new Graph(this.#requests)
-    this.#frames = new Map(layout.frames.map((it) => [it.group, it]))
-    const picture = drawn('svg', { 'aria-hidden': 'true' })
-    this.#lit = drawn('g')
-    picture.append(...this.#levelNames(), ...layout.frames.map((it) => this.#frame(it)), ...this.#arrows(), this.#lit)
-    this.#boxes = this.#requests.map((it) => this.#box(it))
+    this.#frames = new Map(layout.frames.map((frame) => [frame.group, frame]))
+    const picture = drawElement('svg', { 'aria-hidden': 'true' })
+    this.#lit = drawElement('g')
+    picture.append(...this.#levelNames(), ...layout.frames.map((frame) => this.#frame(frame)), ...this.#arrows(), this.#lit)
+    this.#boxes = this.#requests.map((request) => this.#box(request))
     picture.append(...this.#boxes.map(({ group }) => group))
     this.#scroll.show(picture, layout)
     picture.addEventListener('pointerover', (event) => this.#point(event))
@@ -108,29 +108,29 @@ class Picture {
 
   #levelNames() {
     return this.#layout.levels.map(({ x, size }, level) => {
-      return drawn('text', { class: 'level', x, y: 18 }, `level ${level} (${count(size, 'request')})`)
+      return drawElement('text', { class: 'level', x, y: 18 }, `level ${level} (${count(size, 'request')})`)
     })
   }
 
   #frame({ group, x, y, width, height }) {
-    const name = drawn('text', { class: 'frame-name', x: x + 8, y: y + 14 }, cut(group, 24))
-    return drawn('g', {}, drawn('rect', { class: 'frame', x, y, width, height, rx: 8 }), name)
+    const name = drawElement('text', { class: 'frame-name', x: x + 8, y: y + 14 }, cut(group, 24))
+    return drawElement('g', {}, drawElement('rect', { class: 'frame', x, y, width, height, rx: 8 }), name)
   }
 
   #box({ position, id, method, url }) {
     const { x, y, width, height } = this.#layout.boxes[position]
-    const sign = drawn('text', { x: x + width - 8, y: y + 16, 'text-anchor': 'end' })
-    const name = drawn('text', { x: x + 8, y: y + 16 }, cut(id, OF_ID))
-    const asked = drawn('text', { class: 'small', x: x + 8, y: y + 31 }, cut(`${method} ${url}`, OF_URL))
-    const shape = drawn('rect', { x, y, width, height, rx: 5 })
-    const group = drawn('g', { class: 'box', 'data-position': position }, shape, name, asked, sign)
+    const sign = drawElement('text', { x: x + width - 8, y: y + 16, 'text-anchor': 'end' })
+    const name = drawElement('text', { x: x + 8, y: y + 16 }, cut(id, OF_ID))
+    const asked = drawElement('text', { class: 'small', x: x + 8, y: y + 31 }, cut(`${method} ${url}`, OF_URL))
+    const shape = drawElement('rect', { x, y, width, height, rx: 5 })
+    const group = drawElement('g', { class: 'box', 'data-position': position }, shape, name, asked, sign)
     return { group, sign, classes: new Set() }
   }
 
   /** Where an arrow for a name begins: at the frame of a group, or at the box of a request. */
   #source(name) {
     if (this.#frames.has(name)) return this.#frames.get(name)
-    const [request] = this.#reasons.membersOf(name)
+    const [request] = this.#reasons.members(name)
     return request && this.#layout.boxes[request.position]
   }
 
@@ -148,17 +148,17 @@ class Picture {
       }
     }
     return Object.entries(parts).flatMap(([of, [lines, heads]]) => [
-      drawn('path', { class: `arrow ${of} ${kind}`, d: lines.join('') }),
-      drawn('path', { class: `head ${kind}`, d: heads.join('') }),
+      drawElement('path', { class: `arrow ${of} ${kind}`, d: lines.join('') }),
+      drawElement('path', { class: `head ${kind}`, d: heads.join('') }),
     ])
   }
 
   /** The arrows of the requests, up to a number, in parts, so that the browser need not paint those that cannot be seen. */
   #arrows() {
     let arrows = 0
-    const drawnOnes = this.#requests.filter(({ needs }) => (arrows += needs.length) <= MOST_ARROWS)
-    const parts = Array.from({ length: Math.ceil(drawnOnes.length / OF_PART) }, (_, at) => at * OF_PART)
-    return parts.flatMap((at) => this.#paths(drawnOnes.slice(at, at + OF_PART), ''))
+    const shown = this.#requests.filter(({ needs }) => (arrows += needs.length) <= MOST_ARROWS)
+    const parts = Array.from({ length: Math.ceil(shown.length / OF_PART) }, (_, at) => at * OF_PART)
+    return parts.flatMap((at) => this.#paths(shown.slice(at, at + OF_PART), ''))
   }
 
   #point(event) {
@@ -203,7 +203,7 @@ class Picture {
   #litArrows(position) {
     const { id, group } = this.#requests[position]
     const after = this.#requests.filter(({ needs }) => needs.includes(id) || (group !== null && needs.includes(group)))
-    const only = after.map((it) => ({ ...it, needs: it.needs.filter((name) => name === id || name === group) }))
+    const only = after.map((other) => ({ ...other, needs: other.needs.filter((name) => name === id || name === group) }))
     return [...this.#paths([this.#requests[position]], 'needed'), ...this.#paths(only, 'dependent')]
   }
 
@@ -221,14 +221,15 @@ class Picture {
     ]
     const why = this.#reasons.why(request)
     const state = `${this.#reasons.words(request)}${why ? `: ${why}` : ''}`
-    return [element('span', { class: 'mono' }, id), ` ${asks(request, 120)} · ${parts.filter(Boolean).join(' · ')} · ${state}`]
+    const about = [describeRequest(request, 120), ...parts.filter(Boolean), state].join(' · ')
+    return [element('span', { class: 'mono' }, id), ` ${about}`]
   }
 
   /** Which requests may run beside one: those that it does not need, and that do not need it. */
   #beside(position, needed, dependents) {
     if (this.#requests.length > MOST_BESIDE) return ''
-    const others = this.#requests.filter((it, at) => at !== position && !needed.has(at) && !dependents.has(at))
-    return others.length > 0 ? `may run beside ${listed(others.map(({ id }) => id))}` : 'nothing may run beside it'
+    const others = this.#requests.filter((_, at) => at !== position && !needed.has(at) && !dependents.has(at))
+    return others.length > 0 ? `may run beside ${joinNames(others.map(({ id }) => id))}` : 'nothing may run beside it'
   }
 
   #zoomKey(event) {
@@ -271,7 +272,7 @@ class Picture {
       this.#kinds[position] = key
       const kind = this.#reasons.kind(request)
       const status = this.#reasons.status(request)
-      box.group.setAttribute('class', `box state-${kind}${[...box.classes].map((it) => ` ${it}`).join('')}`)
+      box.group.setAttribute('class', `box state-${kind}${[...box.classes].map((name) => ` ${name}`).join('')}`)
       box.sign.textContent = `${SIGNS[kind]}${status ? ` ${status}` : ''}`
       if (position === this.#chosen) this.#light(position)
     })

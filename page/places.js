@@ -2,7 +2,7 @@
 
 // Where in a text a fault is: as ranges of the text, and as line and column. One scan finds the elements of all faults.
 
-const { elementsAt, membersAt, skipSpace } = require('./json.js')
+const { elementsAt, membersAt, skipSpace } = require('../node/documents/json_scanner.js')
 
 // The member of an element that the rule of a fault is about.
 const MEMBER = {
@@ -100,22 +100,22 @@ class Places {
     return this.#lines
   }
 
-  #elementsOf(name) {
+  #listElements(name) {
     if (!this.#elements.has(name)) this.#elements.set(name, new Elements(this.#text, name))
     return this.#elements.get(name)
   }
 
   /** The range of what a fault names, its id, the range in it that the rule is about, and its line and column. */
-  of(fault) {
-    const found = this.#rangeOf(fault)
+  locate(fault) {
+    const found = this.#findRange(fault)
     const whole = { start: found.start, end: found.end }
     return { whole, part: found.part ?? whole, id: found.id, ...this.lines.at(found.place ?? whole.start) }
   }
 
-  #rangeOf(fault) {
+  #findRange(fault) {
     const { code, place } = fault
     const [, name, position] = OF_ELEMENT.exec(place) ?? []
-    const elements = name && this.#elementsOf(name)
+    const elements = name && this.#listElements(name)
     const element = elements?.at(Number(position))
     if (element) return { ...element, ...elements.about(Number(position), MEMBER[code]) }
     if (code === 'F01') return { start: 0, end: 0 }

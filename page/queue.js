@@ -2,6 +2,8 @@
 
 // What may come next in a run that starts all that it can, kept from event to event, so that no list of all requests is made.
 
+const { indexRequests, neededNames, ownNames } = require('./states.js')
+
 /** Puts a number into an ascending list. */
 function insert(list, number) {
   let [low, high] = [0, list.length]
@@ -22,19 +24,14 @@ function remove(list, number) {
 class Queue {
   #requests
   #positions
-  #dependents = new Map()
+  #dependents
   #ready = []
   #running = []
 
   constructor(requests) {
     this.#requests = requests
     this.#positions = new Map(requests.map(({ id, position }) => [id, position]))
-    for (const { position, needs } of requests) {
-      for (const name of needs) {
-        if (!this.#dependents.has(name)) this.#dependents.set(name, [])
-        this.#dependents.get(name).push(position)
-      }
-    }
+    this.#dependents = indexRequests(requests, neededNames)
   }
 
   /** Takes the lists of a run. */
@@ -51,8 +48,8 @@ class Queue {
       insert(this.#running, position)
       return
     }
-    for (const name of [id, this.#requests[position].group]) {
-      for (const at of this.#dependents.get(name) ?? []) if (isReady(this.#requests[at].id)) insert(this.#ready, at)
+    for (const name of ownNames(this.#requests[position])) {
+      for (const other of this.#dependents.get(name) ?? []) if (isReady(other.id)) insert(this.#ready, other.position)
     }
   }
 

@@ -12,4 +12,26 @@ function usualStatus(method) {
   return USUAL[method] ?? 204
 }
 
-module.exports = { STATES, usualStatus }
+/** The requests for each of the names that `names` returns of one. */
+function indexRequests(requests, names) {
+  const found = new Map()
+  for (const request of requests) {
+    for (const name of names(request)) {
+      if (!found.has(name)) found.set(name, [])
+      found.get(name).push(request)
+    }
+  }
+  return found
+}
+
+/** The names by which others may depend on a request. */
+function ownNames({ id, group }) {
+  return group === null ? [id] : [id, group]
+}
+
+/** The names that a request depends on. */
+function neededNames({ needs }) {
+  return needs
+}
+
+module.exports = { STATES, indexRequests, neededNames, ownNames, usualStatus }

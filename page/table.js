@@ -5,7 +5,7 @@
 
 const { count, element } = require('./dom.js')
 const { usualStatus } = require('./states.js')
-const { SIGNS, asks } = require('./words.js')
+const { SIGNS, describeRequest } = require('./reasons.js')
 
 const MOST_ROWS = 100
 const FILTERS = {
@@ -45,7 +45,7 @@ class Table {
     this.#filter = element('select', { onchange: () => this.#fill() }, ...options)
     this.#note = element('p', { class: 'note more' })
     this.#body = element('tbody', { role: 'rowgroup', onkeydown: (event) => this.#key(event) })
-    const heads = TITLES.map((it) => element('th', { scope: 'col', role: 'columnheader' }, it))
+    const heads = TITLES.map((title) => element('th', { scope: 'col', role: 'columnheader' }, title))
     // Roles are named, since a narrow window shows the rows as blocks.
     const head = element('thead', { role: 'rowgroup' }, element('tr', { role: 'row' }, ...heads))
     const about = { class: 'requests', role: 'table', 'aria-label': 'The requests of the run' }
@@ -81,7 +81,7 @@ class Table {
   }
 
   /** What a request is answered if it is reported now. */
-  answerOf({ id, method }) {
+  answer({ id, method }) {
     return { status: usualStatus(method), ...this.#answers[id] }
   }
 
@@ -89,10 +89,10 @@ class Table {
   #fill() {
     const [, isShown] = FILTERS[this.#filter.value]
     const words = this.#find.value.trim().toLowerCase()
-    const fitting = this.#requests.filter((it) => it.id.toLowerCase().includes(words) && isShown(this.#reasons.kind(it)))
+    const fitting = this.#requests.filter((each) => each.id.toLowerCase().includes(words) && isShown(this.#reasons.kind(each)))
     const shown = fitting.slice(0, MOST_ROWS)
-    this.#body.replaceChildren(...shown.flatMap((it) => this.#row(it).rows))
-    for (const it of shown) this.#update(it)
+    this.#body.replaceChildren(...shown.flatMap((request) => this.#row(request).rows))
+    for (const request of shown) this.#update(request)
     this.#note.textContent = fitting.length > MOST_ROWS ? `The first ${MOST_ROWS} of ${count(fitting.length, 'request')}.` : ''
   }
 
@@ -110,10 +110,10 @@ class Table {
       more.setAttribute('aria-expanded', String(!parts.hidden))
     })
     more.setAttribute('aria-expanded', 'false')
-    const asked = element('small', { title: asks(request, 400) }, asks(request))
+    const asks = element('small', { title: describeRequest(request, 400) }, describeRequest(request))
     const row = element(
       'tr', { role: 'row', 'data-position': position, onfocusin: () => this.#listener.focused(request) },
-      element('th', { scope: 'row', role: 'rowheader' }, element('b', {}, id), asked),
+      element('th', { scope: 'row', role: 'rowheader' }, element('b', {}, id), asks),
       element('td', { role: 'cell' }, state, why), element('td', { role: 'cell', class: 'status' }, status),
       element('td', { role: 'cell', class: 'does' }, start, report, more),
     )
@@ -125,18 +125,18 @@ class Table {
   /** The field for the status of an answer: what has the focus is selected, so that typing replaces it. */
   #status(request) {
     const { id } = request
-    const mark = (it) => field.setAttribute('aria-invalid', String(!isStatus(it)))
+    const mark = (number) => field.setAttribute('aria-invalid', String(!isStatus(number)))
     const select = () => field.select()
-    const taken = () => {
+    const read = () => {
       const status = Number(field.value) || 0
-      this.#answer(id, { status })
+      this.#changeAnswer(id, { status })
       mark(status)
       if (isStatus(status)) this.#listener.mended(request)
     }
-    const { status } = this.answerOf(request)
+    const { status } = this.answer(request)
     const field = element('input', {
       type: 'text', inputmode: 'numeric', size: '3', maxlength: '3', value: String(status),
-      'aria-label': `The status that ${id} is answered`, onfocus: select, onclick: select, oninput: taken,
+      'aria-label': `The status that ${id} is answered`, onfocus: select, onclick: select, oninput: read,
     })
     mark(status)
     return field
@@ -150,14 +150,14 @@ class Table {
   #parts({ id }) {
     const field = (name, title, example) => element('label', {}, title, element('textarea', {
       spellcheck: 'false', placeholder: example, 'aria-label': `${title} of the answer to ${id}`,
-      oninput: ({ target }) => this.#answer(id, { [name]: target.value.trim() || undefined }),
+      oninput: ({ target }) => this.#changeAnswer(id, { [name]: target.value.trim() || undefined }),
     }, this.#answers[id]?.[name]))
     const fields = [field('headers', 'Headers', '{"Location": "Loans(1)"}'), field('body', 'Body', '{"Due": "2026-12-01"}')]
     const cell = element('td', { role: 'cell', colspan: TITLES.length }, element('div', {}, ...fields))
     return element('tr', { class: 'parts', role: 'row', hidden: true }, cell)
   }
 
-  #answer(id, change) {
+  #changeAnswer(id, change) {
     this.#answers[id] = { ...this.#answers[id], ...change }
   }
 
@@ -200,7 +200,7 @@ class Table {
     const parts = [...row.querySelectorAll('input, button')]
     const at = parts.indexOf(target)
     if (key in MOVES) {
-      const rows = [...this.#body.rows].filter((it) => it.dataset.position)
+      const rows = [...this.#body.rows].filter(({ dataset }) => dataset.position)
       rows[rows.indexOf(row) + MOVES[key]]?.querySelectorAll('input, button')[at]?.focus()
     } else if (key in SIDES && target.tagName === 'BUTTON') {
       parts[at + SIDES[key]]?.focus()

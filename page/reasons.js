@@ -3,7 +3,7 @@
 // What the page says of requests: their states in words, and why a request waits or is skipped.
 
 const { cut } = require('./dom.js')
-const { STATES } = require('./states.js')
+const { STATES, indexRequests, ownNames } = require('./states.js')
 
 // The sign of each state, which does not depend on colours.
 const SIGNS = { waiting: '·', ready: '○', running: '▶', success: '✓', failure: '✕', skipped: '–', undone: '↶' }
@@ -14,29 +14,24 @@ function isSuccess(status) {
 }
 
 /** The state as the page colours it: a request that has reported is a success or a failure. */
-function kindOf(state, status) {
+function stateKind(state, status) {
   if (STATES[state] !== 'reported') return STATES[state]
   return isSuccess(status) ? 'success' : 'failure'
 }
 
 /** Some names in a row, of which the last come after an 'and'. */
-function listed(names) {
+function joinNames(names) {
   if (names.length > MOST_NAMES) return `${names.slice(0, MOST_NAMES).join(', ')} and ${names.length - MOST_NAMES} more`
   return names.length > 1 ? `${names.slice(0, -1).join(', ')} and ${names.at(-1)}` : (names[0] ?? '')
 }
 
 /** A batch and its run, as far as reasons need them. */
 class Reasons {
-  #members = new Map()
+  #members
   #run
 
   constructor(requests) {
-    for (const request of requests) {
-      for (const name of request.group === null ? [request.id] : [request.id, request.group]) {
-        if (!this.#members.has(name)) this.#members.set(name, [])
-        this.#members.get(name).push(request)
-      }
-    }
+    this.#members = indexRequests(requests, ownNames)
   }
 
   /** Takes the snapshot of a run. */
@@ -45,17 +40,17 @@ class Reasons {
   }
 
   kind({ position }) {
-    return kindOf(this.#run.states[position], this.#run.statuses[position])
+    return stateKind(this.#run.states[position], this.#run.statuses[position])
   }
 
   /** The requests that a name stands for. */
-  membersOf(name) {
+  members(name) {
     return this.#members.get(name) ?? []
   }
 
   /** A name, which is that of a request or of a group. */
-  #called(name) {
-    return this.membersOf(name)[0]?.group === name ? `the group ${name}` : name
+  #nameWithKind(name) {
+    return this.members(name)[0]?.group === name ? `the group ${name}` : name
   }
 
   status({ position }) {
@@ -86,37 +81,38 @@ class Reasons {
   why(request) {
     const kind = this.kind(request)
     if (kind === 'waiting') {
-      const open = request.needs.filter((name) => !this.membersOf(name).every((it) => this.kind(it) === 'success'))
+      const open = request.needs.filter((name) => !this.members(name).every((member) => this.kind(member) === 'success'))
       if (open.length === 0) return 'as many requests run as may run at once'
-      return `waits for ${listed(open.map((name) => this.#called(name)))}`
+      return `waits for ${joinNames(open.map((name) => this.#nameWithKind(name)))}`
     }
     if (kind === 'skipped') return this.#whySkipped(request)
     if (kind !== 'undone') return ''
-    return `${this.#lostIn(request.group, request)}, and the group ${request.group} is applied as a whole or not at all`
+    return `${this.#describeLost(request.group, request)}, and the group ${request.group} is applied as a whole or not at all`
   }
 
   #whySkipped(request) {
     const { stopped } = this.#run
     if (stopped) return `the run has stopped, since ${stopped.id} was answered ${stopped.status}`
-    const lost = request.needs.find((name) => this.membersOf(name).some((it) => this.#isLost(it)))
-    if (lost !== undefined) return `it needs ${this.#called(lost)}, and ${this.#lostIn(lost)}`
-    const failed = request.group !== null && this.membersOf(request.group).some((it) => it !== request && this.#isLost(it))
-    return failed ? `${this.#lostIn(request.group, request)} in its group ${request.group}` : ''
+    const lost = request.needs.find((name) => this.members(name).some((member) => this.#isLost(member)))
+    if (lost !== undefined) return `it needs ${this.#nameWithKind(lost)}, and ${this.#describeLost(lost)}`
+    const others = request.group === null ? [] : this.members(request.group).filter((member) => member !== request)
+    const hasLost = others.some((member) => this.#isLost(member))
+    return hasLost ? `${this.#describeLost(request.group, request)} in its group ${request.group}` : ''
   }
 
   /** What has failed of a name. */
-  #lostIn(name, but) {
-    const members = this.membersOf(name).filter((it) => it !== but)
-    const failed = members.find((it) => this.kind(it) === 'failure')
+  #describeLost(name, but) {
+    const members = this.members(name).filter((member) => member !== but)
+    const failed = members.find((member) => this.kind(member) === 'failure')
     if (failed) return `${failed.id} was answered ${this.status(failed)}`
-    const lost = members.find((it) => this.#isLost(it))
+    const lost = members.find((member) => this.#isLost(member))
     return lost ? `${lost.id} was not started` : `${name} has failed`
   }
 }
 
 /** What a request asks for. */
-function asks({ method, url }, most = 60) {
+function describeRequest({ method, url }, most = 60) {
   return `${method} ${cut(url, most)}`
 }
 
-module.exports = { Reasons, SIGNS, asks, isSuccess, listed }
+module.exports = { Reasons, SIGNS, describeRequest, isSuccess, joinNames }

@@ -4,7 +4,7 @@
 
 const { count, element } = require('./dom.js')
 
-class Kept {
+class Restorer {
   #line = element('p', { class: 'note replaced', role: 'status' })
   #bringBack
 
@@ -25,4 +25,4 @@ class Kept {
   }
 }
 
-module.exports = { Kept }
+module.exports = { Restorer }

@@ -12,7 +12,7 @@ const DAMAGED = 'The link is damaged: it carries no batch.'
 const TOO_LONG = `The link is refused: it carries more than the ${count(MOST_TEXT, 'byte')} that a link of this page may have.`
 
 /** Puts bytes through a stream; returns undefined as soon as there are more of them than that. */
-async function through(bytes, stream, most = Infinity) {
+async function pipe(bytes, stream, most = Infinity) {
   const reader = new Blob([bytes]).stream().pipeThrough(stream).getReader()
   const parts = []
   let length = 0
@@ -29,8 +29,8 @@ async function through(bytes, stream, most = Infinity) {
 }
 
 /** The part of a link that carries a text, or undefined if that is too long. */
-async function linkOf(text) {
-  const packed = await through(new TextEncoder().encode(text), new CompressionStream('deflate-raw'))
+async function makeLink(text) {
+  const packed = await pipe(new TextEncoder().encode(text), new CompressionStream('deflate-raw'))
   if (packed.length > MOST) return undefined
   const letters = btoa(String.fromCharCode(...packed))
   return PREFIX + letters.replaceAll('+', '-').replaceAll('/', '_').replace(/=+$/, '')
@@ -40,7 +40,7 @@ async function linkOf(text) {
 async function readLink(part) {
   if (!part.startsWith(PREFIX)) return {}
   try {
-    const text = await textOf(part.slice(PREFIX.length))
+    const text = await unpackText(part.slice(PREFIX.length))
     return text === undefined ? { refusal: TOO_LONG } : { text }
   } catch {
     return { refusal: DAMAGED }
@@ -48,12 +48,12 @@ async function readLink(part) {
 }
 
 /** The text of the letters of a link, or undefined if it is too long; throws an exception if they are damaged. */
-async function textOf(letters) {
-  const packed = Uint8Array.from(atob(letters.replaceAll('-', '+').replaceAll('_', '/')), (it) => it.charCodeAt(0))
+async function unpackText(letters) {
+  const packed = Uint8Array.from(atob(letters.replaceAll('-', '+').replaceAll('_', '/')), (letter) => letter.charCodeAt(0))
   if (packed.length > MOST) return undefined
-  const bytes = await through(packed, new DecompressionStream('deflate-raw'), MOST_TEXT)
+  const bytes = await pipe(packed, new DecompressionStream('deflate-raw'), MOST_TEXT)
   const text = bytes && new TextDecoder('utf-8', { fatal: true, ignoreBOM: true }).decode(bytes)
   return text !== undefined && Editor.takes(text) ? text : undefined
 }
 
-module.exports = { linkOf, readLink }
+module.exports = { makeLink, readLink }

@@ -3,10 +3,10 @@
 // The run of a batch: its buttons and options, the table of its requests, and what is shown of it elsewhere.
 
 const { byId, copy, count } = require('./dom.js')
-const { showComparison, showResponse } = require('./response.js')
+const { showComparison, showResponse } = require('./response_view.js')
 const { Table } = require('./table.js')
 const { showTimeline } = require('./timeline.js')
-const { Reasons, listed } = require('./words.js')
+const { Reasons, joinNames } = require('./reasons.js')
 
 const MOST_WIDTH = 10_000
 const OF_FRAME = 16 // milliseconds
@@ -15,26 +15,26 @@ const MANY = 500
 const BAD_STATUS = 'P2'
 
 class RunView {
-  #link
+  #engine
   #picture
   #table
   #requests = []
   #reasons
   #run
   // What `match` makes of the responses of a service, once some were read.
-  #served = {}
+  #service = {}
   #isPlaying = false
   // The id of the request whose status was refused last, while the page says so.
   #badStatus
 
-  constructor(link, picture) {
-    this.#link = link
+  constructor(engine, picture) {
+    this.#engine = engine
     this.#picture = picture
     this.#table = new Table(byId('requests'), {
       start: (request) => this.#add(request, undefined),
-      report: (request) => this.#add(request, this.#table.answerOf(request)),
+      report: (request) => this.#add(request, this.#table.answer(request)),
       focused: (request) => this.#picture.choose(request.position),
-      mended: (request) => this.#mended(request),
+      mended: (request) => this.#sayMended(request),
     })
     byId('play').addEventListener('click', () => this.#play())
     byId('step').addEventListener('click', () => this.#step())
@@ -67,11 +67,11 @@ class RunView {
     this.#reasons = new Reasons(requests)
     this.#reasons.run = run
     this.#run = run
-    this.#served = {}
+    this.#service = {}
     this.#picture.show(requests, this.#reasons)
     this.#table.show(requests, this.#reasons)
-    this.#shown(run)
-    this.#say(this.#happened(''))
+    this.#showRun(run)
+    this.#say(this.#describe(''))
   }
 
   /** Shows that there is no batch to run. */
@@ -91,26 +91,26 @@ class RunView {
   /** Shows a run that was read from a document. */
   replace(run) {
     this.#isPlaying = false
-    this.#shown(run)
-    this.#say(this.#happened('Read. '))
+    this.#showRun(run)
+    this.#say(this.#describe('Read. '))
   }
 
   /** Has the events of an earlier run come again. */
-  async bring(events) {
-    if (events.length > 0 && (await this.#ask('add', { events }))) this.#say(this.#happened('The run is back. '))
+  async restore(events) {
+    if (events.length > 0 && (await this.#ask('add', { events }))) this.#say(this.#describe('The run is back. '))
   }
 
   /** Shows what a service has answered, and answers the requests so from now on; or shows that nothing was read of one. */
-  compare(served) {
-    this.#served = served
+  compare(service) {
+    this.#service = service
     if (!this.#run) return
-    if (served.answers) this.#table.take(served.answers)
-    showComparison(byId('comparison'), served, this.#requests, this.#run)
+    if (service.answers) this.#table.take(service.answers)
+    showComparison(byId('comparison'), service, this.#requests, this.#run)
   }
 
   /** Copies the events of the run as a document, and says so in a note. */
   async copyEvents(note) {
-    if (this.#run) await copy(await this.#link.ask('document'), note)
+    if (this.#run) await copy(await this.#engine.ask('document'), note)
   }
 
   /** Goes to a request in the table. */
@@ -123,9 +123,9 @@ class RunView {
     if (!this.#run) return undefined
     const of = this.#requests
     try {
-      const run = await this.#link.ask(job, values)
+      const run = await this.#engine.ask(job, values)
       if (of !== this.#requests) return undefined
-      this.#shown(run)
+      this.#showRun(run)
       return run
     } catch (error) {
       if (of === this.#requests) this.#say(`The library has ended: ${error.message}`, true)
@@ -137,38 +137,38 @@ class RunView {
     this.#isPlaying = false
     const run = await this.#ask('add', { events: [{ id, ...answer }] })
     if (!run) return
-    if (run.refusal) this.#refused(run.refusal, answer)
-    else this.#say(this.#happened(answer ? `Reported ${id}: ${answer.status}. ` : `Started ${id}. `))
+    if (run.refusal) this.#sayRefused(run.refusal, answer)
+    else this.#say(this.#describe(answer ? `Reported ${id}: ${answer.status}. ` : `Started ${id}. `))
   }
 
-  #refused({ code, name, id, explanation }, answer) {
+  #sayRefused({ code, name, id, explanation }, answer) {
     this.#say(`${answer ? 'The report' : 'The start'} of ${id} is refused: ${code} ${name}. ${explanation}`, true)
     if (code === BAD_STATUS) this.#badStatus = id
   }
 
   /** Says no longer that a status is refused, once it is one. */
-  #mended({ id }) {
-    if (id === this.#badStatus) this.#say(this.#happened(''))
+  #sayMended({ id }) {
+    if (id === this.#badStatus) this.#say(this.#describe(''))
   }
 
   /** The last event, and what may come now. */
-  #happened(begin) {
-    const ready = this.#requests.filter((it) => this.#reasons.kind(it) === 'ready').map(({ id }) => id)
-    const running = this.#requests.filter((it) => this.#reasons.kind(it) === 'running').map(({ id }) => id)
-    if (this.#run.finished) return `${begin}The run is finished. ${this.#end()}`
+  #describe(begin) {
+    const ready = this.#requests.filter((request) => this.#reasons.kind(request) === 'ready').map(({ id }) => id)
+    const running = this.#requests.filter((request) => this.#reasons.kind(request) === 'running').map(({ id }) => id)
+    if (this.#run.finished) return `${begin}The run is finished. ${this.#describeEnd()}`
     const parts = [['May start', ready], ['Running', running]].filter(([, ids]) => ids.length > 0)
-    return `${begin}${parts.map(([title, ids]) => `${title}: ${listed(ids)}.`).join(' ')}`
+    return `${begin}${parts.map(([title, ids]) => `${title}: ${joinNames(ids)}.`).join(' ')}`
   }
 
   /** How the run has ended. */
-  #end() {
-    const kinds = this.#requests.map((it) => this.#reasons.kind(it))
-    const number = (kind) => kinds.filter((it) => it === kind).length
+  #describeEnd() {
+    const kinds = this.#requests.map((request) => this.#reasons.kind(request))
+    const number = (kind) => kinds.filter((each) => each === kind).length
     const parts = [['success', 'succeeded'], ['failure', 'failed'], ['skipped', 'not started and answered 424']]
     const counted = parts.map(([kind, word]) => [number(kind), word]).filter(([found]) => found > 0)
     const words = counted.map(([found, word]) => `${count(found, 'request')} ${word}`)
     const { undone } = this.#run
-    if (undone.length > 0) words.push(`${count(undone.length, 'request')} to be undone: ${listed(undone)}`)
+    if (undone.length > 0) words.push(`${count(undone.length, 'request')} to be undone: ${joinNames(undone)}`)
     return words.length > 0 ? `${words.join(', ')}.` : ''
   }
 
@@ -188,8 +188,8 @@ class RunView {
   async #next(number) {
     const run = await this.#ask('play', { order: this.order, answers: this.#table.answers, count: number })
     if (!run) return false
-    if (run.refusal) this.#refused(run.refusal, {})
-    else this.#say(this.#happened(this.#lastEvent(run)))
+    if (run.refusal) this.#sayRefused(run.refusal, {})
+    else this.#say(this.#describe(this.#lastEvent(run)))
     return !run.refusal && !run.finished
   }
 
@@ -213,27 +213,27 @@ class RunView {
     if (this.events.length === 0) return
     const { id, status } = this.events.at(-1)
     const what = status === undefined ? 'the start' : 'the report'
-    if (await this.#ask('undo')) this.#say(this.#happened(`Took back ${what} of ${id}. `))
+    if (await this.#ask('undo')) this.#say(this.#describe(`Took back ${what} of ${id}. `))
   }
 
   async #restart() {
     this.#isPlaying = false
-    if (await this.#ask('restart')) this.#say(this.#happened('The run begins anew. '))
+    if (await this.#ask('restart')) this.#say(this.#describe('The run begins anew. '))
   }
 
   async #reopen() {
     this.#isPlaying = false
-    if (await this.#ask('open', this.options)) this.#say(this.#happened('The run begins anew with these options. '))
+    if (await this.#ask('open', this.options)) this.#say(this.#describe('The run begins anew with these options. '))
   }
 
-  #shown(run) {
+  #showRun(run) {
     this.#run = run
     this.#reasons.run = run
     this.#picture.paint()
     this.#table.paint()
-    showTimeline(byId('timeline'), run, (id) => this.#reasons.kind(this.#reasons.membersOf(id)[0]))
+    showTimeline(byId('timeline'), run, (id) => this.#reasons.kind(this.#reasons.members(id)[0]))
     showResponse(byId('response'), run, (note) => this.copyEvents(note))
-    showComparison(byId('comparison'), this.#served, this.#requests, run)
+    showComparison(byId('comparison'), this.#service, this.#requests, run)
     this.#buttons()
   }
 

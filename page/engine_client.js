@@ -2,7 +2,7 @@
 
 // How the page reaches the engine: in a worker, so that it never waits for the library, or here where there are no workers.
 
-class Link {
+class EngineClient {
   #worker
   #engine
   #waiting = new Map()
@@ -48,4 +48,4 @@ class Link {
   }
 }
 
-module.exports = { Link }
+module.exports = { EngineClient }

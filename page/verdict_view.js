@@ -7,7 +7,7 @@ const { count, element } = require('./dom.js')
 const MOST_LISTED = 200
 
 /** A fault of the list. A click on its place leads there. */
-function itemOf(fault, goTo) {
+function makeItem(fault, goTo) {
   const { code, name, place, id, explanation, line, column } = fault
   const where = fault.inBatch ? `${place} of the batch, line ${line}` : `line ${line}, column ${column}`
   const link = element('button', { type: 'button', class: 'link', onclick: () => goTo(fault) }, where)
@@ -23,7 +23,7 @@ function showVerdict(place, list, { accepted, text, faults }, about, goTo) {
   const first = faults[0] ? ` Line ${faults[0].line}, column ${faults[0].column}.` : ''
   place.className = `verdict ${accepted ? 'accepted' : 'refused'}`
   place.replaceChildren(`${words}: `, element('span', { class: 'line' }, line), `.${first} ${about}`)
-  const items = faults.slice(0, MOST_LISTED).map((it) => itemOf(it, goTo))
+  const items = faults.slice(0, MOST_LISTED).map((fault) => makeItem(fault, goTo))
   if (faults.length > MOST_LISTED) items.push(element('li', {}, `and ${count(faults.length - MOST_LISTED, 'more fault')}`))
   list.replaceChildren(items.length > 0 ? element('ol', { class: 'faults' }, ...items) : '')
 }
