@@ -1,11 +1,14 @@
 """Cases in which a batch has one URL more than once."""
 
-from typing import List, Optional
+from typing import Optional
 
-from ._alone import asked, with_twin
+from ._alone import asked, together, with_twin
 from ._promises import Case
 from ._rows import ROWS_BY_NAME
 from ._stage import Shown, Stage
+
+
+LISTS = ("get-filtered", "get-listed", "get-filtered", "get-listed")
 
 
 def read_after_each(stage: Stage, group: Optional[str] = None) -> None:
@@ -29,6 +32,21 @@ def read_alike(stage: Stage) -> None:
         needs = {"dependsOn": ["r0"]} if k > 1 else {}
         own = first._replace(step=first.step._replace(request={**first.step.request, "id": f"r{k}", **needs}))
         stage.steps.append(with_twin(stage.entities, own, first, first))
+
+
+def read_around_group(stage: Stage) -> None:
+    """Reads of one entity before and after a group that changes it."""
+    subject = stage.subject()
+    stage.act("before", "read", subject, promise="order")
+    stage.act("change", "patch", subject, needs=["before"], group="g")
+    stage.write("w", group="g")
+    stage.act("after", "read", subject, needs=["g"], promise="order")
+
+
+def create_twice(stage: Stage) -> None:
+    subject = stage.subject(False)
+    stage.act("first", "create", subject)
+    stage.act("second", "create", subject, needs=["first"])
 
 
 def list_after_delete(stage: Stage) -> None:
@@ -63,11 +81,14 @@ CASES = (
     Case("again-read", "order", "reads of one entity, before and after each change of it", read_after_each),
     Case("again-in-group", "order", "the same in a group", in_group, needs=["patch"]),
     Case("again-alike", "alone", "reads of one entity that nothing changes", read_alike),
+    Case("again-group", "order", "reads before and after a group", read_around_group, needs=["patch"]),
+    Case("again-create", "alone", "a POST of what is created", create_twice, kind="key", needs=["named"]),
+    Case("again-lists", "alone", "lists of one set by different options", together(LISTS), needs=["text", "filter"]),
     Case("again-list", "order", "a list before and after a delete", list_after_delete, needs=["text", "filter"]),
     Case("again-delete", "order", "a delete of what is deleted", delete_twice, kind="missing"),
     Case("again-change", "order", "a change, another one, and the first once more", change_twice, needs=["patch"]),
 )
 
 
-def again() -> List[Case]:
+def again() -> list[Case]:
     return list(CASES)

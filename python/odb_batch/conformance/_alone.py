@@ -1,9 +1,9 @@
 """Cases in which a request of a batch is compared with the same request alone, on entities of their own."""
 
-from typing import Any, Callable, List, NamedTuple, Optional, Sequence
+from typing import Any, Callable, NamedTuple, Optional, Sequence
 
 from ._entities import Entities, Entity
-from ._kinds import ask_alone
+from ._failure_kinds import ask_alone
 from ._promises import Case
 from ._rows import BODIES, MINIMAL, ROWS, ROWS_BY_NAME, TARGETS, Row
 from ._stage import Stage, Step
@@ -18,14 +18,14 @@ class Asked(NamedTuple):
     mark: Any
 
 
-def asked(entities: Entities, row: Row, id: str, **where: Any) -> Asked:
+def asked(entities: Entities, row: Row, request_id: str, **where: Any) -> Asked:
     """Makes what a request of a row needs."""
     entity, mark = TARGETS[row.target](entities), entities.new_mark()
     url = entities.set if row.method == "post" and row.target != "no set" else entity.url
     if row.target == "missing" and row.method in ("patch", "put"):
         # such a request creates the entity in some services
         entities.note(url)
-    if row.target == "found":
+    if row.target in ("found", "found both"):
         url = entities.url_of_marked(entity.mark)
     headers = dict(row.headers)
     if any("{etag}" in value for value in headers.values()):
@@ -33,7 +33,7 @@ def asked(entities: Entities, row: Row, id: str, **where: Any) -> Asked:
         tag = etag_of(answer.headers, answer.value) or ""
         headers = {name: value.replace("{etag}", tag) for name, value in headers.items()}
     scratch = Stage(entities)
-    scratch.add(id, row.method, url, BODIES[row.body](entities, entity, mark), headers=headers, **where)
+    scratch.add(request_id, row.method, url, BODIES[row.body](entities, entity, mark), headers=headers, **where)
     return Asked(scratch.steps[0], Entity("", {}) if row.target == "no set" else entity, mark)
 
 
@@ -51,11 +51,11 @@ def with_twin(entities: Entities, own: Asked, first: Asked, second: Asked) -> St
     return own.step._replace(fails=not 200 <= before["the status"] <= 299, twin=twin)
 
 
-def add_twin(stage: Stage, row: Row, id: str, may_fail: bool = False, **where: Any) -> None:
+def add_twin(stage: Stage, row: Row, name: str, may_fail: bool = False, **where: Any) -> None:
     """Adds a request that is also sent alone. What fails alone is a member of no group, unless it may fail."""
-    own = asked(stage.entities, row, id, **where)
+    own = asked(stage.entities, row, name, **where)
     # reads leave their entity as it is, so that they may share it
-    first, second = (own if row.method == "get" else asked(stage.entities, row, id) for _ in range(2))
+    first, second = (own if row.method == "get" else asked(stage.entities, row, name) for _ in range(2))
     step = with_twin(stage.entities, own, first, second)
     if may_fail or not (step.fails and step.group):
         stage.steps.append(step)
@@ -85,7 +85,7 @@ def together(names: Sequence[str], group: Optional[str] = None, is_ascii: bool =
     return write
 
 
-def alone() -> List[Case]:
+def alone() -> list[Case]:
     """All cases of requests that are also sent alone."""
     shows = "{}, in a batch and alone"
     return [Case(f"alone-{row.name}", "alone", shows.format(row.shows), beside(row), needs=row.needs) for row in ROWS]

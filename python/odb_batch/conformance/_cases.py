@@ -1,7 +1,7 @@
 """All cases: each writes one batch that shows whether a service keeps a promise."""
 
 import fnmatch
-from typing import List, Sequence
+from typing import Sequence
 
 from ._again import again
 from ._alone import alone
@@ -9,8 +9,8 @@ from ._conditions import conditions
 from ._failures import failing_beside, failing_groups, failing_long_groups, one_failure
 from ._flows import FLOWS, longest
 from ._headers import headers
+from ._identifiers import names
 from ._members import members
-from ._names import names
 from ._promises import Case
 from ._references import references
 from ._stops import stops
@@ -18,10 +18,10 @@ from ._values import values
 from ._waits import waits
 
 # How many requests the longest batch may have, and how many it has if nobody says.
-MOST_REQUESTS, REQUESTS = 10_000, 100
+MAX_REQUESTS, REQUESTS = 10_000, 100
 
 
-def all_cases(requests: int) -> List[Case]:
+def all_cases(requests: int) -> list[Case]:
     """All cases, in the order in which they are run; `requests` is how many the longest batch has."""
     return [
         *FLOWS,
@@ -43,18 +43,18 @@ def all_cases(requests: int) -> List[Case]:
     ]
 
 
-def cases_like(globs: Sequence[str], requests: int) -> List[Case]:
+def cases_like(globs: Sequence[str], requests: int) -> list[Case]:
     """The cases of which the name fits one of some globs, in the order in which they are run."""
-    return [it for it in all_cases(requests) if any(fnmatch.fnmatchcase(it.name, glob) for glob in globs)]
+    return [case for case in all_cases(requests) if any(fnmatch.fnmatchcase(case.name, glob) for glob in globs)]
 
 
-def conformance_cases(glob: str = "*") -> List[str]:
+def conformance_cases(glob: str = "*") -> list[str]:
     """Returns the names of the cases that fit a pattern, as ``"group-*"``, in the order in which the tool runs them.
 
     Raises:
         ValueError: No case has such a name.
     """
-    found = [it.name for it in cases_like([glob], REQUESTS)]
+    found = [case.name for case in cases_like([glob], REQUESTS)]
     if not found:
         raise ValueError(f"no case has a name like {glob!r}")
     return found

@@ -5,7 +5,7 @@ import secrets
 import time
 import uuid
 from functools import partial
-from typing import Any, Callable, Dict, Iterator, List, Mapping, NamedTuple, Optional, Sequence, Set, Tuple
+from typing import Any, Callable, Iterator, Mapping, NamedTuple, Optional, Sequence
 from urllib.parse import quote
 
 from ._service import GONE, Answer, Service, Unusable
@@ -13,7 +13,7 @@ from ._service import GONE, Answer, Service, Unusable
 # How many pages of a set are listed, and how many entities of it. A set with more is not listed.
 MAX_PAGES, MAX_LISTED = 100, 5_000
 
-Listing = Dict[str, Dict[str, Any]]
+Listing = dict[str, dict[str, Any]]
 
 
 class Entity(NamedTuple):
@@ -27,7 +27,7 @@ class Entity(NamedTuple):
     """
 
     url: str
-    body: Dict[str, Any]
+    body: dict[str, Any]
     key: Any = None
     mark: Any = None
 
@@ -46,6 +46,8 @@ class Effect(NamedTuple):
     mark: Any = None
 
 
+# What ends a key with characters that a URL escapes.
+ODD_END = "%41 \u00e4"
 # Where keys are looked for that a service does not give: far above those that it counts.
 FAR = (2_000_000_000, 30_000)
 # How often it is looked, within a second, for what was created and cannot be read at once.
@@ -55,7 +57,7 @@ ROUNDS = 8
 BEHIND = "does the service commit after it has answered?"
 
 # Keys that a service may take, and None for one that makes its own: each is tried in turn.
-KEYS: Tuple[Callable[[], Any], ...] = (
+KEYS: tuple[Callable[[], Any], ...] = (
     lambda: f"conformance-{secrets.token_hex(6)}",
     lambda: str(uuid.uuid4()),
     lambda: secrets.randbelow(2_000_000_000),
@@ -97,23 +99,23 @@ class Entities:
         notes: What was learned that the report says.
     """
 
-    def __init__(self, service: Service, entity_set: str, key: str, body: Dict[str, Any]) -> None:
+    def __init__(self, service: Service, entity_set: str, key: str, body: dict[str, Any]) -> None:
         self.service, self.set, self.key, self.body = service, entity_set, key, body
-        self.made: Dict[str, str] = {}
-        self.left: List[str] = []
+        self.made: dict[str, str] = {}
+        self.left: list[str] = []
         self.new_key: Callable[[], Any] = KEYS[-1]
         self.are_named, self.are_quoted = False, True
         self.text: Optional[str] = None
         self.numbers = itertools.count(secrets.randbelow(8_000) + 1_000)
-        self.lacks: Dict[str, str] = {}
+        self.lacks: dict[str, str] = {}
         self.before: Optional[Listing] = None
-        self.spare: List[Entity] = []
-        self.lent: List[Entity] = []
+        self.spare: list[Entity] = []
+        self.lent: list[Entity] = []
         self.has_version = False
-        self.values: Dict[str, Tuple[str, Any]] = {}
+        self.values: dict[str, tuple[str, Any]] = {}
         self.unused: Optional[Callable[[], Any]] = None
-        self.removed: Set[str] = set()
-        self.notes: List[str] = []
+        self.removed: set[str] = set()
+        self.notes: list[str] = []
 
     def learn_keys(self) -> None:
         """Makes one entity, to learn how keys are given and written; raises Unusable if none can be made."""
@@ -176,14 +178,14 @@ class Entities:
 
     # Making
 
-    def body_with(self, key: Any, mark: Any = None) -> Dict[str, Any]:
+    def body_with(self, key: Any, mark: Any = None) -> dict[str, Any]:
         """The body of an entity with a key, if there is one, and a mark."""
-        given = {name: it for name, it in self.body.items() if name != self.key}
+        given = {name: value for name, value in self.body.items() if name != self.key}
         if self.text is not None and mark is not None:
             given[self.text] = mark
         return given if key is None else {self.key: key, **given}
 
-    def change(self, act: str, mark: Any) -> Dict[str, Any]:
+    def change(self, act: str, mark: Any) -> dict[str, Any]:
         """The body of a PATCH or of a PUT that writes a mark."""
         return {self.text: mark} if act == "patch" and self.text else self.body_with(None, mark)
 
@@ -194,18 +196,24 @@ class Entities:
         number = next(self.numbers)
         return number if isinstance(self.body[self.text], int) else f"c{number}{secrets.token_hex(1)}"
 
-    def fresh(self) -> Entity:
-        """An entity that is not there yet, for a batch to create."""
-        key, mark = self.new_key(), self.new_mark()
+    def odd_key(self) -> str:
+        """A key with characters that a URL escapes, among them a percent sign."""
+        return f"{self.new_key()}{ODD_END}"
+
+    def fresh(self, key: Any = None) -> Entity:
+        """An entity that is not there yet, for a batch to create, with a key if that is given."""
+        key, mark = key or self.new_key(), self.new_mark()
         url = self.url_of(key) if self.are_named else ""
         if url:
             self.note(url)
         return Entity(url, self.body_with(key, mark), key, mark)
 
-    def make(self, more: Mapping[str, Any] = {}, text: Optional[Callable[[Any], str]] = None) -> Entity:
+    def make(
+        self, more: Mapping[str, Any] = {}, text: Optional[Callable[[Any], str]] = None, key: Any = None
+    ) -> Entity:
         """Makes an entity by a plain request, with more properties and a text around its mark if the service takes
-        them."""
-        entity = self.fresh()
+        them, and with a key if that is given."""
+        entity = self.fresh(key)
         body = {**entity.body, **more, **({self.text: text(entity.mark)} if text and self.text else {})}
         answer = self.post(body)
         if not answer.is_success and body != entity.body:
@@ -231,7 +239,7 @@ class Entities:
             if shown is not None:
                 self.spare.append(entity._replace(mark=shown.get(self.text or "")))
         self.lent = []
-        spare = {it.url for it in self.spare}
+        spare = {entity.url for entity in self.spare}
         known = {**listing, **dict.fromkeys(spare, {})}
         # A URL of another form, as of a Location, may be that of any entity.
         self.made = {
@@ -256,7 +264,7 @@ class Entities:
         if self.unused is not None:
             self.make()
 
-    def post(self, body: Any, headers: Dict[str, str] = {}) -> Answer:
+    def post(self, body: Any, headers: dict[str, str] = {}) -> Answer:
         """Posts to the set, and notes what that creates."""
         answer = self.service.ask("POST", self.set, body, headers)
         if answer.is_success:
@@ -281,7 +289,7 @@ class Entities:
             raise Unusable(f"an entity of {self.set} was created, and its answer has no key {self.key}")
         return shown[self.key]
 
-    def read(self, url: str) -> Optional[Dict[str, Any]]:
+    def read(self, url: str) -> Optional[dict[str, Any]]:
         """The entity at a URL, by a plain request; None if it is not there."""
         answer = self.service.ask("GET", url)
         if answer.is_success:
@@ -297,9 +305,9 @@ class Entities:
         for _ in range(MAX_PAGES):
             page = self.service.ask("GET", url).value
             rows = page.get("value") if isinstance(page, dict) else None
-            if not isinstance(rows, list) or not all(isinstance(it, dict) and self.key in it for it in rows):
+            if not isinstance(rows, list) or not all(isinstance(row, dict) and self.key in row for row in rows):
                 return None
-            found.update({self.url_of(it[self.key]): it for it in rows})
+            found.update({self.url_of(row[self.key]): row for row in rows})
             url = page.get("@odata.nextLink") or page.get("@nextLink")
             if len(found) > MAX_LISTED:
                 return None
@@ -312,20 +320,20 @@ class Entities:
         found = self.listed() if self.before is not None else None
         if found is None or self.before is None:
             return None
-        given = {name: it for name, it in self.body.items() if name not in (self.key, self.text)}
+        given = {name: value for name, value in self.body.items() if name not in (self.key, self.text)}
         own = {
-            url: it
-            for url, it in found.items()
+            url: entity
+            for url, entity in found.items()
             if url not in self.before
-            and (self.service.address(url) in self.made or all(it.get(name) == value for name, value in given.items()))
+            and (self.service.address(url) in self.made or all(entity.get(name) == value for name, value in given.items()))
         }
         for url in own:
             self.note(url)
         return own
 
-    def marks(self, listing: Optional[Listing]) -> List[Any]:
+    def marks(self, listing: Optional[Listing]) -> list[Any]:
         """The marks of what is listed."""
-        return [it.get(self.text) for it in (listing or {}).values()] if self.text is not None else []
+        return [entity.get(self.text) for entity in (listing or {}).values()] if self.text is not None else []
 
     def is_shown(self, effect: Effect, listing: Optional[Listing]) -> bool:
         """Whether an effect shows, in a listing or by a plain request."""
@@ -337,11 +345,11 @@ class Entities:
             return is_gone != effect.is_there
         return effect.mark in (None, self._mark_of(entity))
 
-    def _is_other(self, entity: Dict[str, Any], effect: Effect) -> bool:
+    def _is_other(self, entity: dict[str, Any], effect: Effect) -> bool:
         """Whether an entity has the key of one that was removed, and is another."""
         return self.unused is not None and effect.mark not in (None, self._mark_of(entity))
 
-    def _mark_of(self, entity: Dict[str, Any]) -> Any:
+    def _mark_of(self, entity: dict[str, Any]) -> Any:
         return entity.get(self.text or "")
 
     # Removing
@@ -358,9 +366,9 @@ class Entities:
 
     def clear(self, lasting: Sequence[Entity] = ()) -> None:
         """Removes all that was made, but for what is to last. What is not removed yet stays in made."""
-        here, kept = self.service.address("/"), {it.url for it in lasting}
+        here, kept = self.service.address("/"), {entity.url for entity in lasting}
         self.lent = []
-        for address, url in [it for it in self.made.items() if it[1] not in kept]:
+        for address, url in [pair for pair in self.made.items() if pair[1] not in kept]:
             try:
                 # What leads to another server is left there.
                 if not address.startswith(here) or not self._remove(url):
@@ -373,7 +381,7 @@ class Entities:
                 self.made = {}
                 break
 
-    def forget(self) -> List[str]:
+    def forget(self) -> list[str]:
         """Forgets what could not be removed; returns its URLs."""
         found = [*self.left, *self.made.values()]
         self.left, self.made = [], {}

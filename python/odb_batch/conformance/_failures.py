@@ -1,10 +1,10 @@
 """Cases in which a request fails."""
 
 from functools import partial
-from typing import Callable, List, Optional, Sequence, Tuple
+from typing import Callable, Optional, Sequence
 
+from ._failure_kinds import KINDS, fail
 from ._flows import group
-from ._kinds import KINDS, fail
 from ._promises import Case
 from ._stage import Stage
 
@@ -117,7 +117,7 @@ def after_others(stage: Stage, kind: str, act: str) -> None:
 
 
 Failing = Callable[[Stage, str], None]
-FAILING: Tuple[Tuple[str, str, str, Failing], ...] = (
+FAILING: tuple[tuple[str, str, str, Failing], ...] = (
     ("failure-among-others", "continue", "requests beside one that fails are performed", among_others),
     ("failing-fan-in", "failed", "writes depend on some requests, of which one fails", fan_in),
     ("failing-fan-out", "failed", "five requests depend on one that fails", fan_out),
@@ -129,7 +129,7 @@ FAILING: Tuple[Tuple[str, str, str, Failing], ...] = (
 )
 
 
-def one_failure(kind: str) -> List[Case]:
+def one_failure(kind: str) -> list[Case]:
     """The cases with one failing request in different places."""
     found = []
     for at, place in ((0, "first"), (2, "third"), (4, "last")):
@@ -141,7 +141,7 @@ def one_failure(kind: str) -> List[Case]:
     return [*found, Case("failing-at-once", "group", shows, partial(at_once, kind=kind), kind=kind, at_once=4)]
 
 
-def failing_groups() -> List[Case]:
+def failing_groups() -> list[Case]:
     """A group of four, which fails at each of its members in each way."""
     found = []
     for kind, described in KINDS.items():
@@ -152,7 +152,7 @@ def failing_groups() -> List[Case]:
     return found
 
 
-def failing_beside() -> List[Case]:
+def failing_beside() -> list[Case]:
     """Groups that fail after members by one method, and beside other groups."""
     found = []
     for act, what in (("create", "POSTs"), ("delete", "deletes"), ("patch", "PATCHes"), ("put", "PUTs")):
@@ -166,7 +166,7 @@ def failing_beside() -> List[Case]:
 
 
 # Of three groups: at which member each fails, or None.
-BESIDE: Tuple[Tuple[str, str, Sequence[Optional[int]]], ...] = (
+BESIDE: tuple[tuple[str, str, Sequence[Optional[int]]], ...] = (
     ("first", "a group that fails at its first member, before two others", (0, None, None)),
     ("last", "a group that fails at its last member, after two others", (None, None, 2)),
     ("middle", "a group that fails between two others", (None, 1, None)),
@@ -174,7 +174,7 @@ BESIDE: Tuple[Tuple[str, str, Sequence[Optional[int]]], ...] = (
 )
 
 
-def failing_long_groups(requests: int) -> List[Case]:
+def failing_long_groups(requests: int) -> list[Case]:
     """Groups with as many requests as the service takes, which fail at the first, a middle and the last member."""
     size = max(requests - 2, 1)
     found = []

@@ -1,7 +1,7 @@
 """Cases in which nothing fails: chains, fans, groups, and many requests."""
 
 from functools import partial
-from typing import Callable, List, Optional
+from typing import Callable, Optional
 
 from ._promises import Case
 from ._stage import Stage
@@ -62,7 +62,7 @@ def diamond(stage: Stage) -> None:
     stage.look("look", "end", needs=["end"])
 
 
-def group(stage: Stage, name: str = "g", needs: Optional[List[str]] = None, size: int = 4) -> None:
+def group(stage: Stage, name: str = "g", needs: Optional[list[str]] = None, size: int = 4) -> None:
     for k in range(size):
         stage.write(f"{name}{k}", group=name, needs=needs if needs and not k else [])
 
@@ -141,7 +141,7 @@ FLOWS = (
 )
 
 
-def longest(requests: int) -> List[Case]:
+def longest(requests: int) -> list[Case]:
     """The cases with as many requests as the service takes."""
     shows = f"as many requests as the service takes: {requests}"
     whole = partial(group, size=requests)

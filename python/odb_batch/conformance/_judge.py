@@ -1,10 +1,10 @@
 """Judges what a service has answered to a batch, by the library and by what shows of the batch afterwards."""
 
 from collections import Counter
-from typing import Any, Dict, Iterator, List, NamedTuple, Optional
+from typing import Any, Iterator, NamedTuple, Optional
 
 from .. import Fault, Mode, match
-from ._entities import Listing
+from ._entities import BEHIND, Entities, Listing
 from ._promises import Case
 from ._service import Answer
 from ._stage import ABSENT, DONE, FAILS, OPEN, SKIPPED, UNDONE, Stage, Step
@@ -39,22 +39,22 @@ class Judge:
         self.expected = stage.expected(stops)
         self.responses = responses_of(answer)
         self.clear = clear_responses(self.responses or [])
-        self.statuses = {id: it["status"] for id, it in self.clear.items()}
+        self.statuses = {name: response["status"] for name, response in self.clear.items()}
 
-    def checks(self, listing: Optional[Listing]) -> List[Check]:
+    def checks(self, listing: Optional[Listing]) -> list[Check]:
         """Looks at the response, and at the entities, which may be in a listing."""
         if self.responses is None:
             return [Check("answered", f"the batch is answered {self.answer}, without a document of responses")]
         found = [*self._by_head(), *self._by_match()]
         for step, expected in zip(self.stage.steps, self.expected):
             checks = self._of_step_by(listing, step, expected)
-            if listing is not None and step.effect and step.effect.url and any(it.rule for it in checks):
+            if listing is not None and step.effect and step.effect.url and any(check.rule for check in checks):
                 # A list may be behind: what it shows is asked anew before it is called broken.
                 checks = self._of_step_by(None, step, expected)
             found += checks
         return found
 
-    def _of_step_by(self, listing: Optional[Listing], step: Step, expected: str) -> List[Check]:
+    def _of_step_by(self, listing: Optional[Listing], step: Step, expected: str) -> list[Check]:
         performed = self.entities.is_shown(step.effect, listing) if step.effect is not None else None
         return list(self._of_step(step, expected, self.statuses.get(step.id), performed))
 
@@ -96,7 +96,7 @@ class Judge:
         elif expected == OPEN:
             yield from self._stopped(step, status, performed)
             # Whether there is anything to look at depends on how far the batch came, so it counts if it is broken.
-            yield from (it for it in self._open(step, status, performed) if it.rule is not None)
+            yield from (check for check in self._open(step, status, performed) if check.rule is not None)
         else:
             promise = "failed" if expected == SKIPPED else step.promise or ("group" if step.group else "alone")
             if status is not None:
@@ -125,7 +125,7 @@ class Judge:
         taking = Taking(self.entities, twin.entity, twin.marks, twin.is_read)
         batch = parts_in_batch(taking, self.clear[step.id])
         found = differences(twin.alone(), batch)
-        yield from (Check("alone", f"{step.id}: {it}") for it in found)
+        yield from (Check("alone", f"{step.id}: {difference}") for difference in found)
         if not found:
             yield Check("alone")
 
@@ -141,7 +141,7 @@ class Judge:
             other = "nothing" if value is ABSENT else repr(value)
             yield check(promise, shown == value, f"{step.id} returns {what} for {name}, and not {other}")
 
-    def _made_by(self, maker: Optional[str]) -> Dict[str, Any]:
+    def _made_by(self, maker: Optional[str]) -> dict[str, Any]:
         """The key of what another request has created, as far as its response shows it."""
         body = self.clear.get(maker or "", {}).get("body")
         key = self.entities.key
@@ -178,7 +178,7 @@ class Judge:
             return True
         needs = {name for other in unit for name in other.needs}
         causes = [other.id for other in self.stage.steps if other.unit != step.unit and {other.id, other.unit} & needs]
-        return any(id in self.statuses and not is_success(self.statuses[id]) for id in causes)
+        return any(request_id in self.statuses and not is_success(self.statuses[request_id]) for request_id in causes)
 
 
 def fits(expected: str, status: int) -> bool:
@@ -219,15 +219,50 @@ def is_success(status: Optional[int]) -> bool:
     return status is not None and 200 <= status <= 299
 
 
-def responses_of(answer: Answer) -> Optional[List[Dict[str, Any]]]:
+def responses_of(answer: Answer) -> Optional[list[dict[str, Any]]]:
     """The responses in an answer, whatever its status, or None if it has no document of them."""
     value = answer.value
     found = value.get("responses") if isinstance(value, dict) else None
-    return found if isinstance(found, list) and all(isinstance(it, dict) for it in found) else None
+    return found if isinstance(found, list) and all(isinstance(response, dict) for response in found) else None
 
 
-def clear_responses(responses: List[Dict[str, Any]]) -> Dict[str, Dict[str, Any]]:
+def clear_responses(responses: list[dict[str, Any]]) -> dict[str, dict[str, Any]]:
     """The responses by the ids that have one response, if that has a status."""
-    ids = Counter(it["id"] for it in responses if isinstance(it.get("id"), str))
-    clear = (it for it in responses if isinstance(it.get("id"), str) and isinstance(it.get("status"), int))
-    return {it["id"]: it for it in clear if ids[it["id"]] == 1}
+    named = [response for response in responses if isinstance(response.get("id"), str)]
+    ids = Counter(response["id"] for response in named)
+    clear = (response for response in named if isinstance(response.get("status"), int))
+    return {response["id"]: response for response in clear if ids[response["id"]] == 1}
+
+
+def marks_of(entities: Entities, stages: list[Stage]) -> dict[Any, str]:
+    """The ids of the requests by the marks that they write."""
+    found = {}
+    for step in (step for stage in stages for step in stage.steps):
+        body = step.request.get("body")
+        mark = body.get(entities.text) if isinstance(body, dict) else None
+        # an empty text is no mark: several entities may have it
+        if mark and isinstance(mark, (str, int)):
+            found[mark] = step.id
+    return found
+
+
+def left_over(case: Case, stages: list[Stage], listing: Listing, known: set[str]) -> Iterator[Check]:
+    """Looks for what has appeared in the set; `known` has the addresses that were known before it was listed."""
+    entities = stages[0].entities
+    writers = marks_of(entities, stages)
+    urls: dict[Any, list[str]] = {}
+    for url, entity in listing.items():
+        mark = entity.get(entities.text or "")
+        urls.setdefault(mark if isinstance(mark, (str, int)) and mark in writers else None, []).append(url)
+    promise = case.promise if case.promise in ("group", "failed", "untouched") else "once"
+    for url in urls.pop(None, []):
+        address = entities.service.address(url)
+        if address in known:
+            continue
+        if address in entities.removed and entities.unused is None:
+            yield Check(promise, f"{url} was removed by a plain request, and is there all the same: {BEHIND}")
+        else:
+            yield Check(promise, f"{url} is there afterwards, and no response names it")
+    for mark, found in urls.items():
+        rule = f"{writers[mark]} is performed {len(found)} times: {', '.join(found)}"
+        yield Check("once", rule if len(found) > 1 else None)

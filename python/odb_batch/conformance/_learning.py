@@ -1,11 +1,11 @@
 """Finds out by plain requests, and some batches, what the service has; a case that needs more does not apply."""
 
-from typing import Any, Callable, Dict, List, Optional
+from typing import Any, Callable, Optional
 from urllib.parse import urljoin, urlsplit
 
 from ._entities import Entities, Entity
 from ._judge import responses_of
-from ._service import Answer, Unanswered
+from ._service import GONE, REFUSED, Answer, Unanswered
 from ._stage import QUERY, Stage
 from ._twin import etag_of
 from ._values import learn_values
@@ -24,7 +24,9 @@ LACKS = {
     "known": "alone, a read with If-None-Match is not answered 304",
     "decimal": "no other property takes a number with a fraction",
     "integer": "no other property takes an integer above 2 ** 53",
+    "string": "no other property takes a text",
     "null": "no other property takes null in place of a value",
+    "odd keys": "the service takes no keys with %, a blank and letters that are not ASCII",
     "property": "alone, a property cannot be read by a URL of its own",
     "filter": "alone, $filter is not applied",
     "options": "alone, $select is not applied",
@@ -35,10 +37,8 @@ LACKS = {
     "absolute": "the service takes no absolute URLs in a batch",
     "rooted": "the service takes no URLs in a batch that begin with /",
 }
-# What a service may answer to a batch that it refuses.
-REFUSED = (*range(400, 500), 501)
 # Those of values that an entity may have.
-OF_VALUES = ("decimal", "integer", "null")
+OF_VALUES = ("decimal", "integer", "string", "null")
 # How many properties of the body are tried.
 MAX_TRIED = 8
 
@@ -52,6 +52,7 @@ def learn(entities: Entities) -> None:
     entities.text = text_property(entities)
     has = {
         "named": entities.are_named,
+        "odd keys": takes_odd_keys(entities),
         "text": entities.text is not None,
         "create": entities.are_named or None not in (entities.text, entities.before),
         "patch": changes(entities, "patch"),
@@ -72,8 +73,9 @@ def learn(entities: Entities) -> None:
 
 def text_property(entities: Entities) -> Any:
     """A property of the body in which an entity may have a mark of its own."""
-    tried = [name for name, it in entities.body.items() if isinstance(it, (str, int)) and not isinstance(it, bool)]
-    for name in [it for it in tried if it != entities.key][:MAX_TRIED]:
+    members = entities.body.items()
+    tried = [name for name, value in members if isinstance(value, (str, int)) and not isinstance(value, bool)]
+    for name in [member for member in tried if member != entities.key][:MAX_TRIED]:
         entities.text = name
         body, mark = entities.fresh(), None
         answer = entities.post(body.body)
@@ -86,6 +88,18 @@ def text_property(entities: Entities) -> Any:
     return None
 
 
+def takes_odd_keys(entities: Entities) -> bool:
+    """Whether keys may have characters that a URL escapes. None is made before the service says that it is missing: a
+    server that refuses such a URL would keep the entity."""
+    if not entities.are_named or not isinstance(entities.new_key(), str):
+        return False
+    entity, ask = entities.fresh(entities.odd_key()), entities.service.ask
+    if ask("GET", entity.url).status not in GONE or not entities.post(entity.body).is_success:
+        return False
+    shown = ask("GET", entity.url).value
+    return isinstance(shown, dict) and shown.get(entities.key) == entity.key
+
+
 def changes(entities: Entities, act: str) -> bool:
     """Whether PATCH or PUT changes the text property."""
     if entities.text is None:
@@ -95,7 +109,7 @@ def changes(entities: Entities, act: str) -> bool:
     return answer.is_success and (entities.read(entity.url) or {}).get(entities.text) == mark
 
 
-def learn_reads(entities: Entities) -> Dict[str, bool]:
+def learn_reads(entities: Entities) -> dict[str, bool]:
     """Whether entities have ETags, and what of them can be read."""
     entity, ask, text = entities.make(), entities.service.ask, entities.text
     whole = ask("GET", entity.url)
@@ -111,7 +125,7 @@ def learn_reads(entities: Entities) -> Dict[str, bool]:
     }
 
 
-def learn_etags(entities: Entities) -> Dict[str, bool]:
+def learn_etags(entities: Entities) -> dict[str, bool]:
     """Whether requests that create, change and read are answered with ETags, which hold in conditions."""
     entity, ask = entities.fresh(), entities.service.ask
     created = entities.post(entity.body)
@@ -133,10 +147,10 @@ def is_filtered(entities: Entities, entity: Entity) -> bool:
     """Whether a query option finds an entity, and no other, by its mark."""
     value = entities.service.ask("GET", entities.url_of_marked(entity.mark)).value
     found = value.get("value") if isinstance(value, dict) else None
-    return isinstance(found, list) and [it.get(entities.key) for it in found if isinstance(it, dict)] == [entity.key]
+    return isinstance(found, list) and [row.get(entities.key) for row in found if isinstance(row, dict)] == [entity.key]
 
 
-def learn_urls(entities: Entities) -> Dict[str, bool]:
+def learn_urls(entities: Entities) -> dict[str, bool]:
     """Which forms of a URL a batch may have, besides relative to its root."""
     entity = entities.make()
     absolute = urljoin(entities.service.root, entity.url)
@@ -169,7 +183,7 @@ def conditional(stage: Stage) -> None:
 
 
 # What writes the smallest batch that has a feature.
-FEATURES: Dict[str, Callable[[Stage], None]] = {
+FEATURES: dict[str, Callable[[Stage], None]] = {
     "dependencies": needing,
     "groups": grouped,
     "references": referring,
@@ -177,14 +191,14 @@ FEATURES: Dict[str, Callable[[Stage], None]] = {
 }
 
 
-def learn_features(entities: Entities) -> Dict[str, str]:
+def learn_features(entities: Entities) -> dict[str, str]:
     """What a batch may have and the service refuses, with the reason."""
     found = {}
     for name, write in FEATURES.items():
         stage = Stage(entities)
         write(stage)
         try:
-            answer = entities.service.batch(stage.document(), True)
+            answer = entities.service.batch(stage.document())
         except Unanswered as error:
             if error.is_late or not entities.service.is_reachable():
                 raise
@@ -198,7 +212,7 @@ def learn_features(entities: Entities) -> Dict[str, str]:
     return found
 
 
-def learn_references(entities: Entities) -> Dict[str, str]:
+def learn_references(entities: Entities) -> dict[str, str]:
     """What references do not lead to, besides what is created. To what a request has read they have to, unless the
     service refuses that; the standard leaves it open whether they lead to what one has changed."""
     lacking = {}
@@ -210,14 +224,14 @@ def learn_references(entities: Entities) -> Dict[str, str]:
         subject = stage.subject()
         stage.act("1", act, subject)
         stage.act("2", "read", subject, "$1", needs=["1"])
-        responses = responses_of(entities.service.batch(stage.document(), True)) or []
+        responses = responses_of(entities.service.batch(stage.document())) or []
         statuses = [found.get("status") for found in responses if found.get("id") == "2"]
         if statuses != [200] if act != "read" else not responses or 501 in statuses:
             lacking[f"$ to {act}"] = LACKS[f"$ to {act}"]
     return lacking
 
 
-def statuses_of(answer: Answer) -> List[Any]:
+def statuses_of(answer: Answer) -> list[Any]:
     """The statuses of the responses in an answer."""
     return [response.get("status") for response in responses_of(answer) or ()]
 
@@ -227,7 +241,7 @@ def refusal(answer: Answer) -> Optional[str]:
     responses = responses_of(answer)
     if responses is None:
         return str(answer) if answer.status in REFUSED else None
-    return "501 of its requests" if responses and all(it.get("status") == 501 for it in responses) else None
+    return "501 of its requests" if responses and all(response.get("status") == 501 for response in responses) else None
 
 
 def note_created(entities: Entities, answer: Answer) -> None:
@@ -235,4 +249,4 @@ def note_created(entities: Entities, answer: Answer) -> None:
     for response in responses_of(answer) or []:
         headers = response.get("headers")
         if response.get("status") in (201, 204) and isinstance(headers, dict):
-            entities.note({str(name).lower(): str(it) for name, it in headers.items()}.get("location", ""))
+            entities.note({str(name).lower(): str(value) for name, value in headers.items()}.get("location", ""))

@@ -1,6 +1,6 @@
 """Cases of what the members of a group are answered, each beside what it is alone."""
 
-from typing import List
+from typing import Callable
 
 from ._alone import add_twin, together
 from ._promises import Case
@@ -10,6 +10,7 @@ from ._stage import Stage
 EACH = ("get", "post", "patch", "put", "delete")
 ALIKE = ("post", "get", "post", "get")
 CONDITIONS = ("patch-match", "get-if-match", "patch", "get", "delete-match")
+LISTS, MISSING, NEW = ("get-listed", "get-filtered"), "delete-missing", ["etags", "put"]
 PREFERENCES = ("post-minimal", "post-whole", "patch-whole")
 
 
@@ -19,11 +20,15 @@ def beside_groups(stage: Stage) -> None:
         add_twin(stage, ROWS_BY_NAME[name], f"{name}-{group or 'alone'}", group=group)
 
 
-def error_of_a_member(stage: Stage) -> None:
+def error_of_a_member(name: str) -> Callable[[Stage], None]:
     """A group whose last member fails by itself."""
-    for k in range(2):
-        stage.write(f"g{k}", group="g")
-    add_twin(stage, ROWS_BY_NAME["delete-missing"], "g2", group="g", may_fail=True)
+
+    def write(stage: Stage) -> None:
+        for k in range(2):
+            stage.write(f"g{k}", group="g")
+        add_twin(stage, ROWS_BY_NAME[name], "g2", group="g", may_fail=True)
+
+    return write
 
 
 CASES = (
@@ -32,9 +37,12 @@ CASES = (
     Case("members-conditions", "alone", "members with conditions", together(CONDITIONS, "g"), needs=["etags"]),
     Case("members-preferences", "alone", "members that prefer a body or none", together(PREFERENCES, "g")),
     Case("members-of-two", "alone", "two groups, and requests in none", beside_groups),
-    Case("members-error", "alone", "the error of a member that fails", error_of_a_member, kind="missing"),
+    Case("members-lists", "alone", "lists in a group", together(LISTS, "g"), needs=["text", "filter"]),
+    Case("members-error", "alone", "the error of a member that fails", error_of_a_member(MISSING), kind="missing"),
+    Case("members-new", "alone", "a member that is to be new and is not", error_of_a_member("put-new"), needs=NEW),
+    Case("members-accept", "alone", "a member that takes plain text", error_of_a_member("get-accept-plain")),
 )
 
 
-def members() -> List[Case]:
+def members() -> list[Case]:
     return list(CASES)

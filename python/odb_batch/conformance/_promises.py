@@ -2,6 +2,7 @@
 
 from typing import Callable, NamedTuple, Optional, Sequence
 
+from ._service import CONTINUE
 from ._stage import Stage
 
 
@@ -27,7 +28,7 @@ PROMISES = (
     Promise("continue", "with continue-on-error the rest is performed after an error", "Protocol 8.2.8.3"),
     Promise("stop", "without continue-on-error nothing is performed after an error", "Protocol 8.2.8.3"),
 )
-SECTIONS = {it.name: it.section for it in PROMISES}
+SECTIONS = {promise.name: promise.section for promise in PROMISES}
 
 
 class Case(NamedTuple):
@@ -43,6 +44,7 @@ class Case(NamedTuple):
         may_be_refused: Whether the service may refuse the batch for its size.
         at_once: How many batches of the case are sent at the same time.
         needs: What the service has to have, by names of `learning.LACKS`; else the case does not apply.
+        says_false: Whether a batch without continue-on-error says continue-on-error=false.
     """
 
     name: str
@@ -54,3 +56,9 @@ class Case(NamedTuple):
     may_be_refused: bool = False
     at_once: int = 1
     needs: Sequence[str] = ()
+    says_false: bool = False
+
+    @property
+    def prefer(self) -> str:
+        """The header Prefer of its batch; empty if it has none."""
+        return CONTINUE if not self.stops else f"{CONTINUE}=false" if self.says_false else ""

@@ -1,6 +1,6 @@
 """Cases of references: a URL that begins with $ and an id leads to what that request has created."""
 
-from typing import Callable, Dict, List, Sequence
+from typing import Callable, Sequence
 
 from ._promises import Case
 from ._stage import ABSENT, QUERY, Shown, Stage, Subject
@@ -11,15 +11,15 @@ CASE, NUMBERS = ("Ab", "aB", "ab", "AB"), ("1", "10", "100", "01", "1.0")
 SIGNS = ("a-b", "a.b", "a_b", "a~b", "-", "~")
 
 
-def create_all(stage: Stage, ids: Sequence[str], **where: str) -> Dict[str, Subject]:
+def create_all(stage: Stage, ids: Sequence[str], **where: str) -> dict[str, Subject]:
     """Requests that create an entity each."""
-    return {id: stage.create(id, **where) for id in ids}
+    return {name: stage.create(name, **where) for name in ids}
 
 
-def refer(stage: Stage, id: str, act: str, subject: Subject, needs: Sequence[str] = (), **where: str) -> None:
+def refer(stage: Stage, name: str, act: str, subject: Subject, needs: Sequence[str] = (), **where: str) -> None:
     """A request on what another has created, by a reference."""
     by = f"${subject.maker}"
-    stage.act(id, act, subject, by, needs=[subject.maker, *needs], promise="reference", **where)
+    stage.act(name, act, subject, by, needs=[subject.maker, *needs], promise="reference", **where)
 
 
 def read(stage: Stage) -> None:
@@ -48,12 +48,12 @@ def to_each(act: str) -> Callable[[Stage], None]:
 
     def write(stage: Stage) -> None:
         made = create_all(stage, FOUR)
-        for id in ("c", "a", "d") if act == "read" else ("c", "b"):
-            refer(stage, f"{act}-{id}", act, made[id])
+        for name in ("c", "a", "d") if act == "read" else ("c", "b"):
+            refer(stage, f"{act}-{name}", act, made[name])
         if act != "read":
-            for id in FOUR:
-                needs = [f"{act}-{it}" for it in ("c", "b")]
-                refer(stage, f"look-{id}", "read", made[id], needs)
+            for name in FOUR:
+                needs = [f"{act}-{other}" for other in ("c", "b")]
+                refer(stage, f"look-{name}", "read", made[name], needs)
 
     return write
 
@@ -61,26 +61,34 @@ def to_each(act: str) -> Callable[[Stage], None]:
 def encoded(stage: Stage) -> None:
     """References with characters as escapes: $ and a letter (OData URL Conventions 4.01, section 2)."""
     made = create_all(stage, ("one", "two"))
-    for k, (id, url) in enumerate((("two", "%24two"), ("one", "$o%6Ee"), ("two", "%24%74wo"))):
-        stage.act(f"get{k}", "read", made[id], url, needs=[id], promise="reference")
+    for k, (name, url) in enumerate((("two", "%24two"), ("one", "$o%6Ee"), ("two", "%24%74wo"))):
+        stage.act(f"get{k}", "read", made[name], url, needs=[name], promise="reference")
+
+
+def to_escaped(stage: Stage) -> None:
+    """References to what has a key with characters that a URL escapes."""
+    for name in ("a", "b"):
+        subject = Subject(stage.entities.fresh(stage.entities.odd_key()), False)
+        stage.act(name, "create", subject)
+        refer(stage, f"get-{name}", "read", subject)
 
 
 def with_query(stage: Stage) -> None:
     """References that continue with a query option of the client's own (OData URL Conventions 4.01, section 5.2)."""
     made = create_all(stage, FOUR)
-    for id in ("c", "a"):
-        stage.act(f"get-{id}", "read", made[id], f"${id}{QUERY}", needs=[id], promise="reference")
+    for name in ("c", "a"):
+        stage.act(f"get-{name}", "read", made[name], f"${name}{QUERY}", needs=[name], promise="reference")
 
 
 def to_read(stage: Stage) -> None:
     """References to what is read: of two entities, and beside one that is created."""
-    subjects = {id: stage.subject() for id in ("a", "b")}
+    subjects = {name: stage.subject() for name in ("a", "b")}
     stage.create("new")
-    for id, subject in subjects.items():
-        stage.act(id, "read", subject)
-    for id in ("b", "a"):
-        after_all = ["new", "b" if id == "a" else "a"]
-        stage.act(f"get-{id}", "read", subjects[id], f"${id}", needs=[id, *after_all], promise="reference")
+    for name, subject in subjects.items():
+        stage.act(name, "read", subject)
+    for name in ("b", "a"):
+        after_all = ["new", "b" if name == "a" else "a"]
+        stage.act(f"get-{name}", "read", subjects[name], f"${name}", needs=[name, *after_all], promise="reference")
     stage.act("drop-b", "delete", subjects["b"], "$b", needs=["b", "get-b", "get-a"], promise="reference")
     stage.act("look-a", "read", subjects["a"], "$a", needs=["a", "drop-b"], promise="reference")
 
@@ -98,26 +106,26 @@ def to_changed(act: str) -> Callable[[Stage], None]:
     """References to what another request changes."""
 
     def write(stage: Stage) -> None:
-        subjects = {id: stage.subject() for id in ("a", "b")}
-        for id, subject in subjects.items():
-            stage.act(id, act, subject)
-        for id in ("b", "a"):
-            others = ["b" if id == "a" else "a"]
-            stage.act(f"get-{id}", "read", subjects[id], f"${id}", needs=[id, *others], promise="reference")
+        subjects = {name: stage.subject() for name in ("a", "b")}
+        for name, subject in subjects.items():
+            stage.act(name, act, subject)
+        for name in ("b", "a"):
+            others = ["b" if name == "a" else "a"]
+            stage.act(f"get-{name}", "read", subjects[name], f"${name}", needs=[name, *others], promise="reference")
 
     return write
 
 
 def to_each_in_groups(stage: Stage) -> None:
     """Two groups that create two entities each, and read them inside; one read comes after both."""
-    made: Dict[str, Subject] = {}
+    made: dict[str, Subject] = {}
     for group in ("g", "h"):
         ids = [f"{group}1", f"{group}2"]
         made.update(create_all(stage, ids, group=group))
-        for id in ids:
-            refer(stage, f"get-{id}", "read", made[id], group=group)
-    for id in ("h1", "g2", "g1", "h2"):
-        refer(stage, f"look-{id}", "read", made[id], ["g", "h"])
+        for name in ids:
+            refer(stage, f"get-{name}", "read", made[name], group=group)
+    for name in ("h1", "g2", "g1", "h2"):
+        refer(stage, f"look-{name}", "read", made[name], ["g", "h"])
 
 
 def in_chain(stage: Stage) -> None:
@@ -125,9 +133,9 @@ def in_chain(stage: Stage) -> None:
     made = create_all(stage, ("a", "b"))
     before = "b"
     for k in range(6):
-        id = f"get{k}"
-        refer(stage, id, "read", made["ab"[k % 2]], [before])
-        before = id
+        name = f"get{k}"
+        refer(stage, name, "read", made["ab"[k % 2]], [before])
+        before = name
 
 
 def with_ids(ids: Sequence[str]) -> Callable[[Stage], None]:
@@ -135,8 +143,8 @@ def with_ids(ids: Sequence[str]) -> Callable[[Stage], None]:
 
     def write(stage: Stage) -> None:
         made = create_all(stage, ids)
-        for at, id in enumerate(reversed(ids)):
-            refer(stage, f"look{at}", "read", made[id])
+        for at, name in enumerate(reversed(ids)):
+            refer(stage, f"look{at}", "read", made[name])
 
     return write
 
@@ -144,18 +152,18 @@ def with_ids(ids: Sequence[str]) -> Callable[[Stage], None]:
 def to_property(stage: Stage) -> None:
     """References that continue with a property after the id."""
     made = create_all(stage, FOUR)
-    for id in ("c", "a"):
-        shows, url = Shown({"value": made[id].mark}), f"${id}/{stage.entities.text}"
-        stage.add(f"get-{id}", "get", url, needs=[id], shows=shows, promise="reference")
+    for name in ("c", "a"):
+        shows, url = Shown({"value": made[name].mark}), f"${name}/{stage.entities.text}"
+        stage.add(f"get-{name}", "get", url, needs=[name], shows=shows, promise="reference")
 
 
 def with_option(stage: Stage) -> None:
     """References that continue with a query option after the id."""
     made, entities = create_all(stage, FOUR), stage.entities
-    for id in ("c", "a"):
-        values = {entities.text or "": ABSENT, **({entities.key: made[id].entity.key} if entities.are_named else {})}
-        url = f"${id}?$select={entities.key}"
-        stage.add(f"get-{id}", "get", url, needs=[id], shows=Shown(values, id), promise="reference")
+    for name in ("c", "a"):
+        values = {entities.text or "": ABSENT, **({entities.key: made[name].entity.key} if entities.are_named else {})}
+        url = f"${name}?$select={entities.key}"
+        stage.add(f"get-{name}", "get", url, needs=[name], shows=Shown(values, name), promise="reference")
 
 
 def at_once(stage: Stage) -> None:
@@ -184,6 +192,7 @@ CASES = (
     Case("reference-property", "reference", "a property after the id", to_property, needs=["property"]),
     Case("reference-option", "reference", "a query option after the id", with_option, needs=["options"]),
     Case("reference-encoded", "reference", "references with escaped characters", encoded),
+    Case("reference-escaped", "reference", "keys with escaped characters", to_escaped, needs=["odd keys"]),
     Case("reference-query", "reference", "a query option of its own after the id", with_query, needs=["query"]),
     Case("reference-to-read", "reference", "requests on what another has read", to_read, needs=READ),
     Case("reference-in-group-to-read", "reference", "a member changes what one reads", to_read_in_group, needs=READ),
@@ -193,5 +202,5 @@ CASES = (
 )
 
 
-def references() -> List[Case]:
+def references() -> list[Case]:
     return list(CASES)

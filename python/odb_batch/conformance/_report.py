@@ -2,12 +2,11 @@
 
 import json
 import os
-from typing import Any, Dict, List, NamedTuple, Sequence
+from typing import Any, NamedTuple, Sequence
 
 from ._promises import PROMISES, SECTIONS, Case
 from ._runner import Result
 from ._twin import shortened
-
 
 # How many characters of a batch or a response a test shows.
 MAX_SHOWN = 10_000
@@ -22,18 +21,18 @@ class Count(NamedTuple):
     not_applicable: int
 
 
-def counts(results: List[Result]) -> Dict[str, Count]:
+def counts(results: list[Result]) -> dict[str, Count]:
     """The counts of each promise. A case that does not apply counts for the promise that it is about."""
     found = {}
     for promise in PROMISES:
-        asked = [it for it in results if promise.name in {check.promise for check in it.checks}]
-        broken = sum(promise.name in {check.promise for check in it.breaks} for it in asked)
-        skipped = sum(it.reason is not None and it.case.promise == promise.name for it in results)
+        asked = [result for result in results if promise.name in {check.promise for check in result.checks}]
+        broken = sum(promise.name in {check.promise for check in result.breaks} for result in asked)
+        skipped = sum(result.reason is not None and result.case.promise == promise.name for result in results)
         found[promise.name] = Count(len(asked) + skipped, len(asked) - broken, broken, skipped)
     return found
 
 
-def table(results: List[Result]) -> str:
+def table(results: list[Result]) -> str:
     """The promises with their counts."""
     lines = [f"{'promise':10} {'cases':>5} {'kept':>5} {'broken':>6} {'n/a':>4}  what it says"]
     for promise, count in zip(PROMISES, counts(results).values()):
@@ -42,20 +41,20 @@ def table(results: List[Result]) -> str:
     return "\n".join(lines)
 
 
-def lines_of(results: List[Result], left: List[str], folder: str, notes: Sequence[str] = ()) -> List[str]:
+def lines_of(results: list[Result], left: list[str], folder: str, notes: Sequence[str] = ()) -> list[str]:
     """What is printed below the table."""
     lines = [f"note: {note}" for note in notes]
-    reasons: Dict[str, List[str]] = {}
-    for it in results:
-        if it.reason is not None:
-            reasons.setdefault(it.reason, []).append(it.case.name)
+    reasons: dict[str, list[str]] = {}
+    for result in results:
+        if result.reason is not None:
+            reasons.setdefault(result.reason, []).append(result.case.name)
     for reason, names in reasons.items():
         more = f" and {len(names) - 1} more" if len(names) > 1 else ""
         lines.append(f"not applicable: {names[0]}{more}: {reason}")
-    broken = [it for it in results if it.breaks]
-    for it in broken:
-        first = (it.breaks[0].rule or "").partition(". ")[0]
-        lines.append(f"broken: {it.case.name}: {it.breaks[0].promise}: {first}")
+    broken = [result for result in results if result.breaks]
+    for result in broken:
+        first = (result.breaks[0].rule or "").partition(". ")[0]
+        lines.append(f"broken: {result.case.name}: {result.breaks[0].promise}: {first}")
     if broken:
         lines.append(f"batches, responses and rules: {folder}")
     lines += [f"not removed: {url}" for url in left]
@@ -68,7 +67,7 @@ def rules_text(result: Result) -> str:
     mode = "without" if result.case.stops else "with"
     lines = [f"{result.case.name}: {result.case.shows}", f"sent {mode} Prefer: continue-on-error", ""]
     for promise in PROMISES:
-        rules = [f"  {it.rule}" for it in result.breaks if it.promise == promise.name]
+        rules = [f"  {check.rule}" for check in result.breaks if check.promise == promise.name]
         if rules:
             lines += [f"{promise.name}: {promise.text} (OData {promise.section})", *rules]
     return "\n".join(lines) + "\n"
@@ -76,26 +75,26 @@ def rules_text(result: Result) -> str:
 
 def failure_text(result: Result) -> str:
     """What a test says of a case that is broken: the rules, the batch and the response."""
-    batch, response = (shortened(it.decode(errors="replace"), MAX_SHOWN) for it in (result.batch, result.response))
+    batch, response = (shortened(text.decode(errors="replace"), MAX_SHOWN) for text in (result.batch, result.response))
     return f"{rules_text(result)}\nbatch:\n{batch}\nresponse:\n{response}"
 
 
-def write_breaks(results: List[Result], folder: str) -> None:
+def write_breaks(results: list[Result], folder: str) -> None:
     """Writes the batch, the response and the rules of each case that is broken."""
-    for it in results:
-        if it.breaks:
-            place = os.path.join(folder, it.case.name)
+    for result in results:
+        if result.breaks:
+            place = os.path.join(folder, result.case.name)
             os.makedirs(place, exist_ok=True)
             for name, data in (
-                ("batch.json", it.batch),
-                ("response.json", it.response),
-                ("rules.txt", rules_text(it).encode()),
+                ("batch.json", result.batch),
+                ("response.json", result.response),
+                ("rules.txt", rules_text(result).encode()),
             ):
                 with open(os.path.join(place, name), "wb") as file:
                     file.write(data)
 
 
-def document(service: str, results: List[Result], left: List[str], notes: Sequence[str] = ()) -> Dict[str, Any]:
+def document(service: str, results: list[Result], left: list[str], notes: Sequence[str] = ()) -> dict[str, Any]:
     """The results as a value of JSON."""
     names = {"not_applicable": "notApplicable"}
     found = counts(results)
@@ -103,23 +102,23 @@ def document(service: str, results: List[Result], left: List[str], notes: Sequen
         "service": service,
         "cases": len(results),
         "promises": [
-            {**it._asdict(), **{names.get(name, name): n for name, n in found[it.name]._asdict().items()}}
-            for it in PROMISES
+            {**promise._asdict(), **{names.get(name, name): n for name, n in found[promise.name]._asdict().items()}}
+            for promise in PROMISES
         ],
         "breaks": [
-            {"case": it.case.name, "promise": check.promise, "section": SECTIONS[check.promise], "rule": check.rule}
-            for it in results
-            for check in it.breaks
+            {"case": result.case.name, "promise": check.promise, "section": SECTIONS[check.promise], "rule": check.rule}
+            for result in results
+            for check in result.breaks
         ],
-        "notApplicable": [{"case": it.case.name, "reason": it.reason} for it in results if it.reason is not None],
+        "notApplicable": [{"case": one.case.name, "reason": one.reason} for one in results if one.reason is not None],
         "left": left,
         "notes": list(notes),
     }
 
 
-def listed(cases: List[Case]) -> str:
+def listed(cases: list[Case]) -> str:
     """The cases, each with what it shows and where the standard promises it."""
-    return "\n".join(f"{it.name:26} {it.shows} ({SECTIONS[it.promise]})" for it in cases)
+    return "\n".join(f"{case.name:26} {case.shows} ({SECTIONS[case.promise]})" for case in cases)
 
 
 def json_text(value: Any) -> str:

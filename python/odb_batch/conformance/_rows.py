@@ -1,29 +1,41 @@
 """Requests that are sent in a batch and alone: what each is about, and what it has."""
 
 from functools import partial
-from typing import Any, Callable, Dict, NamedTuple, Tuple
+from typing import Any, Callable, NamedTuple
 
 from ._entities import Entities, Entity
 from ._exact_json import Number
-from ._kinds import NO_TAG
+from ._failure_kinds import NO_TAG
 
 ODD = "ä \"\\/ € & '%41 <b>"
 MINIMAL, WHOLE = {"Prefer": "return=minimal"}, {"Prefer": "return=representation"}
 RIGHT, WRONG = {"If-Match": "{etag}"}, {"If-Match": NO_TAG}
 JSON = "application/json;odata.metadata="
-ONE_OF = {"If-Match": f"{NO_TAG}, {{etag}}"}
+ONE_OF, KNOWN_OF = {"If-Match": f"{NO_TAG}, {{etag}}"}, {"If-None-Match": f"{{etag}}, {NO_TAG}"}
+WEAK, NEW = {"If-Match": "W/{etag}"}, {"If-None-Match": "*"}
+WEIGHTS = {"Accept": "application/json;q=0.5, */*;q=0.1"}
+NO_TYPE, FULL_TYPE = {"Content-Type": ""}, {"Content-Type": "application/json;charset=utf-8"}
 
 # What is written around a mark: texts that get lost or cut on the way.
-TEXTS: Dict[str, Callable[[Any], str]] = {
+TEXTS: dict[str, Callable[[Any], str]] = {
     "odd": lambda mark: f"{ODD}{mark}",
     "blanks": lambda mark: f"  {mark}  ",
     "beyond": lambda mark: f"\U0001f600 {mark} \U0001d4b3\u00e4",
+    "forms": lambda mark: f"A+b e\u0301 \ufb01 {mark}",
     "long 300": lambda mark: f"{mark}".ljust(300, "x"),
     "long 5000": lambda mark: f"{mark}".ljust(5_000, "x"),
     "long 70000": lambda mark: f"{mark}".ljust(70_000, "x"),
 }
+# Texts that could be taken for other values.
+LIKE_OTHERS = ("0071", "null")
 # Numbers that a float, or a number of JavaScript, does not keep as they are written.
-NUMBERS = {"zero": Number("9.990"), "exponent": Number("1.50E+2"), "digits": Number("12345678901234567890.1234567890")}
+NUMBERS = {
+    "zero": Number("9.990"),
+    "exponent": Number("1.50E+2"),
+    "digits": Number("12345678901234567890.1234567890"),
+    "negative": Number("-0.50"),
+    "nothing": Number("0"),
+}
 
 
 class Row(NamedTuple):
@@ -35,7 +47,7 @@ class Row(NamedTuple):
         method: Its method.
         target: What its URL leads to, of TARGETS.
         body: Its body, of BODIES.
-        headers: Its headers, in which {etag} is the ETag of the entity.
+        headers: Its headers, in which {etag} is the ETag of the entity; an empty one is left out.
         needs: What the service has to have.
     """
 
@@ -44,16 +56,31 @@ class Row(NamedTuple):
     method: str
     target: str
     body: str = ""
-    headers: Dict[str, str] = {}
-    needs: Tuple[str, ...] = ()
+    headers: dict[str, str] = {}
+    needs: tuple[str, ...] = ()
+
+
+def pair(entities: Entities) -> Entity:
+    """Makes two entities that have the mark of the first."""
+    entity = entities.make()
+
+    def same(_: Any) -> Any:
+        return entity.mark
+
+    entities.make(text=same)
+    return entity
 
 
 # Each makes an entity, or names one, that the request is about.
-TARGETS: Dict[str, Callable[[Entities], Entity]] = {
+TARGETS: dict[str, Callable[[Entities], Entity]] = {
     "there": lambda entities: entities.make(),
     "missing": lambda entities: entities.missing(),
     "new": lambda entities: entities.fresh(),
     "found": lambda entities: entities.make(),
+    "odd key": lambda entities: entities.make(key=entities.odd_key()),
+    "new odd key": lambda entities: entities.fresh(entities.odd_key()),
+    "found both": pair,
+    "formed": lambda entities: entities.make({}, TEXTS["forms"]),
     "filled": lambda entities: entities.make(dict([entities.values["null"]])),
     "valued": lambda entities: entities.make(dict(entities.values.values()), TEXTS["beyond"]),
     "no text": lambda entities: entities.make({}, lambda mark: ""),
@@ -62,21 +89,27 @@ TARGETS: Dict[str, Callable[[Entities], Entity]] = {
 }
 
 
-def with_text(text: Callable[[Any], str], entities: Entities, entity: Entity, mark: Any) -> Dict[str, Any]:
+def with_text(text: Callable[[Any], str], entities: Entities, entity: Entity, mark: Any) -> dict[str, Any]:
     """The body of an entity with a text around its mark."""
     return {**entity.body, entities.text or "": text(mark)}
 
 
-def with_number(number: Number, entities: Entities, entity: Entity, mark: Any) -> Dict[str, Any]:
+def with_other_text(text: str, entities: Entities, entity: Entity, _mark: Any) -> dict[str, Any]:
+    """The body of an entity with a text beside that of the marks."""
+    return {**entity.body, entities.values["string"][0]: text}
+
+
+def with_number(number: Number, entities: Entities, entity: Entity, _mark: Any) -> dict[str, Any]:
     """The body of an entity with a number with a fraction."""
     return {**entity.body, entities.values["decimal"][0]: number}
 
 
 # Each returns a body; the second value is a mark that may be written by it.
-BODIES: Dict[str, Callable[[Entities, Entity, Any], Any]] = {
+BODIES: dict[str, Callable[[Entities, Entity, Any], Any]] = {
     "": lambda entities, entity, mark: None,
     "whole": lambda entities, entity, mark: entity.body,
     **{name: partial(with_text, TEXTS[name]) for name in TEXTS},
+    **{f"text {text}": partial(with_other_text, text) for text in LIKE_OTHERS},
     **{name: partial(with_number, NUMBERS[name]) for name in NUMBERS},
     "integer": lambda entities, entity, mark: {**entity.body, **dict([entities.values["integer"]])},
     "no text": lambda entities, entity, mark: {entities.text: ""},
@@ -128,7 +161,7 @@ ROWS = (
     Row("patch-stale", "a PATCH with a wrong ETag", "patch", "there", "mark", WRONG, ("etags", "patch")),
     Row("put-match", "a PUT with the right ETag", "put", "there", "other", RIGHT, ("etags", "put")),
     Row("put-stale", "a PUT with a wrong ETag", "put", "there", "other", WRONG, ("etags", "put")),
-    Row("put-new", "a PUT of what is to be new", "put", "there", "other", {"If-None-Match": "*"}, ("etags", "put")),
+    Row("put-new", "a PUT of what is to be new", "put", "there", "other", NEW, ("etags", "put")),
     Row("delete-match", "a delete with the right ETag", "delete", "there", "", RIGHT, ("etags",)),
     Row("delete-stale", "a delete with a wrong ETag", "delete", "there", "", WRONG, ("etags",)),
     Row("delete-any", "a delete with any ETag", "delete", "there", "", {"If-Match": "*"}, ("etags",)),
@@ -136,12 +169,31 @@ ROWS = (
 # Those of which several are in one batch.
 PARTS = (
     Row("patch-one-of", "a PATCH with the right ETag in a list", "patch", "there", "mark", ONE_OF, ("etags", "patch")),
+    Row("patch-weak", "a PATCH with the right ETag as a weak one", "patch", "there", "mark", WEAK, ("etags", "patch")),
+    Row("patch-new", "a PATCH of what is to be new", "patch", "there", "mark", NEW, ("etags", "patch")),
+    Row("get-known-of", "a read of what is known, by a list", "get", "there", "", KNOWN_OF, ("etags",)),
     Row("get-stale", "a read with a wrong ETag", "get", "there", "", WRONG, ("etags",)),
     Row("post-blanks", "a POST of a text with blanks at its ends", "post", "new", "blanks", needs=("text",)),
     Row("patch-blanks", "a PATCH of such a text", "patch", "there", "blanks mark", needs=("patch",)),
     Row("get-blanks", "a read of such a text", "get", "blank", needs=("text",)),
     Row("post-beyond", "a POST of characters beyond U+FFFF", "post", "new", "beyond", needs=("text",)),
     Row("get-beyond", "a read of such characters", "get", "valued", needs=("text",)),
+    Row("post-forms", "a POST of signs that have several forms", "post", "new", "forms", needs=("text",)),
+    Row("get-forms", "a read of such signs", "get", "formed", needs=("text",)),
+    *(
+        Row(f"post-{text}", f"a POST of the text {text}", "post", "new", f"text {text}", needs=("string",))
+        for text in LIKE_OTHERS
+    ),
+    Row("get-listed", "a read of two entities of a set", "get", "found both", needs=("text", "filter")),
+    Row("post-key", "a POST of a key that a URL escapes", "post", "new odd key", "whole", needs=("odd keys",)),
+    Row("get-key", "a read by such a key", "get", "odd key", needs=("odd keys",)),
+    Row("patch-key", "a PATCH by such a key", "patch", "odd key", "mark", needs=("odd keys", "patch")),
+    Row("delete-key", "a delete by such a key", "delete", "odd key", needs=("odd keys",)),
+    Row("post-no-type", "a POST without Content-Type", "post", "new", "whole", NO_TYPE),
+    Row("patch-no-type", "a PATCH without Content-Type", "patch", "there", "mark", NO_TYPE, ("patch",)),
+    Row("post-full-type", "a POST with a charset", "post", "new", "whole", FULL_TYPE),
+    Row("patch-full-type", "a PATCH with a charset", "patch", "there", "mark", FULL_TYPE, ("patch",)),
+    Row("get-accept-weights", "a read with weights", "get", "there", "", WEIGHTS),
     Row("post-long-300", "a POST of a text of 300 letters", "post", "new", "long 300", needs=("text",)),
     Row("post-long-5000", "a POST of a text of 5,000 letters", "post", "new", "long 5000", needs=("text",)),
     Row("post-long-70000", "a POST of a text of 70,000 letters", "post", "new", "long 70000", needs=("text",)),

@@ -1,13 +1,12 @@
 """Runs cases against a service: the batch of each, its judgement, and the removal of what it made."""
 
 from concurrent.futures import ThreadPoolExecutor
-from typing import Callable, List, NamedTuple, Optional, Union
+from typing import Callable, NamedTuple, Optional, Union
 
 from ._entities import Entities
-from ._judge import Check, Judge, clear_responses, is_success, responses_of
-from ._kinds import KINDS, failing_kinds
+from ._failure_kinds import KINDS, failing_kinds
+from ._judge import Check, Judge, clear_responses, is_success, left_over, responses_of
 from ._learning import learn, note_created, refusal
-from ._left_over import left_over
 from ._promises import Case
 from ._service import Answer, Service, Unanswered
 from ._stage import DONE, FAILS, Stage
@@ -32,14 +31,14 @@ class Result(NamedTuple):
     """
 
     case: Case
-    checks: List[Check]
+    checks: list[Check]
     reason: Optional[str] = None
     batch: bytes = b""
     response: bytes = b""
 
     @property
-    def breaks(self) -> List[Check]:
-        return [it for it in self.checks if it.rule is not None]
+    def breaks(self) -> list[Check]:
+        return [check for check in self.checks if check.rule is not None]
 
 
 class Runner:
@@ -56,11 +55,11 @@ class Runner:
     def __init__(self, service: Service, entities: Entities, requests: int) -> None:
         self.service, self.entities, self.requests = service, entities, requests
         self.has_learned = False
-        self.kinds: List[str] = []
+        self.kinds: list[str] = []
         self.continues = True
         self.late = 0
 
-    def run(self, cases: List[Case], progress: Callable[[int, str], None] = lambda at, name: None) -> List[Result]:
+    def run(self, cases: list[Case], progress: Callable[[int, str], None] = lambda at, name: None) -> list[Result]:
         """Runs the cases; raises Unusable if the service cannot be judged any more, or Interrupted.
 
         Before the first run it learns what the service has, which holds for all later ones.
@@ -94,7 +93,7 @@ class Runner:
         in one of some runs."""
         result = self._run(case)
         for _ in range(MORE_RUNS):
-            if all(it.promise != "stop" for it in result.breaks):
+            if all(check.promise != "stop" for check in result.breaks):
                 break
             self.entities.clear(self.entities.spare)
             result = self._run(case)
@@ -114,7 +113,7 @@ class Runner:
         if refused:
             return Result(case, [], self.entities.lacks[refused[0]])
         answers = self._send(case, stages)
-        reason = next(filter(None, (self._reason(case, it) for it in answers)), None)
+        reason = next(filter(None, (self._reason(case, answer) for answer in answers)), None)
         if reason is not None:
             return Result(case, [], reason)
         return self._judge(case, stages, answers)
@@ -123,41 +122,41 @@ class Runner:
         """What the service lacks that a case needs."""
         if case.kind is not None and case.kind not in self.kinds:
             return f"alone, no request fails by {KINDS[case.kind].text}"
-        return next((self.entities.lacks[it] for it in case.needs if it in self.entities.lacks), None)
+        return next((self.entities.lacks[need] for need in case.needs if need in self.entities.lacks), None)
 
     # Sending
 
-    def _send(self, case: Case, stages: List[Stage]) -> List[Union[Answer, Unanswered]]:
+    def _send(self, case: Case, stages: list[Stage]) -> list[Union[Answer, Unanswered]]:
         """Sends the batches of a case at the same time, and notes what they have created."""
-        documents = [it.document() for it in stages]
+        documents = [stage.document() for stage in stages]
         if len(documents) == 1:
             answers = [self._answer(documents[0], case)]
         else:
             with ThreadPoolExecutor(len(documents)) as pool:
-                answers = list(pool.map(lambda it: self._answer(it, case), documents))
+                answers = list(pool.map(lambda document: self._answer(document, case), documents))
         for answer in answers:
             if isinstance(answer, Answer):
                 note_created(self.entities, answer)
-        late = [it for it in answers if isinstance(it, Unanswered) and it.is_late]
+        late = [answer for answer in answers if isinstance(answer, Unanswered) and answer.is_late]
         self.late += len(late)
-        lost = next((it for it in answers if isinstance(it, Unanswered)), None)
+        lost = next((answer for answer in answers if isinstance(answer, Unanswered)), None)
         if lost is not None and (self.late >= MAX_LATE or not self.service.is_reachable()):
             raise lost
         return answers
 
     def _answer(self, document: bytes, case: Case) -> Union[Answer, Unanswered]:
         try:
-            return self.service.batch(document, not case.stops)
+            return self.service.batch(document, case.prefer)
         except Unanswered as error:
             return error
 
     # Judging
 
-    def _judge(self, case: Case, stages: List[Stage], answers: List[Union[Answer, Unanswered]]) -> Result:
+    def _judge(self, case: Case, stages: list[Stage], answers: list[Union[Answer, Unanswered]]) -> Result:
         """Judges the batches of a case by their answers, and by what the set has afterwards."""
         known = set(self.entities.made)
         listing = self.entities.appeared()
-        checks: List[Check] = []
+        checks: list[Check] = []
         result = Result(case, checks)
         for stage, answer in zip(stages, answers):
             if isinstance(answer, Unanswered):
@@ -168,14 +167,14 @@ class Runner:
                     return Result(case, [], "the service does not apply the preference continue-on-error")
                 found, text = Judge(case, stage, answer, stops).checks(listing), answer.text
             checks += found
-            if not result.batch or any(it.rule for it in found) and not any(it.rule for it in checks[: -len(found)]):
+            if not result.batch or any(check.rule for check in found) and not any(check.rule for check in checks[: -len(found)]):
                 result = result._replace(batch=stage.document(), response=text)
         if listing is not None:
             checks += left_over(case, stages, listing, known)
             if any(step.twin for stage in stages for step in stage.steps):
                 # a request alone came after the batch
                 listing = self.entities.appeared()
-            if listing is not None and all(isinstance(it, Answer) for it in answers):
+            if listing is not None and all(isinstance(answer, Answer) for answer in answers):
                 self.entities.settle(listing)
         return result
 
@@ -191,9 +190,10 @@ class Runner:
     def _applies_preference(self, stage: Stage, answer: Answer) -> bool:
         """Whether the service continues on errors. One that does not may leave it at that: it is a preference."""
         if self.continues and "continue-on-error" not in answer.headers.get("preference-applied", "").lower():
-            statuses = {id: it["status"] for id, it in clear_responses(responses_of(answer) or []).items()}
+            clear = clear_responses(responses_of(answer) or [])
+            statuses = {name: response["status"] for name, response in clear.items()}
             expected = stage.expected(False)
             first = expected.index(FAILS) if FAILS in expected else len(expected)
-            after = [it.id for it, outcome in zip(stage.steps[first:], expected[first:]) if outcome == DONE]
-            self.continues = all(is_success(statuses.get(id)) for id in after)
+            after = [step.id for step, outcome in zip(stage.steps[first:], expected[first:]) if outcome == DONE]
+            self.continues = all(is_success(statuses.get(name)) for name in after)
         return self.continues

@@ -12,11 +12,14 @@ from ._interruption import Interrupted, Interruption
 
 MAX_ANSWER = 67_108_864
 # For how many seconds an answer may be waited for, and for how many it is if nobody says.
-MOST_SECONDS, SECONDS = 3600, 20.0
+MAX_SECONDS, SECONDS = 3600, 20.0
 # For how many seconds at most a read waits before it looks for an interruption.
 SLICE = 0.25
 JSON = {"Content-Type": "application/json"}
+CONTINUE = "continue-on-error"
 GONE = (404, 410)
+# What a service may answer to what it refuses.
+REFUSED = (*range(400, 500), 501)
 
 
 # What is said of another URL.
@@ -121,9 +124,9 @@ class Service:
         setattr(found, "response_class", answer)
         return found
 
-    def batch(self, document: bytes, continues: bool) -> Answer:
-        """Sends a batch, with the preference to continue on errors or without it."""
-        return self.ask("POST", "$batch", document, {"Prefer": "continue-on-error"} if continues else {})
+    def batch(self, document: bytes, prefer: str = CONTINUE) -> Answer:
+        """Sends a batch, with the preference to continue on errors unless another one is given, or the empty text."""
+        return self.ask("POST", "$batch", document, {"Prefer": prefer} if prefer else {})
 
     def require_batches(self, entity_set: str) -> None:
         """Sends a batch of one request; raises Unusable if the service does not answer it as a batch."""
@@ -145,11 +148,11 @@ class Service:
         request = {"id": "1", "method": "get", "url": url}
         document = text_of({"requests": [request]}).encode()
         try:
-            return self.batch(document, True)
+            return self.batch(document)
         except Unanswered as error:
             if error.is_late:
                 raise
-        return self.batch(document, True)
+        return self.batch(document)
 
     def is_reachable(self) -> bool:
         """Whether the service answers a plain request, whatever it answers."""
@@ -213,7 +216,7 @@ def _read(response: http.client.HTTPResponse) -> Answer:
             raise ValueError(f"the answer has more than {MAX_ANSWER:,} bytes")
     if response.length:
         raise http.client.IncompleteRead(bytes(text), response.length)
-    return Answer(response.status, {name.lower(): it for name, it in response.headers.items()}, bytes(text))
+    return Answer(response.status, {name.lower(): value for name, value in response.headers.items()}, bytes(text))
 
 
 def reason_of(error: Exception) -> str:

@@ -55,7 +55,7 @@ class _Threads(socketserver.ThreadingMixIn, wsgiref.simple_server.WSGIServer):
 class _Silent(wsgiref.simple_server.WSGIRequestHandler):
     """Handles a request, and prints no line for it."""
 
-    def log_message(self, format: str, *values: Any) -> None:
+    def log_message(self, *_: Any) -> None:
         pass
 
 

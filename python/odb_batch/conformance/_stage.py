@@ -1,7 +1,7 @@
 """A batch as it is written: its requests, what each is expected to be answered, and what shows that it was done."""
 
 import itertools
-from typing import Any, Dict, List, NamedTuple, Optional, Sequence, Set
+from typing import Any, NamedTuple, Optional, Sequence
 from urllib.parse import unquote
 
 from ._entities import Effect, Entities, Entity
@@ -29,7 +29,7 @@ class Shown(NamedTuple):
         maker: The id of the request that creates the entity in the batch, whose key is then that of its response.
     """
 
-    values: Dict[str, Any]
+    values: dict[str, Any]
     maker: Optional[str] = None
 
 
@@ -46,7 +46,7 @@ class Step(NamedTuple):
         twin: The same request as it was answered alone, or None.
     """
 
-    request: Dict[str, Any]
+    request: dict[str, Any]
     promise: Optional[str] = None
     fails: bool = False
     status: Optional[int] = None
@@ -98,21 +98,21 @@ class Stage:
 
     def __init__(self, entities: Entities) -> None:
         self.entities = entities
-        self.steps: List[Step] = []
-        self.subjects: Dict[str, Subject] = {}
+        self.steps: list[Step] = []
+        self.subjects: dict[str, Subject] = {}
         self.is_ascii = True
         ways = ("create", "delete", "patch", "put")
-        self.writes = itertools.cycle([it for it in ways if it not in entities.lacks] or ["delete"])
+        self.writes = itertools.cycle([way for way in ways if way not in entities.lacks] or ["delete"])
 
     def document(self) -> bytes:
         """The batch, a request on each line."""
         lines = ",\n  ".join(text_of(step.request, self.is_ascii) for step in self.steps)
         return f'{{"requests": [\n  {lines}\n]}}\n'.encode()
 
-    def features(self) -> Set[str]:
+    def features(self) -> set[str]:
         """What the batch has that a service may refuse."""
-        found = {"dependencies" for it in self.steps if it.needs}
-        found |= {"groups" for it in self.steps if it.group}
+        found = {"dependencies" for step in self.steps if step.needs}
+        found |= {"groups" for step in self.steps if step.group}
         found |= {"references" for step in self.steps if unquote(step.request["url"]).startswith("$")}
         values = (value for step in self.steps for value in step.request.get("headers", {}).values())
         return found | {"ETags by reference" for value in values if value.startswith("$")}
@@ -121,23 +121,24 @@ class Stage:
 
     def add(
         self,
-        id: str,
+        name: str,
         method: str,
         url: str,
         body: Any = None,
         group: Optional[str] = None,
         needs: Sequence[str] = (),
-        headers: Optional[Dict[str, str]] = None,
+        headers: Optional[dict[str, str]] = None,
         **rest: Any,
     ) -> None:
-        request: Dict[str, Any] = {"id": id}
+        request: dict[str, Any] = {"id": name}
         if group:
             request["atomicityGroup"] = group
         if needs:
             request["dependsOn"] = list(needs)
         request.update(method=method, url=url)
         if body is not None:
-            headers = {"Content-Type": "application/json", **(headers or {})}
+            given = {"Content-Type": "application/json", **(headers or {})}
+            headers = {name: value for name, value in given.items() if value}
         if headers:
             request["headers"] = headers
         if body is not None:
@@ -152,13 +153,13 @@ class Stage:
         """An entity that is there, and that the batch does not remove."""
         return Subject(self.entities.borrow(), True)
 
-    def act(self, id: str, act: str, subject: Subject, by: str = "", **where: Any) -> None:
+    def act(self, name: str, act: str, subject: Subject, by: str = "", **where: Any) -> None:
         """A request on an entity, by its URL or by another way to lead to it."""
         entity, fails = subject.entity, subject.is_there == (act == "create")
-        self.subjects[id] = subject
+        self.subjects[name] = subject
         if act == "read":
             shows = None if fails else self._shown(subject)
-            self.add(id, "get", by or entity.url, fails=fails, shows=shows, **where)
+            self.add(name, "get", by or entity.url, fails=fails, shows=shows, **where)
             return
         is_known = not entity.url or subject.mark == entity.mark
         body, effect = None, Effect(entity.url, False, subject.mark if is_known else None)
@@ -168,15 +169,15 @@ class Stage:
             effect = Effect(entity.url, True, mark)
         if not fails:
             self._supersede(subject, effect)
-            subject.maker = id if act == "create" else subject.maker
+            subject.maker = name if act == "create" else subject.maker
         url = self.entities.set if act == "create" else by or entity.url
         is_seen = not fails and bool(entity.url or "create" not in self.entities.lacks)
-        self.add(id, METHODS[act], url, body, fails=fails, effect=effect if is_seen else None, **where)
+        self.add(name, METHODS[act], url, body, fails=fails, effect=effect if is_seen else None, **where)
 
     def _shown(self, subject: Subject) -> Shown:
         """What a read of an entity returns, as far as it is known."""
         values = {self.entities.key: subject.entity.key, self.entities.text or "": subject.mark}
-        return Shown({name: it for name, it in values.items() if it is not None}, subject.maker)
+        return Shown({name: value for name, value in values.items() if value is not None}, subject.maker)
 
     def _supersede(self, subject: Subject, effect: Effect) -> None:
         """The next request writes an entity: what an earlier one did to it does not show any more."""
@@ -184,38 +185,38 @@ class Stage:
             self.steps[subject.at] = self.steps[subject.at]._replace(effect=None)
         subject.at, subject.is_there, subject.mark = len(self.steps), effect.is_there, effect.mark
 
-    def write(self, id: str, **where: Any) -> None:
+    def write(self, name: str, **where: Any) -> None:
         """A request that creates, deletes or changes an entity, by turns."""
         act = next(self.writes)
-        self.act(id, act, self.lasting() if act in ("patch", "put") else self.subject(act != "create"), **where)
+        self.act(name, act, self.lasting() if act in ("patch", "put") else self.subject(act != "create"), **where)
 
-    def create(self, id: str, **where: Any) -> Subject:
+    def create(self, name: str, **where: Any) -> Subject:
         """A request that creates an entity."""
         subject = self.subject(False)
-        self.act(id, "create", subject, **where)
+        self.act(name, "create", subject, **where)
         return subject
 
-    def read(self, id: str, **where: Any) -> None:
+    def read(self, name: str, **where: Any) -> None:
         """A request that reads an entity which is there all the time."""
-        self.act(id, "read", self.lasting(), **where)
+        self.act(name, "read", self.lasting(), **where)
 
-    def look(self, id: str, written: str, **where: Any) -> None:
+    def look(self, name: str, written: str, **where: Any) -> None:
         """A request that reads what a write has done; it is to see that."""
         subject = self.subjects[written]
         by = "" if subject.entity.url else f"${subject.maker}"
-        self.act(id, "read", subject, by, promise="order", **where)
+        self.act(name, "read", subject, by, promise="order", **where)
 
     # What is expected
 
-    def expected(self, stops: bool) -> List[str]:
+    def expected(self, stops: bool) -> list[str]:
         """What is expected of each request; if the batch stops at an error, anything of what may come after it."""
-        unit_of = {name: it.unit for it in self.steps for name in (it.id, it.unit)}
-        failed: Set[str] = set()
+        unit_of = {name: step.unit for step in self.steps for name in (step.id, step.unit)}
+        failed: set[str] = set()
         found = []
-        for _, members in itertools.groupby(self.steps, lambda it: it.unit):
+        for _, members in itertools.groupby(self.steps, lambda step: step.unit):
             steps = list(members)
-            skipped = [bool(failed & {unit_of[name] for name in it.needs}) for it in steps]
-            is_failing = any(skipped) or any(it.fails for it in steps)
+            skipped = [bool(failed & {unit_of[name] for name in step.needs}) for step in steps]
+            is_failing = any(skipped) or any(step.fails for step in steps)
             for step, is_skipped in zip(steps, skipped):
                 outcome = SKIPPED if is_skipped else FAILS if step.fails else UNDONE if is_failing else DONE
                 found.append(OPEN if stops and failed and outcome in (DONE, FAILS) else outcome)

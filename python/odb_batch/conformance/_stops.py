@@ -1,10 +1,10 @@
 """Cases in which a batch ends with its first error."""
 
 from functools import partial
-from typing import Callable, List, Tuple
+from typing import Callable
 
+from ._failure_kinds import KINDS, fail
 from ._flows import chain, group
-from ._kinds import KINDS, fail
 from ._promises import Case
 from ._stage import Stage
 
@@ -44,6 +44,12 @@ def after_group(stage: Stage, kind: str) -> None:
     chain(stage, LENGTH)
 
 
+def amid_others(stage: Stage, kind: str) -> None:
+    for k in range(4):
+        stage.read(f"r{k}")
+    after_failure(stage, kind)
+
+
 def before_failure(stage: Stage, kind: str) -> None:
     chain(stage, 4)
     fail(stage, "bad", kind, needs=["c3"])
@@ -52,7 +58,7 @@ def before_failure(stage: Stage, kind: str) -> None:
 
 Follow = Callable[[Stage], None]
 # What may follow an error, and what the service has to have for it.
-FOLLOWS: Tuple[Tuple[str, str, Follow, Tuple[str, ...]], ...] = (
+FOLLOWS: tuple[tuple[str, str, Follow, tuple[str, ...]], ...] = (
     ("reads", "thirty reads", reads_follow, ()),
     ("creates", "thirty requests that create", partial(one_method_follows, act="create"), ()),
     ("deletes", "thirty deletes", partial(one_method_follows, act="delete"), ()),
@@ -62,17 +68,20 @@ FOLLOWS: Tuple[Tuple[str, str, Follow, Tuple[str, ...]], ...] = (
 )
 
 
-STOPS: Tuple[Tuple[str, str, Callable[[Stage, str], None]], ...] = (
+STOPS: tuple[tuple[str, str, Callable[[Stage, str], None]], ...] = (
     ("stop-after-failure", "thirty requests in a row after one that fails", after_failure),
     ("stop-after-group", "thirty requests in a row after a group that fails", after_group),
+    ("stop-amid", "thirty requests in a row after an error, and reads before it", amid_others),
     ("stop-before-failure", "what came before the error is performed", before_failure),
 )
 
 
-def stops() -> List[Case]:
+def stops() -> list[Case]:
     """All cases of what follows an error, by what that is and by what follows."""
     kind = "missing"
     found = [Case(name, "stop", shows, partial(write, kind=kind), True, kind) for name, shows, write in STOPS]
+    shows, write = "the same, and the batch says continue-on-error=false", partial(after_failure, kind=kind)
+    found.insert(1, Case("stop-said", "stop", shows, write, True, kind, says_false=True))
     for name, what, follow, needs in FOLLOWS:
         write, shows = partial(after_failure, kind=kind, follow=follow), f"{what} in a row after an error"
         found.append(Case(f"stop-then-{name}", "stop", shows, write, True, kind, needs=needs))

@@ -2,14 +2,14 @@
 
 import unittest
 import warnings
-from typing import Any, Dict, Mapping
+from typing import Any, Mapping
 
-from ._cases import MOST_REQUESTS, REQUESTS, all_cases
+from ._cases import MAX_REQUESTS, REQUESTS, all_cases
 from ._entities import Entities
 from ._interruption import Interruption
 from ._report import failure_text
 from ._runner import Runner
-from ._service import MOST_SECONDS, NO_ROOT, SECONDS, Service, is_root
+from ._service import MAX_SECONDS, NO_ROOT, SECONDS, Service, is_root
 
 
 def judge(
@@ -47,14 +47,14 @@ def judge(
         Unusable: The service cannot be reached or judged, as one without $batch.
         ValueError: No case has this name, or another argument has a value that it may not have.
     """
-    __tracebackhide__ = True
+    __tracebackhide__ = True  # for pytest  pylint: disable=unused-variable
     if not is_root(url):
         raise ValueError(NO_ROOT.format(url))
-    if not 1 <= requests <= MOST_REQUESTS:
-        raise ValueError(f"requests must be a whole number from 1 to {MOST_REQUESTS}, not {requests!r}")
-    if not 0 < timeout <= MOST_SECONDS:
-        raise ValueError(f"timeout must be a number of seconds up to {MOST_SECONDS}, not {timeout!r}")
-    cases = [it for it in all_cases(requests) if it.name == case]
+    if not 1 <= requests <= MAX_REQUESTS:
+        raise ValueError(f"requests must be a whole number from 1 to {MAX_REQUESTS}, not {requests!r}")
+    if not 0 < timeout <= MAX_SECONDS:
+        raise ValueError(f"timeout must be a number of seconds up to {MAX_SECONDS}, not {timeout!r}")
+    cases = [found for found in all_cases(requests) if found.name == case]
     if not cases:
         raise ValueError(f"no case has the name {case!r}")
     runner = _runner(Service(url, headers, timeout, Interruption()), set, key, dict(body), requests)
@@ -70,10 +70,10 @@ def judge(
 
 
 # The runners of the services that were judged, by all that was said of each: a later case learns nothing anew.
-_RUNNERS: Dict[str, Runner] = {}
+_RUNNERS: dict[str, Runner] = {}
 
 
-def _runner(service: Service, set: str, key: str, body: Dict[str, Any], requests: int) -> Runner:
+def _runner(service: Service, set: str, key: str, body: dict[str, Any], requests: int) -> Runner:
     """The runner of a service."""
     about = repr((service.root, sorted(service.headers.items()), service.timeout, set, key, body, requests))
     if about not in _RUNNERS:

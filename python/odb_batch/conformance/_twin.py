@@ -6,14 +6,14 @@ does, is not compared, but for whether it is there.
 """
 
 import re
-from typing import Any, Callable, Dict, Iterator, List, Mapping, NamedTuple, Optional, Sequence, Tuple, Union
+from typing import Any, Callable, Iterator, Mapping, NamedTuple, Optional, Sequence, Union
 from urllib.parse import quote, urlsplit
 
 from ._entities import Entities, Entity
 from ._exact_json import text_of
 from ._service import Answer
 
-Parts = Dict[str, Any]
+Parts = dict[str, Any]
 
 HEADERS = {
     "location": "Location",
@@ -94,7 +94,7 @@ class Taking:
 
     def __init__(self, entities: Entities, entity: Entity, marks: Sequence[Any], is_read: bool) -> None:
         self.entities, self.entity, self.is_read = entities, entity, is_read
-        self.names = [(it, "MARK") for it in (entity.mark, *marks) if it is not None]
+        self.names = [(mark, "MARK") for mark in (entity.mark, *marks) if mark is not None]
 
     def parts(self, status: int, headers: Mapping[str, str], value: Any) -> Parts:
         """The parts of an answer, and of the entity afterwards."""
@@ -112,7 +112,7 @@ class Taking:
             after = self.entities.service.ask("GET", url)
             found["afterwards the status"] = after.status
             if after.is_success:
-                found.update({f"afterwards {name}": it for name, it in self._body(after.value).items()})
+                found.update({f"afterwards {name}": value for name, value in self._body(after.value).items()})
                 tag = etag_of(headers, value) if status < 300 else None
                 if tag is not None:
                     found["whether its ETag is the current one"] = tag == etag_of(after.headers, after.value)
@@ -168,16 +168,16 @@ class Taking:
     def _body(self, value: Any, path: str = "the body") -> Parts:
         """The parts of a body, by their paths."""
         if isinstance(value, dict) and value:
-            items: Iterator[Tuple[str, Any]] = iter(value.items())
+            items: Iterator[tuple[str, Any]] = iter(value.items())
             joint = "."
         elif isinstance(value, list) and value:
-            items = ((str(at), it) for at, it in enumerate(value))
+            items = ((str(at), member) for at, member in enumerate(value))
             joint = "/"
         else:
             return {path: self._plain(value)}
         found: Parts = {path: type(value).__name__}
-        for name, it in items:
-            found.update(self._body(self._member(name, it), f"{path}{joint}{name}"))
+        for name, member in items:
+            found.update(self._body(self._member(name, member), f"{path}{joint}{name}"))
         return found
 
 
@@ -199,20 +199,20 @@ def parts_alone(taking: Taking, answer: Answer) -> Parts:
     return found
 
 
-def parts_in_batch(taking: Taking, response: Dict[str, Any]) -> Parts:
+def parts_in_batch(taking: Taking, response: dict[str, Any]) -> Parts:
     """The parts of a response of a batch."""
     given = response.get("headers")
-    headers = {str(name).lower(): str(it) for name, it in given.items()} if isinstance(given, dict) else {}
+    headers = {str(name).lower(): str(value) for name, value in given.items()} if isinstance(given, dict) else {}
     return taking.parts(response["status"], headers, response.get("body"))
 
 
-def differences(alone: Sequence[Parts], batch: Parts) -> List[str]:
+def differences(alone: Sequence[Parts], batch: Parts) -> list[str]:
     """What a request in a batch does otherwise than alone, in lines that continue after its id."""
     first, others = alone[0], alone[1:]
     found = []
     for name in dict.fromkeys([*first, *batch]):
         expected, value = first.get(name, MISSING), batch.get(name, MISSING)
-        is_fixed = all(it.get(name, MISSING) == expected for it in others)
+        is_fixed = all(other.get(name, MISSING) == expected for other in others)
         is_open = (name == HOST and value == MISSING) or (name == VERSION and expected == MISSING)
         if expected != value and not is_open and (is_fixed or MISSING in (expected, value)):
             found.append(f"{name} is {shortened(value)}, and alone {shortened(expected)}")

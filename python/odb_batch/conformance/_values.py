@@ -1,11 +1,12 @@
 """Values of properties that a batch may lose or change on the way, and what takes them."""
 
-from typing import Any, Dict, List, Optional, Tuple
+from typing import Any, Optional
 
 from ._alone import together
 from ._entities import Entities, Entity
 from ._exact_json import Number
 from ._promises import Case
+from ._rows import LIKE_OTHERS
 
 # What is tried for a property: a value for each kind.
 TRIED = {"decimal": Number("9.990"), "integer": 2**53 + 1, "string": "conformance"}
@@ -13,9 +14,9 @@ TRIED = {"decimal": Number("9.990"), "integer": 2**53 + 1, "string": "conformanc
 MAX_TRIED = 8
 
 
-def learn_values(entities: Entities) -> Dict[str, Tuple[str, Any]]:
+def learn_values(entities: Entities) -> dict[str, tuple[str, Any]]:
     """Finds properties, besides that of the marks, that take a fraction, a long integer, a string, and null."""
-    found: Dict[str, Tuple[str, Any]] = {}
+    found: dict[str, tuple[str, Any]] = {}
     if "patch" in entities.lacks:
         return found
     entity = entities.make()
@@ -31,7 +32,7 @@ def learn_values(entities: Entities) -> Dict[str, Tuple[str, Any]]:
     return found
 
 
-def other_properties(entities: Entities, entity: Entity) -> List[str]:
+def other_properties(entities: Entities, entity: Entity) -> list[str]:
     """The names of properties that may take such values: those of the body, and those that the service shows."""
     shown = {**entities.body, **(entities.read(entity.url) or {})}
     simple = (str, int, float, type(None))
@@ -49,20 +50,24 @@ def takes(entities: Entities, entity: Entity, name: str, value: Any) -> bool:
 
 TEXT = ["text"]
 BLANKS, BEYOND = ("post-blanks", "patch-blanks", "get-blanks"), ("post-beyond", "get-beyond")
-LONG, NUMBERS = ("post-long-300", "post-long-5000", "post-long-70000"), ("post-zero", "post-exponent", "post-digits")
+LONG, FORMS = ("post-long-300", "post-long-5000", "post-long-70000"), ("post-forms", "get-forms")
+NUMBERS = ("post-zero", "post-exponent", "post-digits", "post-negative", "post-nothing", "get-numbers")
+ALIKE = [f"post-{text}" for text in LIKE_OTHERS]
 AS_THEY_ARE = together(["post-odd", "patch-odd", *BEYOND], is_ascii=False)
 
 CASES = (
     Case("values-blanks", "alone", "texts with blanks at their ends", together(BLANKS), needs=TEXT),
     Case("values-beyond", "alone", "characters beyond U+FFFF", together(BEYOND), needs=TEXT),
     Case("values-utf-8", "alone", "characters that are not ASCII, without escapes", AS_THEY_ARE, needs=TEXT),
+    Case("values-forms", "alone", "signs that Unicode has in several forms", together(FORMS), needs=TEXT),
+    Case("values-alike", "alone", "texts that could be other values", together(ALIKE), needs=["string"]),
     Case("values-long", "alone", "texts of 300, 5,000 and 70,000 letters", together(LONG), needs=TEXT),
     Case("values-empty", "alone", "a text that is empty", together(["patch-no-text", "get-no-text"]), needs=TEXT),
     Case("values-null", "alone", "null in place of a value", together(["patch-null"]), needs=["null"]),
-    Case("values-numbers", "alone", "numbers with a fraction", together([*NUMBERS, "get-numbers"]), needs=["decimal"]),
+    Case("values-numbers", "alone", "numbers with a fraction, and 0", together(NUMBERS), needs=["decimal"]),
     Case("values-integer", "alone", "an integer above 2 ** 53", together(["post-integer"]), needs=["integer"]),
 )
 
 
-def values() -> List[Case]:
+def values() -> list[Case]:
     return list(CASES)

@@ -4,7 +4,7 @@ A chain of writes comes before the first of them. So the second one, if it does 
 its way, and both show it each time. Each batch has the shape three times.
 """
 
-from typing import Callable, List, NamedTuple
+from typing import Callable, NamedTuple
 
 from ._promises import Case
 from ._stage import Stage, Subject
@@ -21,9 +21,9 @@ class Pair(NamedTuple):
     shows: str
 
     @property
-    def needs(self) -> List[str]:
+    def needs(self) -> list[str]:
         """What the service has to have, besides keys in the place of a new one."""
-        changes = [it for it in (self.first, self.second) if it in ("patch", "put")]
+        changes = [way for way in (self.first, self.second) if way in ("patch", "put")]
         return [*changes, *(["named"] if "create" in (self.first, self.second) else [])]
 
 
@@ -46,7 +46,7 @@ PAIRS = (
 def lead(stage: Stage, name: str, besides: str = "") -> str:
     """A chain of writes by one method; returns the id of the last. A service that does not wait with requests of some
     method shows it only after a chain of another one."""
-    ways = [it for it in ("patch", "put", "create") if it != besides and it not in stage.entities.lacks]
+    ways = [act for act in ("patch", "put", "create") if act != besides and act not in stage.entities.lacks]
     way = ways[0] if ways else "delete"
     lasting = stage.lasting() if way in ("patch", "put") else None
     for k in range(LENGTH):
@@ -80,8 +80,8 @@ def needs_several(place: int) -> Callable[[Stage], None]:
         for k in range(TIMES):
             subject = slow_write(stage, k)
             needs = [f"quick{k}", f"other{k}"]
-            for id in needs:
-                stage.read(id)
+            for name in needs:
+                stage.read(name)
             needs.insert(place, f"slow{k}")
             stage.act(f"look{k}", "read", subject, needs=needs, promise="order")
 
@@ -132,7 +132,7 @@ GROUPS = (
 )
 
 
-def waits() -> List[Case]:
+def waits() -> list[Case]:
     """All cases of the order."""
     found = []
     for pair in PAIRS:

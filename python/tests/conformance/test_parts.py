@@ -8,11 +8,11 @@ import pytest
 from odb_batch.conformance._entities import BEHIND, Entities, Entity
 from odb_batch.conformance._interruption import Interruption
 from odb_batch.conformance._exact_json import Number, text_of, value_of
-from odb_batch.conformance._left_over import left_over
+from odb_batch.conformance._judge import left_over
 from odb_batch.conformance._promises import Case
 from odb_batch.conformance._service import Answer, Service
 from odb_batch.conformance._stage import Stage
-from odb_batch.conformance._tool import body_of
+from odb_batch.conformance._command import body_of
 from odb_batch.conformance._twin import Taking, differences, host_of, parts_alone, parts_in_batch
 
 JSON = {"content-type": "application/json"}

@@ -14,7 +14,7 @@ import time
 import pytest
 
 from common import SECONDS, rows, until
-from odb_batch.conformance._tool import PROGRAM
+from odb_batch.conformance._command import PROGRAM
 from support.commands import with_package
 from tool import ABOUT, TOOL, service, tool
 

@@ -112,3 +112,58 @@ def first_of_several_tags():
         return request._replace(headers={**request.headers, **tags})
 
     change_requests(change)
+
+
+def first_tag_of_group():
+    """In a group $ and an id stand for the ETag of its first member that has one."""
+
+    def tag_of(execution, id, group):
+        tags = [execution.tags.get(name) for name in execution.members(group)] if group else []
+        return next(filter(None, tags), execution.tags[id])
+
+    stand(tag_of)
+
+
+def drop_conditions(is_dropped):
+    """Has conditions of some requests dropped, by the request and the name of the header."""
+
+    def change(request):
+        kept = {name: it for name, it in request.headers.items() if not is_dropped(request, name)}
+        return request._replace(headers=kept)
+
+    change_requests(change)
+
+
+def none_match_of_members_dropped():
+    """If-None-Match of a member of a group is dropped."""
+    drop_conditions(lambda request, name: name == "if-none-match" and request.group is not None)
+
+
+def none_match_of_patches_dropped():
+    """If-None-Match of a PATCH is dropped."""
+    drop_conditions(lambda request, name: name == "if-none-match" and request.method == "PATCH")
+
+
+def weak_tags_as_strong():
+    """A weak ETag in If-Match counts as a strong one."""
+
+    def change(request):
+        strong = {name: it.replace("W/", "") for name, it in request.headers.items() if name == "if-match"}
+        return request._replace(headers={**request.headers, **strong})
+
+    change_requests(change)
+
+
+def last_of_several_known():
+    """Of a list of ETags in If-None-Match the last counts."""
+
+    def change(request):
+        last = {name: it.rpartition(", ")[2] for name, it in request.headers.items() if name == "if-none-match"}
+        return request._replace(headers={**request.headers, **last})
+
+    change_requests(change)
+
+
+def tags_of_new_as_any():
+    """$ and the id of a POST in a condition stand for any ETag."""
+    stand(lambda execution, id, group: "*" if execution.requests[id]["method"] == "post" else execution.tags[id])

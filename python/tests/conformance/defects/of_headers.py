@@ -1,10 +1,12 @@
 """Defects in headers, on their way to the service and back."""
 
 import json
+from dataclasses import replace
 
 import odb_batch.wsgi
+from odb_batch import Refusal
 from of_responses import without
-from patching import change_answers, change_requests
+from patching import Execution, change_answers, change_requests
 
 
 def drop(*names):
@@ -48,13 +50,13 @@ def other_versions():
 
 def no_version_of_batches():
     """The answer to a batch has no OData-Version."""
-    message_of = odb_batch.wsgi.message_of
+    wire_message = odb_batch.wsgi.wire_message
 
     def changed(answer):
-        headers, body = message_of(answer)
+        headers, body = wire_message(answer)
         return {name: it for name, it in headers.items() if name != "odata-version"}, body
 
-    odb_batch.wsgi.message_of = changed
+    odb_batch.wsgi.wire_message = changed
 
 
 def no_accept():
@@ -80,22 +82,67 @@ def accept_sticks():
 
 def answered_207():
     """A batch is answered 207 if a request fails."""
-    performed = odb_batch.wsgi.performed
+    batch_response = odb_batch.wsgi.batch_response
 
     def changed(response, *rest):
-        answer = performed(response, *rest)
+        answer = batch_response(response, *rest)
         has_failed = any(it["status"] >= 400 for it in json.loads(response)["responses"])
-        return answer._replace(status=207) if has_failed else answer
+        return replace(answer, status=207) if has_failed else answer
 
-    odb_batch.wsgi.performed = changed
+    odb_batch.wsgi.batch_response = changed
 
 
 def answered_as_the_first_error():
     """A batch is answered the status of its first request that fails."""
-    performed = odb_batch.wsgi.performed
+    batch_response = odb_batch.wsgi.batch_response
 
     def changed(response, *rest):
         failed = [it["status"] for it in json.loads(response)["responses"] if it["status"] >= 400]
-        return performed(response, *rest)._replace(status=(failed or [200])[0])
+        return replace(batch_response(response, *rest), status=(failed or [200])[0])
 
-    odb_batch.wsgi.performed = changed
+    odb_batch.wsgi.batch_response = changed
+
+
+def refuse_types(is_refused):
+    """Has requests with a body answered 415 by the Content-Type that they have in the batch."""
+    answer = Execution.answer
+
+    def answering(self, request):
+        given = {name.lower(): value for name, value in self.requests[request.id].get("headers", {}).items()}
+        if request.body and is_refused(given.get("content-type", "")):
+            return Refusal(415, "BadMediaType", "An entity is in application/json").answer
+        return answer(self, request)
+
+    Execution.answer = answering
+
+
+def types_needed():
+    """A request with a body has to have a Content-Type."""
+    refuse_types(lambda value: not value)
+
+
+def types_without_parameters():
+    """A Content-Type has no parameters."""
+    refuse_types(lambda value: ";" in value)
+
+
+def accept_of_members_dropped():
+    """Accept of a member of a group is dropped."""
+
+    def change(request):
+        kept = {name: it for name, it in request.headers.items() if name != "accept" or request.group is None}
+        return request._replace(headers=kept)
+
+    change_requests(change)
+
+
+def weights_refused():
+    """Accept with weights is answered 406."""
+    answer = Execution.answer
+
+    def answering(self, request):
+        if ";q=" in request.headers.get("accept", ""):
+            return Refusal(406, "NotAcceptable", "The service answers in application/json").answer
+        return answer(self, request)
+
+    Execution.answer = answering

@@ -68,3 +68,14 @@ def errors_of_members_without_bodies():
         return answer._replace(body=b"") if is_member and not answer.is_success else answer
 
     change_answers(change)
+
+
+def lists_of_members_cut():
+    """A list in a group has one entity at most."""
+
+    def change(members):
+        for it in members:
+            if "value" in it.get("body", {}):
+                it["body"]["value"] = it["body"]["value"][:1]
+
+    of_members(change)

@@ -116,3 +116,41 @@ def reads_again_are_304():
         return found
 
     Execution.answer = answering
+
+
+def posts_are_kept():
+    """A POST that a batch has twice is performed once."""
+    keep_answers(lambda request: request.method == "POST")
+
+
+def reads_are_kept_by_path():
+    """A read is answered as one of the same path before, whatever its query options."""
+    answer = Execution.answer
+
+    def answering(self, request):
+        self.kept = getattr(self, "kept", {})
+        key = request.url.partition("?")[0]
+        if request.method != "GET" or "?" not in request.url:
+            return answer(self, request)
+        if key not in self.kept:
+            self.kept[key] = answer(self, request)
+        return self.kept[key]
+
+    Execution.answer = answering
+
+
+def groups_keep_reads():
+    """A read is answered as one before it, unless a request in no group has written since."""
+    answer = Execution.answer
+
+    def answering(self, request):
+        self.kept = getattr(self, "kept", {})
+        if request.method != "GET":
+            self.kept = self.kept if request.group is not None else {}
+            return answer(self, request)
+        key = request.url, tuple(request.headers.items())
+        if key not in self.kept:
+            self.kept[key] = answer(self, request)
+        return self.kept[key]
+
+    Execution.answer = answering

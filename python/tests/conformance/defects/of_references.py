@@ -4,7 +4,7 @@ import re
 from urllib.parse import unquote, urljoin
 
 from odb_batch import Answer
-from patching import Execution, change_document
+from patching import Execution, change_document, change_requests, change_responses
 
 # What stands for a reference, so that the library leaves it as it is.
 HIDDEN = re.compile(r".*/reference-([\w.~-]+)(.*)$", re.DOTALL)
@@ -132,3 +132,24 @@ def references_to_new_alone():
 def references_to_reads_nowhere():
     """A reference to a read is answered 404."""
     resolve(lambda execution, id: execution.locations.get(id, f"/library/${id}"))
+
+
+def urls_decoded_twice():
+    """The path of a URL is decoded once too often."""
+    change_requests(lambda request: request._replace(url=unquote(request.url)))
+
+
+def locations_decoded():
+    """A Location is decoded."""
+
+    def change(responses, requests):
+        for it in responses:
+            headers = it.get("headers", {})
+            headers.update({name: unquote(value) for name, value in headers.items() if name == "location"})
+
+    change_responses(change)
+
+
+def references_decoded_twice():
+    """What a reference leads to is decoded once too often."""
+    resolve(lambda execution, id: unquote(execution.locations[id]))

@@ -2,6 +2,7 @@
 
 import json
 
+import odb_batch.wsgi
 from patching import Execution, is_success, request_of
 
 
@@ -101,3 +102,39 @@ def puts_go_on():
 def groups_go_on():
     """Groups are performed after an error, too."""
     go_on(lambda given: "atomicityGroup" in given)
+
+
+def no_stop_by_501():
+    """A batch does not end with a status from 500 on."""
+    stop_by(lambda request, status: 400 <= status < 500)
+
+
+def stop_by_first_alone():
+    """A batch ends with an error of its first request alone."""
+    respond, answer = Execution.respond, Execution.answer
+
+    def responding(self):
+        self.first_status = 0
+        if self.options.get("mode") == "stop":
+            self.options.update(mode="continue", stop=lambda: self.first_status >= 400)
+        return respond(self)
+
+    def answering(self, request):
+        is_first = request.id == next(iter(self.requests))
+        found = answer(self, request)
+        self.first_status = found.status if is_first else self.first_status
+        return found
+
+    Execution.respond, Execution.answer = responding, answering
+
+
+def false_is_true():
+    """A batch that says continue-on-error=false goes on after an error."""
+    prepare = odb_batch.wsgi.BatchRequest.__init__
+
+    def preparing(self, *rest):
+        prepare(self, *rest)
+        if "continue-on-error" in rest[5].get("prefer", ""):
+            self.mode = "continue"
+
+    odb_batch.wsgi.BatchRequest.__init__ = preparing

@@ -1,6 +1,7 @@
 """Defects in the values of bodies, on their way to the service and back."""
 
 import json
+import unicodedata
 
 from odb_batch import Answer
 from patching import Execution, change_answers, change_bodies, change_requests
@@ -139,3 +140,47 @@ def bodies_of_64_kib():
         return answer(self, request)
 
     Execution.answer = answering
+
+
+def composed():
+    """Texts are brought to one form of Unicode."""
+    of_texts(lambda text: unicodedata.normalize("NFC", text))
+
+
+def compatible():
+    """Texts that are answered are brought to one form of Unicode, without ligatures."""
+    change_bodies_of_answers(in_texts(lambda text: unicodedata.normalize("NFKC", text)))
+
+
+def lower_case():
+    """Texts are brought to lower case."""
+    of_texts(str.lower)
+
+
+def plus_as_blank():
+    """A plus in a text becomes a blank, as in a form."""
+    of_texts(lambda text: text.replace("+", " "))
+
+
+def digits_as_numbers():
+    """A text of digits becomes a number."""
+    of_texts(lambda text: int(text) if text.isdigit() else text)
+
+
+def null_as_null():
+    """The text null becomes null."""
+    of_texts(lambda text: None if text == "null" else text)
+
+
+def zeros_as_nulls():
+    """0 becomes null."""
+    change_bodies(lambda request: True, lambda body: {name: None if it == 0 else it for name, it in body.items()})
+
+
+def signs_of_numbers_lost():
+    """Numbers below 0 lose their sign."""
+
+    def change(request):
+        return request._replace(body=request.body.replace(b"-0.50", b"0.50"))
+
+    change_requests(change)

@@ -9,7 +9,7 @@ from urllib.parse import urljoin
 
 import app
 import entities
-import odb_batch._endpoint
+import odb_batch.http.batch_request
 import store
 from odb_batch import Answer, Refusal
 from odb_batch.conformance._exact_json import text_of, value_of
@@ -40,7 +40,7 @@ def refuses_references():
 
 def always_stops():
     """A batch ends with its first error, whatever the client prefers, and leaves out what was not performed."""
-    odb_batch._endpoint.preferences = lambda headers: []
+    odb_batch.http.batch_request.preferences = lambda headers: []
 
     def leave_out(responses, requests):
         if any(400 <= it["status"] != 424 for it in responses):

@@ -1,27 +1,29 @@
 """Cases of what a request may be called, and of the forms of its URL."""
 
-from typing import Callable, List, Sequence
+from typing import Callable, Sequence
 from urllib.parse import urljoin, urlsplit
 
+from ._alone import together
 from ._promises import Case
 from ._stage import Stage, Subject
 
 CASE = ("A", "a", "Ab", "aB")
 SIGNS = ("A-1", "A.1", "A_1", "A~1", "-", "~", "._~-")
 NUMBERS = ("1", "01", "10", "1.0", "-1")
-LONG = tuple("x" * 60 + it for it in "abc")
+KEYS = ("post-key", "get-key", "patch-key", "delete-key")
+LONG = tuple("x" * 60 + letter for letter in "abc")
 
 
 def ids(names: Sequence[str]) -> Callable[[Stage], None]:
     """Requests with these ids, each of which depends on the one before it."""
 
     def write(stage: Stage) -> None:
-        for at, id in enumerate(names):
+        for at, request_id in enumerate(names):
             needs = [names[at - 1]] if at else []
             if at % 2:
-                stage.read(id, needs=needs)
+                stage.read(request_id, needs=needs)
             else:
-                stage.write(id, needs=needs)
+                stage.write(request_id, needs=needs)
 
     return write
 
@@ -46,7 +48,7 @@ def other_urls(form: Callable[[str], str]) -> Callable[[Stage], None]:
         def url(subject: Subject) -> str:
             return form(urljoin(root, subject.entity.url))
 
-        for act in ("read", "delete", *[it for it in ("patch", "put") if it not in stage.entities.lacks]):
+        for act in ("read", "delete", *[way for way in ("patch", "put") if way not in stage.entities.lacks]):
             subject = stage.subject()
             stage.act(act, act, subject, url(subject))
         stage.create("create")
@@ -80,9 +82,10 @@ CASES = (
     Case("groups-signs", "named", "names of groups with each of -._~", groups(SIGNS)),
     Case("methods-upper", "alone", "methods in upper case", methods),
     Case("urls-absolute", "alone", "absolute URLs", other_urls(lambda url: url), needs=["absolute"]),
+    Case("urls-escaped", "alone", "keys with characters that a URL escapes", together(KEYS), needs=["odd keys"]),
     Case("urls-rooted", "alone", "URLs that begin with /", other_urls(path_of), needs=["rooted"]),
 )
 
 
-def names() -> List[Case]:
+def names() -> list[Case]:
     return list(CASES)

@@ -3,16 +3,16 @@
 import argparse
 import re
 import sys
-from typing import Any, Dict, List, Sequence
+from typing import Any, Sequence
 
 from . import _report
-from ._cases import MOST_REQUESTS, REQUESTS, cases_like
+from ._cases import MAX_REQUESTS, REQUESTS, cases_like
 from ._entities import Entities
 from ._exact_json import value_of
 from ._interruption import Interrupted, Interruption
 from ._promises import Case
 from ._runner import Runner
-from ._service import MOST_SECONDS, NO_ROOT, SECONDS, Service, Unusable, is_root
+from ._service import MAX_SECONDS, NO_ROOT, SECONDS, Service, Unusable, is_root
 
 PROGRAM = "python3 -m odb_batch conformance"
 BODY_HELP = "a body that creates an entity; the key is added. One with a property of each type judges more"
@@ -27,7 +27,7 @@ def url_of(text: str) -> str:
     return text
 
 
-def body_of(text: str) -> Dict[str, Any]:
+def body_of(text: str) -> dict[str, Any]:
     """The body of an entity."""
     try:
         value = value_of(text)
@@ -38,7 +38,7 @@ def body_of(text: str) -> Dict[str, Any]:
     return value
 
 
-def header_of(text: str) -> List[str]:
+def header_of(text: str) -> list[str]:
     """The name and the value of a header."""
     name, colon, value = text.partition(":")
     if not colon or not re.fullmatch(r"[\w!#$%&'*+.^`|~-]+", name, re.ASCII) or not value.isprintable():
@@ -47,14 +47,14 @@ def header_of(text: str) -> List[str]:
 
 
 def seconds_of(text: str) -> float:
-    if not re.fullmatch(r"[0-9]{1,4}(\.[0-9]+)?", text) or not 0 < float(text) <= MOST_SECONDS:
-        raise argparse.ArgumentTypeError(f"{text!r} is not a number of seconds up to {MOST_SECONDS}")
+    if not re.fullmatch(r"[0-9]{1,4}(\.[0-9]+)?", text) or not 0 < float(text) <= MAX_SECONDS:
+        raise argparse.ArgumentTypeError(f"{text!r} is not a number of seconds up to {MAX_SECONDS}")
     return float(text)
 
 
 def number_of(text: str) -> int:
-    if not re.fullmatch(r"[0-9]{1,5}", text) or not 1 <= int(text) <= MOST_REQUESTS:
-        raise argparse.ArgumentTypeError(f"{text!r} is not a whole number from 1 to {MOST_REQUESTS}")
+    if not re.fullmatch(r"[0-9]{1,5}", text) or not 1 <= int(text) <= MAX_REQUESTS:
+        raise argparse.ArgumentTypeError(f"{text!r} is not a whole number from 1 to {MAX_REQUESTS}")
     return int(text)
 
 
@@ -86,7 +86,7 @@ def progress(at: int, name: str, count: int) -> None:
         print(f"\r\033[K{at + 1}/{count} {name}" if name else "\r\033[K", end="", file=sys.stderr, flush=True)
 
 
-def run(options: argparse.Namespace, cases: List[Case], interruption: Interruption) -> int:
+def run(options: argparse.Namespace, cases: list[Case], interruption: Interruption) -> int:
     """Runs the cases and prints what they show; returns the exit status."""
     service = Service(options.url, dict(options.header), options.timeout, interruption)
     entities = Entities(service, options.set, options.key, options.body)
@@ -111,7 +111,7 @@ def run(options: argparse.Namespace, cases: List[Case], interruption: Interrupti
     except OSError as error:
         print(f"error: {error.filename}: {error.strerror}", file=sys.stderr)
         return UNUSABLE
-    return BROKEN if any(it.breaks for it in results) else 0
+    return BROKEN if any(result.breaks for result in results) else 0
 
 
 def main(words: Sequence[str]) -> int:
