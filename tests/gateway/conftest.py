@@ -1,5 +1,7 @@
 """Gateways with services behind them; what needs them is skipped where aiohttp is not installed."""
 
+import io
+import logging
 import signal
 
 import pytest
@@ -52,6 +54,19 @@ def running(aiohttp):
     yield start
     for it in made:
         it.stop(signal.SIGKILL)
+
+
+@pytest.fixture
+def logged(aiohttp):
+    """The lines that this process logs from now on, without their time."""
+    from odb_batch.gateway._log import LINES, log_to_stderr
+
+    log_to_stderr("batches")
+    handler, text = logging.getLogger().handlers[-1], io.StringIO()
+    handler.setStream(text)
+    yield lambda: [line.partition(" ")[2] for line in text.getvalue().splitlines()]
+    logging.getLogger().removeHandler(handler)
+    LINES.setLevel(logging.NOTSET)
 
 
 @pytest.fixture(scope="session")

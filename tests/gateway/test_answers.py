@@ -166,7 +166,7 @@ def test_the_log_says_why_there_is_no_answer(upstream, running, kind, code, reas
     _, text = it.stop(15)
     first, *more = lines_with(text, " reason=")
     service = urls.get(kind, service.url)
-    assert re.match(rf"\S+Z service={re.escape(service)} code={code} reason={reason} error=\w", first), first
+    assert re.match(rf"\S+Z service={re.escape(service)} code={code} reason={reason} error=\S+ number=1 from=127.0.0.1$", first), first
     assert len(more) < 3
 
 
@@ -192,16 +192,23 @@ def test_a_wrong_certificate_is_named(loop, running, tmp_path):
     assert " code=Unreachable reason=certificate " in it.stop(15)[1] and seen == []
 
 
-def test_reasons_are_said_once_a_second(aiohttp, monkeypatch, capsys):
+def test_reasons_that_have_a_word(aiohttp):
+    from aiohttp import ClientConnectorError, ClientResponseError, ServerDisconnectedError
+
+    from odb_batch.gateway._reasons import reason_of
+
+    errors = ClientConnectorError(None, OSError(113, "No route to host")), ClientResponseError(None, ()), ServerDisconnectedError()
+    assert [reason_of(error) for error in errors] == ["unreachable", "not-http", "cut"]
+
+
+def test_reasons_are_said_once_a_second(logged, monkeypatch):
     from odb_batch.gateway import _reasons
 
-    now, reasons = [7.0], _reasons.Reasons(True)
+    now, reasons = [7.0], _reasons.Reasons()
     monkeypatch.setattr(_reasons.time, "monotonic", lambda: now[0])
     for seconds in (0, 0.2, 0.9, 1.1):
         now[0] = 7.0 + seconds
         reasons.say("http://a/x", "Timeout", "timeout")
     reasons.say("http://b/x", "Timeout", "timeout")
-    _reasons.Reasons(False).say("http://c/x", "Timeout", "timeout")
-    lines = [line.split()[1:] for line in capsys.readouterr().err.splitlines()]
-    usual = ["code=Timeout", "reason=timeout"]
-    assert lines == [["service=http://a", *usual], ["service=http://a", *usual, "more=2"], ["service=http://b", *usual]]
+    usual = "code=Timeout reason=timeout"
+    assert logged() == [f"service=http://a {usual}", f"service=http://a {usual} more=2", f"service=http://b {usual}"]

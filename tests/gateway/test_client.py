@@ -7,7 +7,7 @@ import time
 import pytest
 
 from odb_batch.client import Batch, BatchClient
-from odb_batch.client import _patience
+from odb_batch.client import _retry
 from support.gateways import usual, waiting
 
 
@@ -84,7 +84,7 @@ def test_a_batch_that_is_still_performed(gateway):
 def test_a_clock_that_is_days_behind(gateway, monkeypatch):
     it, service = gateway()
     late = email.utils.formatdate(time.time() - 200_000, usegmt=True)
-    monkeypatch.setattr(_patience.email.utils, "formatdate", lambda **options: late)
+    monkeypatch.setattr(_retry.email.utils, "formatdate", lambda **options: late)
     results = BatchClient(posting(it, []), backoff=0).send(posts(2), limit=1)
-    assert [it.status for it in results] == [412, 424] and service.seen == []
+    assert [it.status for it in results.values()] == [412, 424] and service.seen == []
     assert results.reason == "a part was answered 412 as a whole" and len(results.left) == 1

@@ -233,7 +233,7 @@ def test_a_database_that_is_away_for_longer_than_a_lease(upstream, running, sche
     until(lambda: it.ask("GET", "/health/ready")[0] == 200)
     assert until_answered(it, "x", ONE)[0] == 200
     log = it.stop(signal.SIGTERM)[1]
-    assert "the lease is not renewed: PostgreSQL: " in log and "level=error number=1 the journal " in log
+    assert "the lease is not renewed: PostgreSQL: " in log and "level=error number=1 from=127.0.0.1 the journal " in log
 
 
 @pytest.fixture

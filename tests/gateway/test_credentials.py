@@ -8,6 +8,7 @@ import pytest
 from support.servers import CONTINUE
 
 SECRETS = {"Authorization": "Bearer 1", "Cookie": "a=b", "X-Api-Key": "k"}
+ALL_SECRETS = [*SECRETS, "Api-Key", "ApiKey", "X-Access-Token", "X-Auth-Token"]
 
 
 @pytest.fixture
@@ -30,8 +31,19 @@ def names(headers, wanted=SECRETS):
 
 
 def test_of_several_services_none_gets_credentials(pair):
-    orders, main = pair(**{name.replace("-", "_"): value for name, value in SECRETS.items()})
-    assert (names(orders), names(main)) == (set(), set())
+    orders, main = pair(**{name.replace("-", "_"): "1" for name in ALL_SECRETS})
+    assert (names(orders, ALL_SECRETS), names(main, ALL_SECRETS)) == (set(), set())
+
+
+@pytest.mark.parametrize("more", [{}, {"method": "post", "atomicityGroup": "g"}], ids=["alone", "group"])
+def test_of_several_services_none_gets_a_credential_of_a_request(upstream, front, more):
+    service = upstream(lambda seen: answered(seen) if seen.path.endswith("$batch") else usual(seen))
+    it = front("--upstream", service.url, "--route", "/else/=http://127.0.0.1:1/", "--allow", "X-Api-Key",
+               "--groups", "forward")  # fmt: skip
+    assert it.statuses({"url": "Books", "headers": {"X-Api-Key": "k", "X-Request-ID": "1"}, **more}) == [204 if more else 200]
+    (seen,) = service.seen
+    sent = json.loads(seen.body)["requests"][0]["headers"] if more else seen.headers
+    assert names(sent, ["X-Api-Key", "X-Request-ID"]) == {"x-request-id"}
 
 
 def test_one_service_gets_all_credentials(upstream, front):
@@ -67,6 +79,12 @@ def test_a_group_has_the_credentials_that_all_of_its_routes_get(upstream, front)
     assert [names(seen.headers) for seen in service.seen] == [{"cookie"}]
 
 
+def usual(seen):
+    from support import gateways
+
+    return gateways.usual(seen)
+
+
 def answered(seen):
     from aiohttp import web
 
@@ -77,8 +95,8 @@ def answered(seen):
 def test_the_start_says_that_credentials_are_held_back(upstream, running):
     first, second = upstream(), upstream()
     routes = ["--upstream", first.url + "/a/", "--upstream", second.url + "/b/"]
-    wanted = "there are several services, and none gets Authorization, Cookie and the like: see --send\n"
-    assert running(*routes).stop(15)[1].partition("\n")[0] + "\n" == wanted
+    wanted = "level=info there are several services, and none gets Authorization, Cookie and the like: see --send"
+    assert running(*routes).stop(15)[1].splitlines()[0].partition(" ")[2] == wanted
     assert wanted not in running(*routes, "--send", "Cookie=/a/").stop(15)[1]
     assert wanted not in running(*routes[:2]).stop(15)[1]
 
@@ -110,6 +128,13 @@ def test_what_a_client_cannot_have_removed(upstream, front):
     seen = service.seen[0].headers
     assert names(seen) == {"authorization", "cookie", "x-api-key"} and "x-hop" not in seen
     assert (seen["x-forwarded-for"], seen["x-forwarded-host"]) == ("5.6.7.8, 127.0.0.1", "a")
+
+
+def test_a_client_cannot_have_removed_what_an_option_sends(upstream, front):
+    service = upstream()
+    it = front("--upstream", service.url, "--send", "X-Own=/")
+    assert it.statuses({"url": "x"}, headers={**CONTINUE, "X-Own": "1", "Connection": "X-Own"}) == [200]
+    assert names(service.seen[0].headers, ["X-Own"]) == {"x-own"}
 
 
 @pytest.mark.parametrize("coding", ["gzip", "deflate", "br", "Identity, gzip"])

@@ -2,6 +2,7 @@
 
 import json
 import socket
+import threading
 
 import pytest
 
@@ -15,16 +16,16 @@ ONE = json.dumps({"requests": [{"id": "a", "method": "get", "url": "x"}]})
 @pytest.fixture
 def peak(monkeypatch):
     """Returns how much was reserved at once, at most."""
-    from odb_batch._room import Budget
+    from odb_batch.http.budget import MemoryBudget
 
-    take, most = Budget.take, [0]
+    take, most = MemoryBudget.take, [0]
 
     def noted(budget, count):
         found = take(budget, count)
         most[0] = max(most[0], budget.used)
         return found
 
-    monkeypatch.setattr(Budget, "take", noted)
+    monkeypatch.setattr(MemoryBudget, "take", noted)
     return lambda: most[0]
 
 
@@ -50,6 +51,30 @@ def test_all_is_given_back(upstream, front, peak, paths, method):
     it.statuses(*({"method": method, "url": path} for path in paths))
     assert peak() > 0
     until(lambda: is_free(it))
+
+
+def test_an_answer_without_an_end_is_not_read_on(upstream, front, monkeypatch):
+    """A request that was performed keeps its status; its service sees the end of the connection."""
+    from aiohttp import web
+
+    from support.gateways import ODD
+
+    ended = threading.Event()
+
+    async def flood(request):
+        found = web.StreamResponse(status=201)
+        await found.prepare(request)
+        try:
+            while request.transport is not None:
+                await found.write(b"x" * 10_000)
+        finally:
+            ended.set()
+        return found
+
+    monkeypatch.setitem(ODD, "flood", flood)
+    it = front("--upstream", upstream().url, "--max-size", "400000", "--timeout", "60")
+    assert it.statuses({"url": "flood"}, {"method": "post", "url": "flood"}) == [507, 201]
+    assert ended.wait(SECONDS)
 
 
 @pytest.mark.parametrize("body, status", [("{", 400), (b" " * 2_000, 413), (ONE, 405)])
@@ -104,7 +129,7 @@ def test_a_journal_is_read_only_if_there_is_memory_for_it(upstream, front, place
 
 def test_the_memory_is_in_the_metrics(upstream, front):
     it = front("--upstream", upstream().url, "--memory", "20000000")
-    assert {"odb_gateway_memory_used 0", "odb_gateway_memory_limit 20000000"} <= set(it.metrics().splitlines())
+    assert {"odb_gateway_memory_used 0", "odb_gateway_memory_limit 2e+07"} <= set(it.metrics().splitlines())
 
 
 def test_memory_for_less_than_one_batch(capsys):

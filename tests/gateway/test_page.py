@@ -16,19 +16,24 @@ import socket
 import subprocess
 import sys
 import tempfile
-import time
 
 import pytest
 
 from support.commands import with_package
+from support.nginx import nginx
 from support.program import ROOT
-from support.servers import CONTINUE, SECONDS, Asked, repeatable
+from support.servers import CONTINUE, SECONDS, repeatable, skip_without
 
 PAGE = os.path.join(ROOT, "docs", "gateway.md")
 
 
 def page():
     with open(PAGE, encoding="utf-8") as file:
+        return file.read()
+
+
+def example(name):
+    with open(os.path.join(ROOT, "examples", "gateway", name), encoding="utf-8") as file:
         return file.read()
 
 
@@ -91,14 +96,20 @@ def test_the_commands_print_what_the_page_shows(aiohttp):
     assert page() == page_as_printed()
 
 
-def test_the_code_of_the_page_sends_a_group(loop, upstream):
+@pytest.fixture
+def own(aiohttp):
+    """The gateway of one's own in examples/gateway."""
+    names = {}
+    exec(example("own.py"), names)
+    return names
+
+
+def test_a_gateway_of_ones_own_sends_a_group(own, loop, upstream):
     import aiohttp
 
-    from odb_batch import perform_async
     from support.gateways import usual
 
     service = upstream(lambda seen: grouped(seen) if seen.path.endswith("$batch") else usual(seen))
-    base = f"http://127.0.0.1:{service.port}/odata/"
     group = {"method": "post", "atomicityGroup": "g"}
     batch = {
         "requests": [
@@ -107,33 +118,22 @@ def test_the_code_of_the_page_sends_a_group(loop, upstream):
             {"id": "c", "url": "C", "method": "get"},
         ]
     }
-    body = "".join(f"    {line}\n" for line in blocks("python")[0].splitlines())
-    names = {"perform_async": perform_async, "BASE": base, "batch": batch}
-    exec(f"async def run(session):\n{body}    return response\n", names)
 
     async def run():
         async with aiohttp.ClientSession() as session:
-            return await names["run"](session)
+            return await own["perform_over"](session, batch, f"http://127.0.0.1:{service.port}/odata/")
 
     assert [it["status"] for it in json.loads(asyncio.run(run()))["responses"]] == [204, 204, 200]
     assert sorted(service.paths) == ["/odata/$batch", "/odata/C"]
 
 
-def test_a_gateway_of_ones_own_keeps_a_batch(place):
+def test_a_gateway_of_ones_own_keeps_a_batch(own, upstream, place):
     """The second time it answers from what is kept."""
-    from odb_batch import perform_async
-
-    sent = []
-
-    async def send(request):
-        sent.append(request.id)
-        return 201, {}, {"number": len(sent)}
-
+    service = upstream()
     batch = json.dumps({"requests": [{"id": "a", "method": "post", "url": "A"}]}).encode()
-    names = {"perform_async": perform_async, "send": send, "BASE": "http://host/odata/", "batch": batch}
-    exec(blocks("python")[1], names)
-    first, again = (asyncio.run(names["main"](place)) for _ in range(2))
-    assert (first, sent) == (again, ["a"]) and b'"number":1' in first
+    base = f"http://127.0.0.1:{service.port}/odata/"
+    first, again = (asyncio.run(own["perform_once"](place, b"ada, 5e1f", batch, base)) for _ in range(2))
+    assert (first, service.paths) == (again, ["/odata/A"]) and b'"status":201' in first
 
 
 def grouped(seen):
@@ -157,6 +157,17 @@ def test_the_options_of_the_page_are_those_of_the_help():
             assert shown[name] == f"{usual.host}:{usual.port}", name
         else:
             assert shown[name] == (usual if isinstance(usual, str) else f"{usual:.0f}"), name
+
+
+@pytest.mark.skipif(sys.version_info < (3, 11), reason="tomllib is not installed")
+def test_the_file_of_the_page_is_read(tmp_path):
+    from odb_batch.gateway._options import options_of
+
+    (text,) = blocks("toml")
+    (tmp_path / "gateway.toml").write_text(text)
+    found = options_of(["--config", str(tmp_path / "gateway.toml")])
+    assert [(it.prefix, it.timeout, it.connections) for it in found.routes] == [("/odata/Orders", 5, 20), ("/odata/", None, None)]
+    assert found.send == (("authorization", "/odata/Orders"),) and found.metrics.port == 9100
 
 
 def test_the_codes_of_the_page_are_those_of_the_gateway():
@@ -183,21 +194,29 @@ def test_the_probes_of_the_page_are_answered(upstream, running):
     assert int(re.search("terminationGracePeriodSeconds: ([0-9]+)", text)[1]) > 25 + 5
 
 
-@contextlib.contextmanager
-def nginx(blocks, folder, port):
-    """nginx with some blocks of its configuration, which listens at a port."""
-    paths = "".join(f"{name}_temp_path {folder}/{name};" for name in ("client_body", "proxy", "fastcgi", "uwsgi", "scgi"))
-    http = f"http {{ access_log off; {paths} {blocks} }}"
-    (folder / "nginx.conf").write_text(f"daemon off; pid {folder}/pid; events {{}} {http}")
-    words = ["nginx", "-c", str(folder / "nginx.conf"), "-p", str(folder), "-e", str(folder / "log")]
-    with subprocess.Popen(words) as process:
-        try:
-            front = Asked()
-            front.port = int(port)
-            wait_for(front)
-            yield front
-        finally:
-            process.terminate()
+def test_the_metrics_of_the_page_are_those_of_the_gateway(upstream, running, tmp_path):
+    """All but the lease, which a folder has not."""
+    skip_without("prometheus_client")
+    it = running("--upstream", upstream().url, "--journal", str(tmp_path), "--one-client", "--metrics", "/metrics")
+    found = set(re.findall("(?m)^# TYPE (odb_gateway_\\w+)", it.ask("GET", "/metrics")[2].decode()))
+    found = {name for name in found if not name.endswith("_created")}
+    shown = re.findall(r"`(odb_gateway_\w+)`", page())
+    assert sorted(shown) == sorted([*found, "odb_gateway_journal_lease_seconds"])
+
+
+def test_the_lines_of_the_log_have_the_words_of_the_page(upstream, running, tmp_path):
+    table = re.search(r"(?s)\| line \| its fields \|\n.*?\n\n", page())[0]
+    rows = [re.sub(r"\(.*?\)", "", row.split("|")[2]) for row in table.strip().splitlines()[2:]]
+    shown = {words[0]: words for words in (re.findall("`([^`]+)`", row) for row in rows)}
+    down = f"http://127.0.0.1:{free_port()}/down/"
+    it = running("--upstream", upstream().url, "--upstream", down, "--log", "requests")
+    it.statuses({"url": "x"}, {"url": "missing"}, {"url": "x", "headers": {"X-Other": "1"}})
+    it.ask("POST", "/down/$batch", json.dumps({"requests": [{"id": "a", "method": "get", "url": "x"}]}))
+    _, text = it.stop(signal.SIGTERM)
+    lines = [re.findall(r"(\w+)=\S", line) for line in text.splitlines() if line[:1].isdigit()]
+    of_all = set(re.findall("`([^`]+)`", re.search(r"(?s)\nEach line that is about a batch (.*?)\.", page())[1]))
+    assert {words[0] for words in lines} == set(shown)
+    assert [words for words in lines if set(words) - of_all - set(shown[words[0]])] == []
 
 
 @pytest.mark.needs("nginx")
@@ -218,30 +237,13 @@ def test_nginx_sends_batches_to_the_gateway(upstream, running, tmp_path):
     assert "/odata/plain" in service.paths
 
 
-def wait_for(front):
-    end = time.monotonic() + SECONDS
-    while time.monotonic() < end:
-        with contextlib.suppress(OSError):
-            return front.ask("GET", "/odata/ready")
-        time.sleep(0.02)
-    pytest.fail("nginx does not listen")
-
-
-
-# docs/scale.md: gateways on several machines
+# docs/scale.md: gateways on several machines, by the files of examples/gateway
 
 
 def unit():
-    """The words of the unit of docs/scale.md that starts a gateway."""
-    with open(os.path.join(ROOT, "docs", "scale.md"), encoding="utf-8") as file:
-        (line,) = re.findall(r"(?m)^ExecStart=/usr/bin/python3 -m odb_batch gateway (.*)$", file.read())
+    """The words of the unit that starts a gateway."""
+    (line,) = re.findall(r"(?m)^ExecStart=/usr/bin/python3 -m odb_batch gateway (.*)$", example("odb-gateway@.service"))
     return shlex.split(line)
-
-
-def balancer():
-    with open(os.path.join(ROOT, "docs", "scale.md"), encoding="utf-8") as file:
-        (found,) = re.findall("```nginx\n(.*?)```", file.read(), re.DOTALL)
-    return found
 
 
 @pytest.fixture
@@ -268,7 +270,7 @@ def test_two_gateways_by_the_unit_of_the_page(two_gateways):
 @pytest.mark.needs("nginx")
 def test_nginx_asks_another_gateway(two_gateways, tmp_path):
     service, gateways = two_gateways
-    text, port = balancer(), free_port()
+    text, port = example("nginx.conf"), free_port()
     for name, it in zip(("gateway1:8090", "gateway2:8090"), gateways):
         text = text.replace(name, f"127.0.0.1:{it.port}")
     text = text.replace("listen 80;", f"listen 127.0.0.1:{port};").replace("$remote_user", "ada")

@@ -118,7 +118,7 @@ def test_a_database_that_turns_out_to_be_unusable(postgresql, schema, monkeypatc
             url = schema.replace(f":{postgresql.port}/", f":{closed.getsockname()[1]}/")
             journals = Journals(store_of(url, LEASE))
             await journals.open()
-        journals.store._url = schema.replace("/postgres?", "/nobody?")
+        journals.store.url = schema.replace("/postgres?", "/nobody?")
         with pytest.raises(OSError, match="nobody"):
             await asyncio.wait_for(journals.broken, SECONDS)
         await journals.close()

@@ -17,7 +17,7 @@ import pytest
 
 from support.commands import with_package
 from support.journals import count_at
-from support.servers import CONTINUE, FIRST_SENT, JSON, SECONDS, Asked, repeatable, until
+from support.servers import CONTINUE, FIRST_SENT, JSON, SECONDS, Asked, repeatable, skip_without, until
 
 
 def refused(words, before="pass"):
@@ -39,6 +39,11 @@ def test_without_asyncpg():
     assert refused(words, "sys.modules['asyncpg'] = None") == (3, wanted)
 
 
+def test_without_prometheus_client():
+    wanted = "error: python3 -m odb_batch gateway needs prometheus_client: pip install prometheus-client\n"
+    assert refused(["--metrics", "9100"], "sys.modules['prometheus_client'] = None") == (3, wanted)
+
+
 def test_where_it_cannot_start(running, tmp_path):
     port = running("--upstream", "http://127.0.0.1:1/").port
     status, message = refused(["--listen", f"127.0.0.1:{port}"])
@@ -53,7 +58,7 @@ def test_help_names_each_option_once():
     words = [sys.executable, "-m", "odb_batch", "gateway", "--help"]
     text = subprocess.run(words, env=with_package(), stdout=subprocess.PIPE, text=True, timeout=SECONDS).stdout
     options = re.findall(r"(?m)^  (--\w[\w-]*)", text)
-    assert len(options) == len(set(options)) == 26
+    assert len(options) == len(set(options)) == 29
 
 
 def test_sigterm(upstream, running):
@@ -81,6 +86,7 @@ def test_sigterm(upstream, running):
 def test_a_batch_that_is_read_at_sigterm_may_be_sent_again(upstream, running, tmp_path):
     service = upstream()
     words = ["--journal", str(tmp_path), "--one-client", "--metrics", "/metrics", "--log", "none"]
+    skip_without("prometheus_client")
     it = running("--upstream", service.url, *words)
     head = f"POST /odata/$batch HTTP/1.1\r\nHost: a\r\nContent-Type: {JSON['Content-Type']}\r\n"
     with socket.create_connection(("127.0.0.1", it.port), SECONDS) as client:
@@ -117,14 +123,15 @@ def test_a_line_of_log_for_each_batch_and_each_request(upstream, running):
     it.statuses({"url": "x?secret=1"}, {"method": "post", "url": "missing"})
     it.ask("POST", "/odata/$batch?secret=1", "{", JSON)
     _, text = it.stop(signal.SIGTERM)
-    lines = [re.sub(r"^[-\d]+T[:\d]+Z |(ms|from)=\S+|\b\d{5}\b", "", line).split() for line in text.splitlines()]
+    lines = [re.sub(r"^[-\d]+T[:\d]+Z |ms=\S+|\b\d{5}\b", "", line).split() for line in text.splitlines()]
     url, batch = "url=http://127.0.0.1:", ["batch=/odata/$batch", "method=POST"]
+    first, second = (["number=1", "from=127.0.0.1"], ["number=2", "from=127.0.0.1"])
     assert sorted(lines[:2]) == [
-        ["request=r0", "number=1", "method=GET", f"{url}/odata/x", "status=200"],
-        ["request=r1", "number=1", "method=POST", f"{url}/odata/missing", "status=404"],
+        ["request=r0", "method=GET", f"{url}/odata/x", "status=200", *first],
+        ["request=r1", "method=POST", f"{url}/odata/missing", "status=404", *first],
     ]  # fmt: skip
-    assert lines[2][:-1] == [*batch, "status=200", "number=1", "sent=2", "failed=1"] and lines[2][-1].startswith("bytes=")
-    assert lines[3] == [*batch, "status=400", "code=F02", "number=2", "sent=0", "failed=0"]
+    assert lines[2].pop(5).startswith("bytes=") and lines[2] == [*batch, "status=200", "sent=2", "failed=1", *first]
+    assert lines[3] == [*batch, "status=400", "code=F02", "sent=0", "failed=0", *second]
     assert lines[4:] == [["gateway=stopping", *(idle := ["batches=0", "requests=0"])], ["gateway=stopped", *idle]]
 
 
@@ -135,7 +142,7 @@ def test_a_path_is_one_word_of_the_log(upstream, running):
         client.sendall(head)
         assert client.makefile("rb").readline().split()[1] == b"400"
     _, text = it.stop(signal.SIGTERM)
-    assert text.split()[1:4] == ["batch=/a%09status=200%C2%85%FF%20/$batch", "from=127.0.0.1", "method=POST"]
+    assert text.split()[1:3] == ["batch=/a%09status=200%C2%85%FF%20/$batch", "method=POST"]
 
 
 def test_what_is_not_http_is_not_in_the_log(upstream, running):
@@ -148,6 +155,7 @@ def test_what_is_not_http_is_not_in_the_log(upstream, running):
 
 
 def test_metrics_at_a_port_of_their_own(upstream, running):
+    skip_without("prometheus_client")
     with socket.create_server(("127.0.0.1", 0)) as free:
         port = free.getsockname()[1]
     it = running("--upstream", upstream().url, "--metrics", str(port))

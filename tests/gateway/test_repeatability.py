@@ -3,6 +3,7 @@ text of journals.
 """
 
 import asyncio
+import contextlib
 import email.utils
 import json
 import signal
@@ -15,10 +16,10 @@ import pytest
 
 from odb_batch import Refusal, Report, ReportUnit
 from odb_batch.gateway._options import options_of
-from odb_batch.gateway._repeatability import AHEAD, Repeatability, seconds_of
+from odb_batch.gateway._repeatability import AHEAD, Repeatability
 from odb_batch.journals import _lines
 from support.commands import with_package
-from support.journals import EVENTS, events_of, opened, written
+from support.journals import EVENTS, events_of, written
 from support.servers import CONTINUE, FIRST_SENT, SECONDS, Asked, repeatable, until
 
 BATCH = json.dumps({"requests": [{"id": "a", "method": "post", "url": "X", "body": 1}]})
@@ -74,29 +75,32 @@ def test_a_batch_that_is_not_kept_any_more_is_not_performed_again(ask, tmp_path)
     assert ask(repeatable("y", date(1_100)), *words) == (412, "TooLate", "rejected", 1)
 
 
-def test_a_batch_is_refused_as_late_before_its_journal_is_removed(tmp_path):
+def test_a_batch_is_refused_as_late_before_its_journal_is_removed(aiohttp, tmp_path):
     """Whenever the journal of a batch is gone, its date is too old: there is no moment between the two."""
-    options = options_of(["--upstream", "http://a", "--journal", str(tmp_path), "--one-client", "--keep", "1000"])
-    sent, now = seconds_of(FIRST_SENT), [0.0]
+    from odb_batch.gateway._application import Gateway
+
+    options = options_of(["--upstream", "http://a", "--journal", str(tmp_path), "--one-client", "--keep", "100"])
+    now, journals = [0.0], Gateway(options)._journals
     repeatability = Repeatability(options, lambda: now[0])
-    headers = {name.lower(): value for name, value in repeatable("x").items()}
+    # The clock of the client is as far ahead as it may be.
+    headers = {name.lower(): value for name, value in repeatable("x", date(1 - AHEAD)).items()}
 
     async def shown():
         return now[0]
 
     async def run():
-        async with opened(str(tmp_path), keep=1000, ahead=AHEAD, steady=lambda: now[0]) as journals:
-            journals.store.now = shown
-            await written(journals)
-            start = time.time()  # the client was at most as far ahead as it may be
-            for now[0] in range(int(start) - 299, int(start) + 5_000, 100):
-                await journals.prune()
-                try:
-                    repeatability.of(headers)
-                except Refusal:
-                    continue
+        journals._steady, journals.store.now = lambda: now[0], shown
+        await journals.open()
+        await written(journals)
+        start, accepted = int(time.time()), 0
+        for now[0] in range(start, start + 1_000, 25):
+            await journals.prune()
+            with contextlib.suppress(Refusal):
+                repeatability.of(headers)
+                accepted += 1
                 assert await events_of(journals) == EVENTS
-            assert await events_of(journals) == [] and sent <= start + 1
+        assert await events_of(journals) == [] and 12 < accepted < 20
+        await journals.close()
 
     asyncio.run(run())
 
@@ -107,6 +111,10 @@ def test_a_batch_is_refused_as_late_before_its_journal_is_removed(tmp_path):
 def test_the_client_has_to_be_known(ask, tmp_path, headers, code):
     found = ask({**repeatable("x"), **headers}, "--journal", str(tmp_path), "--client-header", "X-Client")
     assert found[:2] == ((400, code) if code else (200, None))
+
+
+def test_no_header_of_a_client_takes_what_it_says_of_a_batch_away(ask):
+    assert ask({**repeatable("x"), "Connection": "Repeatability-Request-ID, Repeatability-First-Sent"})[2] == "accepted"
 
 
 def test_a_client_by_what_a_proxy_has_forwarded(ask, tmp_path):

@@ -8,7 +8,7 @@ from concurrent.futures import ThreadPoolExecutor
 
 import pytest
 
-from support.servers import CONTINUE, JSON, SECONDS, until
+from support.servers import CONTINUE, JSON, SECONDS, skip_without, until
 
 
 ELEVEN = json.dumps({"requests": [{"id": str(k), "method": "get", "url": "x"} for k in range(11)]})
@@ -189,14 +189,14 @@ def test_no_request_is_sent_twice_by_a_library(upstream, loop, method):
     import aiohttp
     from aiohttp import web
 
-    from odb_batch.gateway._metrics import Metrics
+    from odb_batch.gateway._metrics import Counts
     from odb_batch.gateway._options import options_of
     from odb_batch.gateway._upstreams import Upstreams
 
     service = upstream(lambda seen: web.Response(status=307, headers={"Location": "/again"}))
 
     async def send():
-        upstreams = Upstreams(options_of(["--upstream", service.url]), Metrics({}))
+        upstreams = Upstreams(options_of(["--upstream", service.url]), Counts())
         await upstreams.open()
         try:
             await upstreams.session(method).request(method, service.url + "/x")
@@ -314,16 +314,13 @@ def test_stops_at_the_first_error_without_the_preference(upstream, front):
 
 
 def test_metrics_and_probes(upstream, front):
+    skip_without("prometheus_client")
     it = front("--upstream", upstream().url, "--metrics", "/metrics", "--width", "3")
     it.statuses({"url": "x"}, {"method": "post", "url": "y"}, {"url": "missing"})
     it.ask("POST", "/odata/$batch", "{", CONTINUE)
     status, headers, text = it.ask("GET", "/metrics")
-    lines = text.decode().splitlines()
-    assert (status, headers["content-type"]) == (200, "text/plain; version=0.0.4; charset=utf-8")
-    sample = r"odb_gateway_[a-z_]+(\{[a-z]+=\"[^\"]*\"(,[a-z]+=\"[^\"]*\")*\})? [0-9.]+"
-    assert all(
-        re.fullmatch(rf"# HELP odb_\w+ .+|# TYPE odb_\w+ (counter|gauge|histogram)|{sample}", line) for line in lines
-    )
+    lines = re.sub(r"(?m)\.0$", "", text.decode()).splitlines()
+    assert (status, headers["content-type"].partition(";")[0]) == (200, "text/plain")
     wanted = [
         'batches_total{status="200"} 1',
         'batches_total{status="400"} 1',
@@ -331,10 +328,11 @@ def test_metrics_and_probes(upstream, front):
         "width_limit 3",
     ]
     wanted += [
-        'requests_total{method="GET",status="404"} 1',
-        "request_seconds_count 3",
+        'requests_total{method="GET",route="/",status="404"} 1',
+        'request_seconds_count{route="/"} 3',
         'batch_seconds_bucket{le="+Inf"} 2',
     ]
     wanted += ["requests_running 0", "batches_running 0"]
     assert {f"odb_gateway_{it}" for it in wanted} <= set(lines)
+    assert any(line.startswith("process_resident_memory_bytes ") for line in lines)
     assert [it.ask("GET", path)[0] for path in ("/health", "/health/ready", "/")] == [200, 200, 404]

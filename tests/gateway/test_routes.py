@@ -100,7 +100,7 @@ def test_wrong_arguments(words, capsys):
 ])  # fmt: skip
 def test_addresses(text, address):
     found = options_of(["--upstream", "http://a/", "--listen", text, "--metrics", text])
-    assert (found.listen, found.metrics_at) == (address, address)
+    assert (found.listen, found.metrics) == (address, address)
 
 
 def test_a_batch_has_no_more_bytes_than_a_run_takes(capsys):

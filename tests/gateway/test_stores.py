@@ -149,6 +149,6 @@ def test_a_lost_request_is_counted(place):
             lost = Report("a", 500, {}, b'{"error":{"code":"Lost"}}')
             await written(journals, [lost, Report("b", 500, {}, b"1")])
             assert journals.lost == 1
-            assert ("journal_lost_total", 1) in [(name, value) for name, _, _, value in journals.metrics()]
+            assert ("journal_lost_total", 1) in [(name, value) for name, _, value in journals.metrics()]
 
     asyncio.run(run())

@@ -61,17 +61,18 @@ def test_a_connection_is_not_waited_for_for_ever(slow, running):
     assert " code=Timeout reason=timeout" in it.stop(signal.SIGTERM)[1]
 
 
-def test_the_log_says_that_no_connection_was_free(aiohttp, capsys):
+def test_the_log_says_that_no_connection_was_free(logged):
     from odb_batch import Refusal
-    from odb_batch.gateway._metrics import Metrics
+    from odb_batch.gateway._metrics import Counts
     from odb_batch.gateway._options import options_of
     from odb_batch.gateway._upstreams import Upstreams
 
     options = options_of(["--upstream", "http://a/", "--connections", "1", "--timeout", "0.01"])
-    metrics = Metrics({})
+    counts, faults = Counts(), []
+    counts.fault = faults.append
 
     async def enter():
-        upstreams = Upstreams(options, metrics)
+        upstreams = Upstreams(options, counts)
         await upstreams.open()
         async with upstreams.places(options.routes[0]):
             with pytest.raises(Refusal):
@@ -79,8 +80,24 @@ def test_the_log_says_that_no_connection_was_free(aiohttp, capsys):
         await upstreams.close()
 
     asyncio.run(enter())
-    assert "service=http://a code=Busy reason=connections" in capsys.readouterr().err
-    assert 'faults_total{code="Busy"} 1' in metrics.text()
+    assert (logged(), faults) == (["service=http://a code=Busy reason=connections"], ["Busy"])
+
+
+def test_nothing_is_sent_once_a_gateway_stops(aiohttp):
+    """Also what had begun, and has waited for its journal."""
+    from odb_batch import PreparedRequest, Refusal
+    from odb_batch.gateway._metrics import Counts
+    from odb_batch.gateway._options import options_of
+    from odb_batch.gateway._upstreams import Upstreams
+    from odb_batch.http import BodyBudget
+
+    options = options_of(["--upstream", "http://127.0.0.1:1/"])
+    upstreams = Upstreams(options, Counts())
+    upstreams.is_stopping = True
+    request = PreparedRequest("a", "GET", "http://127.0.0.1:1/", {}, b"")
+    with pytest.raises(Refusal) as refused:
+        asyncio.run(upstreams.send(options.routes[0], request, BodyBudget(10)))
+    assert refused.value.answer.body["error"]["code"] == "Stopping"
 
 
 def test_what_waits_is_not_lost_in_a_crash(slow, running, event, tmp_path):
@@ -99,7 +116,7 @@ def test_what_waits_is_not_lost_in_a_crash(slow, running, event, tmp_path):
     found = json.loads(text)["responses"]
     assert (status, [response["status"] for response in found]) == (200, [500] + [201] * 7)
     assert code_of(found[0]) == "Lost" and len(service.seen) == 8
-    line = r"(?m)^[-\d]+T[:\d]+Z level=error number=1 r0 was out when a process ended, and is lost$"
+    line = r"(?m)^[-\d]+T[:\d]+Z level=error number=1 from=127.0.0.1 r0 was out when a process ended, and is lost$"
     assert re.search(line, again.stop(signal.SIGTERM)[1])
 
 
@@ -161,7 +178,7 @@ def test_a_deadline_for_a_whole_batch(slow, front):
     assert [(response["status"], code_of(response)) for response in found.values()] == [
         (200, None), (504, "Timeout"), (424, None),
     ]  # fmt: skip
-    assert 'requests_total{method="GET",status="504"} 1' in it.metrics()
+    assert 'requests_total{method="GET",route="/",status="504"} 1' in it.metrics()
 
 
 def test_the_end_of_the_last_batch_is_not_asked_for_again_and_again(slow, front, loop, event, monkeypatch):
@@ -226,14 +243,14 @@ def test_what_was_not_sent_is_not_counted_as_sent(upstream, running):
 @pytest.mark.parametrize("words, seconds", [([], 1), (["--keep-alive", "30"], 30)])
 def test_how_long_a_connection_is_kept(aiohttp, monkeypatch, words, seconds):
     from odb_batch.gateway import _upstreams
-    from odb_batch.gateway._metrics import Metrics
+    from odb_batch.gateway._metrics import Counts
     from odb_batch.gateway._options import options_of
 
     made, connector = [], _upstreams.aiohttp.TCPConnector
     monkeypatch.setattr(_upstreams.aiohttp, "TCPConnector", lambda **given: made.append(given) or connector(**given))
 
     async def make():
-        upstreams = _upstreams.Upstreams(options_of(["--upstream", "http://a/", *words]), Metrics({}))
+        upstreams = _upstreams.Upstreams(options_of(["--upstream", "http://a/", *words]), Counts())
         await upstreams.open()
         await upstreams.close()
 

@@ -2,7 +2,7 @@
 
 from typing import Dict, FrozenSet, Iterable, Sequence, Tuple
 
-from .._messages import header_dict
+from ..http.messages import header_dict
 from ._routes import Route
 
 #: Headers by which services know a client; the option --credential adds others.

@@ -3,7 +3,7 @@
 import zlib
 from typing import Dict, Iterable, Iterator, Tuple
 
-from .._messages import Refusal, header_dict
+from ..http.messages import Refusal, header_dict
 
 # The headers that requests of a batch refer to, and of which an answer has one.
 _SINGLE = frozenset({"content-location", "etag", "location", "odata-entityid"})

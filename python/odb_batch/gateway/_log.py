@@ -1,44 +1,66 @@
-"""The lines of the log, on standard error: the time, and names with their values."""
+"""The lines of the log on standard error: the time, the batch, and names with their values, as words or as JSON."""
 
+import json
 import logging
-import sys
+import re
 import time
 from contextvars import ContextVar
-from typing import Dict
+from typing import Dict, Mapping
 from urllib.parse import quote
 
-from .._answers import LOG
+from ..http.messages import LOG
 
-#: The number of the batch that is on its way; 0 outside of batches.
-NUMBER: "ContextVar[int]" = ContextVar("number", default=0)
-# What a value of the log has as it is: printable ASCII but a space.
+#: What each line says of the batch that is on its way: its number in this process, its client and its trace.
+BATCH: "ContextVar[Dict[str, object]]" = ContextVar("batch", default={})
+#: Writes a line for each batch at INFO, and for each request at DEBUG.
+LINES = LOG.getChild("gateway")
+# What a value has as it is: printable ASCII but a space.
 _LOGGED = "".join(map(chr, range(0x21, 0x7F)))
+_TRACE = re.compile("[0-9a-f]{2}-([0-9a-f]{32})-[0-9a-f]{16}-[0-9a-f]{2}(-.*)?").fullmatch
 
 
-def log_line(values: Dict[str, object]) -> None:
-    """Writes a line of the log to standard error: the time, and names with their values, in which all that could end
-    one is escaped as in a URL."""
-    texts = ((name, quote(str(value), _LOGGED, errors="surrogateescape")) for name, value in values.items())
-    words = (f"{name}={text}" for name, text in texts if text)
-    # One call, so that lines of several processes do not mix.
-    sys.stderr.write(f"{_now()} {' '.join(words)}\n")
-    sys.stderr.flush()
+def trace_of(headers: Mapping[str, str]) -> str:
+    """Returns the id of the trace that a request belongs to (W3C Trace Context); empty if it names none."""
+    found = _TRACE(headers.get("traceparent", ""))
+    return found[1] if found else ""
 
 
-def _now() -> str:
-    return time.strftime("%Y-%m-%dT%H:%M:%SZ", time.gmtime())
+def log_line(values: Dict[str, object], level: int = logging.INFO) -> None:
+    """Writes a line of names with their values; what is empty is left out. Lines about requests have the level DEBUG."""
+    LINES.log(level, values)
 
 
 class _Formatter(logging.Formatter):
-    """Begins what the package logs as other lines begin, with the number of the batch."""
+    """Writes lines as JSON, or as words in which all that could end one is escaped as in a URL."""
+
+    def __init__(self, is_json: bool, worker: object) -> None:
+        super().__init__()
+        self._is_json, self._worker = is_json, worker
 
     def format(self, record: logging.LogRecord) -> str:
-        number = f"number={NUMBER.get()} " if NUMBER.get() else ""
-        return f"{_now()} level={record.levelname.lower()} {number}{super().format(record)}"
+        began = time.strftime("%Y-%m-%dT%H:%M:%SZ", time.gmtime(record.created))
+        given: object = record.msg
+        own: Dict[str, object] = given if isinstance(given, dict) else {"level": record.levelname.lower()}
+        values = {**own, **BATCH.get(), "worker": self._worker, **own}
+        values = {name: value for name, value in values.items() if value != ""}
+        message = "" if own is given else super().format(record)
+        if self._is_json:
+            values = {"time": began, **values, **({"message": message} if message else {})}
+            return json.dumps(values, default=str)
+        words = (f"{name}={quote(str(value), _LOGGED, errors='surrogateescape')}" for name, value in values.items())
+        return " ".join(filter(None, (began, *words, message)))
 
 
-def log_package() -> None:
-    """Writes what the package logs to standard error, from now on."""
+def log_to_stderr(lines: str, is_json: bool = False, worker: object = "") -> None:
+    """Writes what this process logs to standard error from now on, in place of what an earlier call has said.
+
+    Args:
+        lines: The option --log.
+        is_json: Whether lines are JSON.
+        worker: The number of the process, if it is one of several.
+    """
     handler = logging.StreamHandler()
-    handler.setFormatter(_Formatter())
-    LOG.addHandler(handler)
+    handler.setFormatter(_Formatter(is_json, worker))
+    root = logging.getLogger()
+    root.handlers = [*(it for it in root.handlers if not isinstance(it.formatter, _Formatter)), handler]
+    LINES.setLevel({"none": logging.WARNING, "batches": logging.INFO, "requests": logging.DEBUG}[lines])

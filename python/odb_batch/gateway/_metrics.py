@@ -1,119 +1,110 @@
-"""What is counted of batches and requests, in the text form of Prometheus."""
+"""What is counted of batches and requests, for Prometheus."""
 
-from bisect import bisect_left
-from collections import Counter
-from itertools import accumulate
-from typing import Dict, Iterable, Iterator, List, Mapping, Optional, Tuple
+import os
+from typing import Any, Callable, Iterator, Tuple
 
-from .._places import Places
-from .._room import Budget
+from ..driver.waits import Places
+from ..http.budget import MemoryBudget
 from ..journals import Journals
+from ._options import Options
 
-CONTENT_TYPE = "text/plain; version=0.0.4; charset=utf-8"
 _BOUNDS = (0.001, 0.0025, 0.005, 0.01, 0.025, 0.05, 0.1, 0.25, 0.5, 1.0, 2.5, 5.0, 10.0, 30.0)
-_Labels = Tuple[Tuple[str, str], ...]
 
 
-class _Histogram:
-    """How many of some times are at most as long as each bound."""
-
-    def __init__(self) -> None:
-        self._counts, self._sum = [0] * (len(_BOUNDS) + 1), 0.0
-
-    def add(self, seconds: float) -> None:
-        self._counts[bisect_left(_BOUNDS, seconds)] += 1
-        self._sum += seconds
-
-    def samples(self, name: str) -> Iterator[str]:
-        counts = list(accumulate(self._counts))
-        for bound, count in zip((*map(str, _BOUNDS), "+Inf"), counts):
-            yield f'{name}_bucket{{le="{bound}"}} {count}'
-        yield f"{name}_sum {self._sum:.6f}"
-        yield f"{name}_count {counts[-1]}"
-
-
-class Metrics:
-    """What is counted since the start of the process.
+class Counts:
+    """What is on its way now. Without --metrics nothing else is counted.
 
     Attributes:
-        batches_running, requests_running: How many are on their way now.
+        batches_running, requests_running: How many are on their way.
     """
 
-    def __init__(self, limits: Mapping[str, int], budget: Optional[Budget] = None) -> None:
-        self._limits, self._budget = limits, budget
+    def __init__(self) -> None:
         self.batches_running = self.requests_running = 0
-        self._batches: "Counter[_Labels]" = Counter()
-        self._requests: "Counter[_Labels]" = Counter()
-        self._faults: "Counter[_Labels]" = Counter()
-        self._batch_seconds, self._request_seconds = _Histogram(), _Histogram()
-        self._queues: Dict[str, Places] = {}
-        self._journals: Optional[Journals] = None
-
-    def watch_queue(self, service: str, places: Places) -> None:
-        """Shows from now on how many requests wait for a place at a service."""
-        self._queues[service] = places
-
-    def watch_journals(self, journals: Journals) -> None:
-        """Shows from now on what is counted of journals."""
-        self._journals = journals
 
     def batch(self, status: int, seconds: float) -> None:
         """Counts a batch that is answered."""
-        self._batches[("status", str(status)),] += 1
-        self._batch_seconds.add(seconds)
 
-    def request(self, method: str, status: int, seconds: float) -> None:
-        """Counts a request that was sent to a service."""
-        self._requests[("method", method), ("status", str(status))] += 1
-        self._request_seconds.add(seconds)
+    def request(self, route: str, method: str, status: int, seconds: float) -> None:
+        """Counts a request to the service of a route, which has its prefix for a name."""
 
     def fault(self, code: str) -> None:
         """Counts a batch that is refused, or a request that the gateway has answered itself."""
-        self._faults[("code", code),] += 1
 
-    def text(self) -> str:
-        """Returns all of it as Prometheus reads it."""
-        lines: List[str] = []
+    def watch_queue(self, service: str, places: Places) -> None:
+        """Shows from now on how many requests wait for a place at a service."""
 
-        def add(name: str, kind: str, what: str, samples: Iterable[str]) -> None:
-            lines.extend((f"# HELP {name} {what}", f"# TYPE {name} {kind}", *samples))
-
-        name = "odb_gateway_{}".format
-        for what, help, counter in (
-            ("batches_total", "Batches answered, by HTTP status.", self._batches),
-            ("requests_total", "Requests sent to services, by method and status.", self._requests),
-            ("faults_total", "Batches refused, and requests answered by the gateway, by code.", self._faults),
-        ):
-            add(name(what), "counter", help, _counted(name(what), counter))
-        for what, help, histogram in (
-            ("batch_seconds", "How long batches took.", self._batch_seconds),
-            ("request_seconds", "How long services took to answer.", self._request_seconds),
-        ):
-            add(name(what), "histogram", help, histogram.samples(name(what)))
-        for what, help, value in self._gauges():
-            add(name(what), "gauge", help, [f"{name(what)} {value}"])
-        for what, kind, help, amount in self._journals.metrics() if self._journals is not None else ():
-            add(name(what), kind, help, [f"{name(what)} {amount}"])
-        waiting: Dict[_Labels, int] = {(("service", key),): places.waiting for key, places in self._queues.items()}
-        what = name("requests_waiting")
-        add(what, "gauge", "Requests that wait for a connection, by service.", _counted(what, waiting))
-        return "\n".join(lines) + "\n"
-
-    def _gauges(self) -> Iterator[Tuple[str, str, int]]:
-        yield "batches_running", "Batches on their way.", self.batches_running
-        yield "requests_running", "Requests on their way to services: the width in use.", self.requests_running
-        if self._budget is not None:
-            yield "memory_used", "Bytes that batches and their answers hold.", self._budget.used
-            yield "memory_limit", "The option --memory.", self._budget.size
-        for name, value in self._limits.items():
-            yield f"{name}_limit", f"The option --{name}.", value
+    def watch_journals(self, journals: Journals) -> None:
+        """Shows from now on what is counted of journals."""
 
 
-def _counted(name: str, counter: Mapping[_Labels, int]) -> Iterator[str]:
-    for labels, count in sorted(counter.items()):
-        yield f"{name}{{{','.join(f'{label}={_quoted(value)}' for label, value in labels)}}} {count}"
+class Metrics(Counts):
+    """What is counted since the start of the process. It needs prometheus_client."""
+
+    def __init__(self, options: Options, budget: MemoryBudget) -> None:
+        os.environ.setdefault("PROMETHEUS_DISABLE_CREATED_SERIES", "True")  # else each counter has a second sample
+        from prometheus_client import CollectorRegistry, Counter, Gauge, Histogram, PlatformCollector, ProcessCollector
+
+        super().__init__()
+        self._registry: Any = CollectorRegistry()
+        of_all: Any = {"namespace": "odb_gateway", "registry": self._registry}
+        timed: Any = {**of_all, "buckets": _BOUNDS}
+        self._batches = Counter("batches", "Batches answered, by HTTP status.", ["status"], **of_all)
+        self._requests = Counter(
+            "requests", "Requests to services, by route, method and status.", ["route", "method", "status"], **of_all
+        )
+        self._faults = Counter(
+            "faults", "Batches refused, and requests answered by the gateway, by code.", ["code"], **of_all
+        )
+        self._batch_seconds = Histogram("batch_seconds", "How long batches took.", **timed)
+        self._request_seconds = Histogram("request_seconds", "How long services took, by route.", ["route"], **timed)
+        self._waiting = Gauge("requests_waiting", "Requests that wait for a connection.", ["service"], **of_all)
+        for name, help, value in self._gauges(options, budget):
+            Gauge(name, help, **of_all).set_function(value)
+        ProcessCollector(registry=self._registry)
+        PlatformCollector(registry=self._registry)
+
+    def _gauges(self, options: Options, budget: MemoryBudget) -> Iterator[Tuple[str, str, Callable[[], float]]]:
+        yield "batches_running", "Batches on their way.", lambda: self.batches_running
+        yield "requests_running", "Requests on their way to services.", lambda: self.requests_running
+        yield "memory_used", "Bytes that batches and their answers hold.", lambda: budget.used
+        yield "memory_limit", "The option --memory.", lambda: options.memory
+        yield "batches_limit", "The option --batches.", lambda: options.batches
+        yield "connections_limit", "The option --connections.", lambda: options.connections
+        yield "width_limit", "The option --width.", lambda: options.width
+
+    def batch(self, status: int, seconds: float) -> None:
+        self._batches.labels(status).inc()
+        self._batch_seconds.observe(seconds)
+
+    def request(self, route: str, method: str, status: int, seconds: float) -> None:
+        self._requests.labels(route, method, status).inc()
+        self._request_seconds.labels(route).observe(seconds)
+
+    def fault(self, code: str) -> None:
+        self._faults.labels(code).inc()
+
+    def watch_queue(self, service: str, places: Places) -> None:
+        self._waiting.labels(service).set_function(lambda: places.waiting)
+
+    def watch_journals(self, journals: Journals) -> None:
+        self._registry.register(_OfJournals(journals))
+
+    def page(self) -> Tuple[str, bytes]:
+        """Returns all of it as Prometheus reads it: the media type, and the text."""
+        from prometheus_client import CONTENT_TYPE_LATEST, generate_latest
+
+        return CONTENT_TYPE_LATEST, generate_latest(self._registry)
 
 
-def _quoted(value: str) -> str:
-    escaped = value.replace("\\", r"\\").replace('"', r"\"").replace("\n", r"\n")
-    return f'"{escaped}"'
+class _OfJournals:
+    """What is counted of journals."""
+
+    def __init__(self, journals: Journals) -> None:
+        self._journals = journals
+
+    def collect(self) -> Iterator[Any]:
+        from prometheus_client.core import CounterMetricFamily, GaugeMetricFamily
+
+        for name, help, value in self._journals.metrics():
+            family: Any = CounterMetricFamily if name.endswith("_total") else GaugeMetricFamily
+            yield family(f"odb_gateway_{name}", help, value)

@@ -1,9 +1,11 @@
 """The options of the gateway, as a command line has them."""
 
 import argparse
-from typing import NamedTuple, Optional, Sequence, Tuple
+import sys
+from dataclasses import dataclass, field, fields
+from typing import Any, Callable, Optional, Sequence, Tuple, Union
 
-from .._room import USUAL_MEMORY
+from ..http.budget import DEFAULT_MEMORY
 from . import _values as values
 from ._credentials import USUAL
 from ._routes import Route
@@ -13,118 +15,121 @@ PROGRAM = "python3 -m odb_batch gateway"
 _DESCRIPTION = "Answers $batch for services that have none. It needs aiohttp. See docs/gateway.md."
 
 
-class Options(NamedTuple):
-    """What a gateway is told. The help of the command line says what each is."""
-
-    routes: Tuple[Route, ...]
-    forwards: bool = False
-    allowed: Tuple[str, ...] = ()
-    credentials: Tuple[str, ...] = USUAL
-    sent: Tuple[Tuple[str, str], ...] = ()
-    listen: Address = Address("127.0.0.1", 8090)
-    width: int = 8
-    timeout: float = 30.0
-    deadline: Optional[float] = None
-    batches: int = 128
-    connections: int = 100
-    keep_alive: float = 1.0
-    limit: int = 1_000
-    max_size: int = 16_777_216
-    memory: int = USUAL_MEMORY
-    journal: str = ""
-    journal_size: int = 16_384
-    lease: float = 15.0
-    client_header: str = ""
-    keep: float = 86_400.0
-    grace: float = 25.0
-    health: str = "/health"
-    metrics_path: str = ""
-    metrics_at: Optional[Address] = None
-    log: str = "batches"
+def _option(usual: Any, metavar: str, read: Callable[[str], Any], help: str) -> Any:
+    """An option with a value: what it is if it is not given, the name of its value, and how that is read."""
+    return field(default=usual, metadata={"metavar": metavar, "type": read, "help": help})
 
 
-_USUAL = Options(())
+def _each(metavar: str, read: Callable[[str], Any], help: str) -> Any:
+    """An option that may be repeated."""
+    return field(default=(), metadata={"metavar": metavar, "type": read, "help": help, "action": "append"})
 
 
-def parser() -> argparse.ArgumentParser:
+def _choice(usual: str, choices: Sequence[str], help: str) -> Any:
+    """An option that is one of some words."""
+    return field(default=usual, metadata={"choices": choices, "help": help})
+
+
+@dataclass(frozen=True)
+class Options:
+    """What a gateway is told: each option by its name, as the help explains it, and what follows from them."""
+
+    upstream: Tuple[Route, ...] = _each(
+        "URL", values.upstream, "the root of a service; the path of its URL is the same here"
+    )
+    route: Tuple[Route, ...] = _each(
+        "PREFIX=URL", values.route, "where requests go whose path begins so; of several the longest prefix counts"
+    )
+    groups: str = _choice(
+        "refuse", ("refuse", "forward"), "a batch with atomicity groups is answered 501, or each group is sent as one"
+    )
+    allow: Tuple[str, ...] = _each(
+        "NAME", values.allowed, "a header that requests of a batch may have, beside those of usual clients"
+    )
+    credential: Tuple[str, ...] = _each(
+        "NAME", values.header, "a header by which services know a client, beside Authorization, Cookie and X-Api-Key"
+    )
+    send: Tuple[Tuple[str, str], ...] = _each(
+        "HEADER=PREFIX", values.sent,
+        "the route that gets a credential; without it the one service gets all, and of several none",
+    )  # fmt: skip
+    width: int = _option(8, "N", values.width, "requests or groups of a batch at once")
+    timeout: float = _option(
+        30, "S", values.seconds, "seconds for an answer, else 504, and to wait for a connection, else 503"
+    )
+    deadline: Optional[float] = _option(None, "S", values.seconds, "seconds for a batch; then nothing more starts")
+    batches: int = _option(128, "N", values.number, "batches at once, else 503")
+    connections: int = _option(100, "N", values.number, "requests of all batches at once to one service; others wait")
+    keep_alive: float = _option(
+        1, "S", values.seconds, "seconds for which a connection is kept; less than services keep it"
+    )
+    limit: int = _option(1_000, "N", values.number, "requests in a batch, else 413")
+    max_size: int = _option(16_777_216, "BYTES", values.size, "of a batch, else 413, and of its answers together")
+    memory: int = _option(
+        DEFAULT_MEMORY, "BYTES", values.number, "of all batches and their answers together, else 503"
+    )
+    journal: str = _option(
+        "", "PLACE", str, "keeps batches with a Repeatability-Request-ID in a folder, or postgresql://.."
+    )
+    journal_size: int = _option(16_384, "MB", values.number, "megabytes of the journals in a folder, else 503")
+    lease: float = _option(
+        15, "S", values.seconds, "seconds after which another gateway goes on, with postgresql://.."
+    )
+    client_header: Optional[str] = _option(
+        None, "NAME", values.client, "the header that says who a client is; --journal needs it, or --one-client"
+    )
+    one_client: bool = field(
+        default=False, metadata={"action": "store_true", "help": "all batches are those of one client"}
+    )
+    keep: float = _option(86_400, "S", values.seconds, "seconds for which a batch is kept")
+    listen: Address = _option(Address("127.0.0.1", 8090), "HOST:PORT", values.address, "port 0 is any free one")
+    grace: float = _option(25, "S", values.seconds, "seconds for what runs at SIGTERM")
+    health: str = _option("/health", "PATH", values.path, "for probes; PATH/ready, too")
+    metrics: Union[str, Address, None] = _option(
+        None, "PATH|PORT", values.metrics, "for Prometheus: here, or at a port of its own"
+    )
+    log: str = _choice(
+        "batches", ("none", "batches", "requests"),
+        "a line on standard error for each batch, or also for each request",
+    )  # fmt: skip
+    log_format: str = _choice("text", ("text", "json"), "whether lines are words or JSON")
+    workers: int = _option(1, "N", values.workers, "processes that share the port; each has limits of its own")
+    config: str = _option("", "FILE", str, "a file in TOML that has options by their names, and tables of routes")
+
+    @property
+    def routes(self) -> Tuple[Route, ...]:
+        """Where requests go."""
+        return (*self.route, *self.upstream)
+
+    @property
+    def credentials(self) -> Tuple[str, ...]:
+        """The headers by which services know a client."""
+        return (*USUAL, *self.credential)
+
+    @property
+    def forwards(self) -> bool:
+        """Whether groups are sent."""
+        return self.groups == "forward"
+
+
+def parser(program: str = PROGRAM) -> argparse.ArgumentParser:
     """Returns the parser of the command line."""
-    found = argparse.ArgumentParser(prog=PROGRAM, description=_DESCRIPTION)
-    for add_some in (_add_services, _add_limits, _add_journal, _add_operation):
-        add_some(found)
+    found = argparse.ArgumentParser(prog=program, description=_DESCRIPTION)
+    for it in fields(Options):
+        usual = [] if it.default == () else it.default
+        words = {**it.metadata, "help": it.metadata["help"] + ("; %(default)s" if usual else "")}
+        found.add_argument(f"--{it.name.replace('_', '-')}", default=usual, **words)
     return found
 
 
-def _add_services(found: argparse.ArgumentParser) -> None:
-    add = found.add_argument
-    add("--upstream", metavar="URL", type=values.upstream, action="append", default=[],
-        help="the root of a service; the path of its URL is the same here")  # fmt: skip
-    add("--route", metavar="PREFIX=URL", type=values.route, action="append", default=[],
-        help="where requests go whose path begins so; of several the longest prefix counts")  # fmt: skip
-    add("--groups", choices=("refuse", "forward"), default="refuse",
-        help="a batch with atomicity groups is answered 501, or each group is sent as one; refuse")  # fmt: skip
-    add("--allow", metavar="NAME", type=values.allowed, action="append", default=[], dest="allowed",
-        help="a header that requests of a batch may have, beside those of usual clients")  # fmt: skip
-    add("--credential", metavar="NAME", type=values.header, action="append", default=[],
-        help="a header by which services know a client, beside Authorization, Cookie and X-Api-Key")  # fmt: skip
-    add("--send", metavar="HEADER=PREFIX", type=values.sent, action="append", default=[], dest="sent",
-        help="the route that gets a credential; without it the one service gets all, and of several none")  # fmt: skip
-
-
-def _add_limits(found: argparse.ArgumentParser) -> None:
-    add = found.add_argument
-    add("--width", metavar="N", type=values.width, default=_USUAL.width,
-        help="requests or groups of a batch at once; 8")  # fmt: skip
-    add("--timeout", metavar="S", type=values.seconds, default=_USUAL.timeout,
-        help="seconds for an answer, else 504, and to wait for a connection, else 503; 30")  # fmt: skip
-    add("--deadline", metavar="S", type=values.seconds, help="seconds for a batch; then nothing more starts")
-    add("--batches", metavar="N", type=values.number, default=_USUAL.batches, help="batches at once, else 503; 128")
-    add("--connections", metavar="N", type=values.number, default=_USUAL.connections,
-        help="requests of all batches at once to one service; others wait; 100")  # fmt: skip
-    add("--keep-alive", metavar="S", type=values.seconds, default=_USUAL.keep_alive,
-        help="seconds for which a connection is kept; less than services keep it; 1")  # fmt: skip
-    add("--limit", metavar="N", type=values.number, default=_USUAL.limit, help="requests in a batch, else 413; 1000")
-    add("--max-size", metavar="BYTES", type=values.size, default=_USUAL.max_size,
-        help="of a batch, else 413, and of its answers together; 16777216")  # fmt: skip
-    add("--memory", metavar="BYTES", type=values.number, default=_USUAL.memory,
-        help="of all batches and their answers together, else 503; 268435456")  # fmt: skip
-
-
-def _add_journal(found: argparse.ArgumentParser) -> None:
-    add = found.add_argument
-    add("--journal", metavar="PLACE", default="",
-        help="keeps batches with a Repeatability-Request-ID in a folder, or postgresql://..")  # fmt: skip
-    add("--journal-size", metavar="MB", type=values.number, default=_USUAL.journal_size,
-        help="megabytes of the journals in a folder, else 503; 16384")  # fmt: skip
-    add("--lease", metavar="S", type=values.seconds, default=_USUAL.lease,
-        help="seconds after which another gateway goes on, with postgresql://..; 15")  # fmt: skip
-    add("--client-header", metavar="NAME", type=values.client,
-        help="the header that says who a client is; --journal needs it, or --one-client")  # fmt: skip
-    add("--one-client", action="store_true", help="all batches are those of one client")
-    add("--keep", metavar="S", type=values.seconds, default=_USUAL.keep,
-        help="seconds for which a batch is kept; 86400")  # fmt: skip
-
-
-def _add_operation(found: argparse.ArgumentParser) -> None:
-    add = found.add_argument
-    add("--listen", metavar="HOST:PORT", type=values.address, default=_USUAL.listen,
-        help="127.0.0.1:8090; port 0 is any free one")  # fmt: skip
-    add("--grace", metavar="S", type=values.seconds, default=_USUAL.grace,
-        help="seconds for what runs at SIGTERM; 25")  # fmt: skip
-    add("--health", metavar="PATH", type=values.path, default=_USUAL.health,
-        help="for probes; PATH/ready, too; /health")  # fmt: skip
-    add("--metrics", metavar="PATH|PORT", type=values.metrics, help="for Prometheus: here, or at a port of its own")
-    add("--log", choices=("none", "batches", "requests"), default=_USUAL.log,
-        help="a line on standard error for each batch, or also for each request; batches")  # fmt: skip
-
-
-def _fault_of(given: argparse.Namespace) -> str:
+def _fault_of(given: Options) -> str:
     """Why options do not go together, in a line; empty if they do."""
-    prefixes = [route.prefix for route in (*given.route, *given.upstream)]
+    prefixes = [route.prefix for route in given.routes]
     if not prefixes:
         return "needed is --upstream or --route"
     if len(set(prefixes)) < len(prefixes):
         return "two routes have the same prefix"
-    for name, prefix in given.sent:
+    for name, prefix in given.send:
         if prefix not in prefixes:
             return f"--send {name}={prefix}: no route has this prefix"
     if given.memory < given.max_size:
@@ -133,29 +138,58 @@ def _fault_of(given: argparse.Namespace) -> str:
         return "--client-header and --one-client cannot be combined"
     if given.journal and not (given.client_header or given.one_client):
         return "--journal needs --client-header NAME, which says who a client is, or --one-client"
-    if given.client_header in given.allowed:
+    if given.client_header in given.allow:
         return f"--allow {given.client_header}: a request may not say who the client is"
     if given.metrics in (given.health, f"{given.health}/ready"):
         return "--metrics and --health need different paths"
+    if given.workers > 1 and isinstance(given.metrics, str):
+        return "--workers needs --metrics PORT: each worker has a port of its own, from that one on"
     return ""
+
+
+def _of_file(path: str) -> argparse.Namespace:
+    """The options of a file; ends the process with status 2 if they are wrong."""
+    arguments = parser(f"{PROGRAM} --config {path}")
+    if sys.version_info < (3, 11):
+        arguments.error("it needs Python 3.11 or later, which has tomllib")
+    import tomllib
+
+    try:
+        with open(path, "rb") as file:
+            settings = tomllib.load(file)
+    except (OSError, ValueError) as error:
+        arguments.error(getattr(error, "strerror", None) or str(error))
+    words, tables = [], []
+    repeated = {it.name.replace("_", "-"): it.default == () for it in fields(Options) if it.name != "config"}
+    for name, given in settings.items():
+        if name not in repeated:
+            arguments.error(f"{name} is not an option")
+        if isinstance(given, list) and not repeated[name]:
+            arguments.error(f"{name} has one value, not a list")
+        for it in given if isinstance(given, list) else [given]:
+            if name == "route" and isinstance(it, dict):
+                tables.append(it)
+            elif it is not False:
+                words.append(f"--{name}" if it is True else f"--{name}={it}")
+    found = arguments.parse_args(words)
+    for table in tables:
+        try:
+            route, sent = values.table(table)
+        except argparse.ArgumentTypeError as error:
+            arguments.error(f"route: {error}")
+        found.route.append(route)
+        found.send.extend(sent)
+    return found
 
 
 def options_of(words: Sequence[str]) -> Options:
     """Returns the options of a command line; ends the process with status 2 if they are wrong."""
     arguments = parser()
     given = arguments.parse_args(words)
-    fault = _fault_of(given)
+    if given.config:
+        given = arguments.parse_args(words, _of_file(given.config))
+    found = Options(**{name: tuple(it) if isinstance(it, list) else it for name, it in vars(given).items()})
+    fault = _fault_of(found)
     if fault:
         arguments.error(fault)
-    has_path = isinstance(given.metrics, str)
-    more = {
-        "routes": (*given.route, *given.upstream),
-        "allowed": tuple(given.allowed),
-        "credentials": (*USUAL, *given.credential),
-        "sent": tuple(given.sent),
-        "client_header": given.client_header or "",
-        "forwards": given.groups == "forward",
-        "metrics_path": given.metrics if has_path else "",
-        "metrics_at": None if has_path else given.metrics,
-    }
-    return Options(**{name: more.get(name, getattr(given, name, None)) for name in Options._fields})
+    return found

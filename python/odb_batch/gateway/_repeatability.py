@@ -1,21 +1,15 @@
 """Batches that may be sent again: the headers of OASIS Repeatable Requests Version 1.0."""
 
-import re
 import time
-from datetime import datetime, timezone
+from email.utils import format_datetime, parsedate_to_datetime
 from typing import Callable, Mapping, NamedTuple, Optional
 
-from .._messages import Refusal
+from ..http.messages import Refusal
 from ._options import Options
 
 ID, FIRST_SENT = "repeatability-request-id", "repeatability-first-sent"
 #: By how many seconds the clock of a client may be ahead. Journals are kept so much longer.
 AHEAD = 300.0
-_DAYS = ("Mon", "Tue", "Wed", "Thu", "Fri", "Sat", "Sun")
-_MONTHS = ("Jan", "Feb", "Mar", "Apr", "May", "Jun", "Jul", "Aug", "Sep", "Oct", "Nov", "Dec")
-_DATE = re.compile(
-    rf"({'|'.join(_DAYS)}), ([0-9]{{2}}) ({'|'.join(_MONTHS)}) ([0-9]{{4}}) ([0-9]{{2}}):([0-9]{{2}}):([0-9]{{2}}) GMT"
-)
 
 
 def rejected(status: int, code: str, message: str) -> Refusal:
@@ -25,16 +19,11 @@ def rejected(status: int, code: str, message: str) -> Refusal:
 
 def seconds_of(date: str) -> Optional[float]:
     """Returns the seconds since 1970 of an IMF-fixdate (RFC 9110, section 5.6.7); None if it is not one."""
-    found = _DATE.fullmatch(date)
-    if found is None:
-        return None
-    day, month, year, hour, minute, second = found[2], found[3], *found.group(4, 5, 6, 7)
     try:
-        numbers = (int(year), _MONTHS.index(month) + 1, int(day), int(hour), int(minute), int(second))
-        moment = datetime(*numbers, tzinfo=timezone.utc)
-    except ValueError:
+        moment = parsedate_to_datetime(date)
+        return moment.timestamp() if format_datetime(moment, usegmt=True) == date else None
+    except (IndexError, OverflowError, TypeError, ValueError):
         return None
-    return moment.timestamp() if _DAYS[moment.weekday()] == found[1] else None
 
 
 class Repeatable(NamedTuple):

@@ -4,8 +4,8 @@ import re
 from typing import Iterable, List, NamedTuple, Optional, Tuple
 from urllib.parse import SplitResult, urljoin, urlsplit, urlunsplit
 
-from .._endpoint import folder_of
-from .._messages import Refusal
+from ..http.batch_request import batch_folder
+from ..http.messages import Refusal
 
 _ESCAPE = re.compile("%([0-9A-Fa-f]{2})")
 # What may be escaped in a path without another meaning (RFC 3986, section 2.4; OData URL Conventions 4.01, section 2).
@@ -28,20 +28,33 @@ class Route(NamedTuple):
     Attributes:
         prefix: The normalized prefix. If it does not end with /, a key or a further segment may follow.
         upstream: The URL that takes its place. It ends with / if the prefix does.
+        timeout, connections: In place of the options of all routes.
+        ca: A file with the certificates by which the service is known; empty for those of the system.
+        certificate, key: Files by which the gateway says who it is; the key may be in the first one.
     """
 
     prefix: str
     upstream: str
+    timeout: Optional[float] = None
+    connections: Optional[int] = None
+    ca: str = ""
+    certificate: str = ""
+    key: str = ""
 
     @property
     def service(self) -> str:
         """The URL of the service's $batch: in the folder of the upstream URL."""
-        return folder_of(self.upstream) + "$batch"
+        return batch_folder(self.upstream) + "$batch"
 
     @property
     def origin(self) -> str:
         """The scheme and the host of the upstream URL: what names its service."""
         return "/".join(self.upstream.split("/", 3)[:3])
+
+    @property
+    def line(self) -> str:
+        """Names the requests that wait for the same connections: those of its service, or its own if it has a limit."""
+        return self.origin if self.connections is None else self.prefix
 
 
 class Routes:

@@ -1,22 +1,24 @@
 """``python3 -m odb_batch gateway``: listens until SIGTERM."""
 
 import asyncio
+import functools
 import importlib
 import logging
 import os
 import signal
+import socket
 import sys
 import threading
 import time
-from typing import Sequence, Tuple
+from dataclasses import replace
+from typing import Optional, Sequence, Tuple
 
-from ..journals import is_database
-from ..journals._stores import THREADS
+from ..journals import THREADS, is_database
+from ._log import LINES, log_line, log_to_stderr
 from ._options import PROGRAM, Options, options_of
 from ._values import Address
+from ._workers import UNUSABLE, Worker, Workers
 
-# The exit status where the gateway cannot run; wrong arguments end with 2.
-UNUSABLE = 3
 # For how many seconds threads are waited for at the end.
 _THREAD_SECONDS = 2.0
 
@@ -24,20 +26,47 @@ _THREAD_SECONDS = 2.0
 def main(words: Sequence[str]) -> int:
     """Does what the words of a command line ask; returns the exit status."""
     options = options_of(words)
-    for needed in ("aiohttp", "asyncpg") if is_database(options.journal) else ("aiohttp",):
+    needed = {"aiohttp": True, "asyncpg": is_database(options.journal), "prometheus_client": options.metrics is not None}
+    for name in (name for name, is_needed in needed.items() if is_needed):
         try:
-            importlib.import_module(needed)
+            importlib.import_module(name)
         except ImportError:
-            print(f"error: {PROGRAM} needs {needed}: pip install {needed}", file=sys.stderr)
+            print(f"error: {PROGRAM} needs {name}: pip install {name.replace('_', '-')}", file=sys.stderr)
             return UNUSABLE
+    log_to_stderr(options.log, options.log_format == "json")
+    if options.workers == 1:
+        return _run(options)
     try:
-        asyncio.run(_serve(options))
+        options = _with_port(options)
     except OSError as error:
-        place = f"{error.filename}: " if error.filename else ""
-        print(f"error: {place}{error.strerror or error}", file=sys.stderr)
-        return UNUSABLE
+        return _failed(error)
+    return Workers(options.workers, functools.partial(_run, options)).run()
+
+
+def _run(options: Options, worker: Optional[Worker] = None) -> int:
+    """Is a gateway until it is stopped, alone or as one of several; returns the exit status."""
+    if worker is not None:
+        log_to_stderr(options.log, options.log_format == "json", worker.number)
+    try:
+        asyncio.run(_serve(options, worker))
+    except OSError as error:
+        return _failed(error)
     _leave_threads(0)
     return 0
+
+
+def _failed(error: OSError) -> int:
+    """Says why the gateway cannot run."""
+    place = f"{error.filename}: " if error.filename else ""
+    print(f"error: {place}{error.strerror or error}", file=sys.stderr, flush=True)
+    return UNUSABLE
+
+
+def _with_port(options: Options) -> Options:
+    """Options with a port at which nobody listens yet: several workers may do so, and would share it with others."""
+    host, port = options.listen
+    with socket.create_server((host, port), family=socket.AF_INET6 if ":" in host else socket.AF_INET) as found:
+        return replace(options, listen=Address(host, found.getsockname()[1]))
 
 
 def _leave_threads(status: int) -> None:
@@ -51,19 +80,17 @@ def _leave_threads(status: int) -> None:
         os._exit(status)
 
 
-async def _serve(options: Options) -> None:
+async def _serve(options: Options, worker: Optional[Worker] = None) -> None:
     from aiohttp import web
 
-    from ._application import Gateway
-    from ._log import log_package
+    from ._application import Gateway, first_of
 
-    log_package()
     gateway = Gateway(options)
     apps = [(gateway.application(), options.listen)]
-    if options.metrics_at is not None:
-        apps.append((gateway.of_metrics(), options.metrics_at))
+    if isinstance(options.metrics, Address):
+        apps.append((gateway.of_metrics(), options.metrics.of_worker(worker.number if worker else 1)))
     logging.getLogger("aiohttp.server").addFilter(_without_bytes)
-    stopped, hurry = _signals()
+    stopped, hurry = _signals() if worker is None else _orders(worker.orders)
     runners = []
     try:
         for app, address in apps:
@@ -71,22 +98,28 @@ async def _serve(options: Options) -> None:
             runner = web.AppRunner(app, access_log=None, auto_decompress=False)
             runners.append(runner)
             await runner.setup()
-            site = web.TCPSite(runner, address.host or None, address.port, shutdown_timeout=5)
-            await site.start()
-        found = [_shown(options.listen, address) for address in runners[0].addresses]
-        print(f"listening on {found[0]}", file=sys.stderr, flush=True)
-        if gateway.notice and options.log != "none":
-            print(gateway.notice, file=sys.stderr, flush=True)
-        ends = [asyncio.ensure_future(it) for it in (stopped.wait(), gateway.broken())]
-        done, rest = await asyncio.wait(ends, return_when=asyncio.FIRST_COMPLETED)
-        for end in rest:
-            end.cancel()
-        for end in done:
-            end.result()
+            shared = worker is not None and app is apps[0][0]
+            await web.TCPSite(
+                runner, address.host or None, address.port, shutdown_timeout=5, reuse_port=shared or None
+            ).start()
+        _say_where(options, runners[0].addresses[0], worker)
+        if gateway.notice and (worker is None or worker.number == 1):
+            LINES.info(gateway.notice)
+        await first_of(stopped.wait(), gateway.broken())
         await gateway.stop(hurry)
     finally:
         for runner in runners:
             await runner.cleanup()
+
+
+def _say_where(options: Options, bound: Sequence[object], worker: Optional[Worker]) -> None:
+    """Says where the gateway listens, whatever else the log has."""
+    host = options.listen.host or "localhost"
+    url = f"http://{f'[{host}]' if ':' in host else host}:{bound[1]}"
+    if options.log_format == "json":
+        log_line({"gateway": "listening", "url": url}, logging.WARNING)
+    elif worker is None or worker.number == 1:
+        print(f"listening on {url}", file=sys.stderr, flush=True)
 
 
 def _without_bytes(record: logging.LogRecord) -> bool:
@@ -98,18 +131,34 @@ def _without_bytes(record: logging.LogRecord) -> bool:
     return True
 
 
-def _shown(wanted: Address, bound: Sequence[object]) -> str:
-    host = wanted.host or "localhost"
-    return f"http://{f'[{host}]' if ':' in host else host}:{bound[1]}"
+class _Stop:
+    """What stops a gateway: the first signal, and one that hurries it."""
+
+    def __init__(self) -> None:
+        self.stopped, self.hurry = asyncio.Event(), asyncio.Event()
+
+    def came(self) -> None:
+        (self.hurry if self.stopped.is_set() else self.stopped).set()
 
 
 def _signals() -> Tuple[asyncio.Event, asyncio.Event]:
     """What SIGTERM and SIGINT set: the first one, and a further one."""
-    stopped, hurry = asyncio.Event(), asyncio.Event()
-
-    def came() -> None:
-        (hurry if stopped.is_set() else stopped).set()
-
+    stop = _Stop()
     for number in (signal.SIGTERM, signal.SIGINT):
-        asyncio.get_running_loop().add_signal_handler(number, came)
-    return stopped, hurry
+        asyncio.get_running_loop().add_signal_handler(number, stop.came)
+    return stop.stopped, stop.hurry
+
+
+def _orders(file: int) -> Tuple[asyncio.Event, asyncio.Event]:
+    """What each byte of a pipe sets, as `_signals`; its end is the first one."""
+    stop, loop = _Stop(), asyncio.get_running_loop()
+
+    def read() -> None:
+        if not os.read(file, 1):
+            loop.remove_reader(file)
+            stop.stopped.set()
+        else:
+            stop.came()
+
+    loop.add_reader(file, read)
+    return stop.stopped, stop.hurry

@@ -1,21 +1,20 @@
 """Sends requests to services, over connections that are kept."""
 
 import asyncio
-import functools
-import time
-from typing import Any, Callable, Dict, NamedTuple, Optional
+import ssl
+from typing import Any, Dict, Optional
 
 import aiohttp
 from yarl import URL
 
-from .._messages import Answer, Refusal
-from .._places import Places
-from .._room import Reading, Room
+from ..driver.waits import Places
+from ..http.budget import BodyReader, BodyBudget
+from ..http.messages import Answer, PreparedRequest, Refusal
 from ..journals import Late, StoreJournal
 from ._decoding import Decoder, headers_of
-from ._metrics import Metrics
+from ._metrics import Counts
 from ._options import Options
-from ._reasons import Reasons, reason_of
+from ._reasons import Reasons, code_of, reason_of
 from ._routes import Route
 
 _PART = 65_536
@@ -40,27 +39,19 @@ async def _body_held(_: aiohttp.ClientSession, context: Any, __: Any) -> None:
             raise aiohttp.ClientConnectionError("the gateway was paused while it sent the request") from None
 
 
-class Outgoing(NamedTuple):
-    """A request as it goes to a service."""
-
-    method: str
-    url: str
-    headers: Dict[str, str]
-    body: bytes
-
-
 class _Places(Places):
     """The places of a service, with a line of the log if none is free in time."""
 
-    def __init__(self, options: Options, say: Callable[[], None]) -> None:
-        super().__init__(options.connections, options.timeout)
-        self._say = say
+    def __init__(self, service: str, count: int, seconds: float, counts: Counts, reasons: Reasons) -> None:
+        super().__init__(count, seconds)
+        self._service, self._counts, self._reasons = service, counts, reasons
 
     async def __aenter__(self) -> None:
         try:
             await super().__aenter__()
         except Refusal:
-            self._say()
+            self._counts.fault("Busy")
+            self._reasons.say(self._service, "Busy", "connections")
             raise
 
 
@@ -69,23 +60,23 @@ class Upstreams:
 
     Attributes:
         is_stopping: Whether no further request is sent.
+        reasons: Says in the log why services have not answered.
     """
 
-    def __init__(self, options: Options, metrics: Metrics) -> None:
-        self._options, self._metrics = options, metrics
-        self._reasons = Reasons(options.log != "none")
-        self._places: Dict[Route, _Places] = {}
+    def __init__(self, options: Options, counts: Counts) -> None:
+        self._options = options
+        self.reasons = Reasons()
+        self._places: Dict[str, _Places] = {}
+        for route in options.routes:
+            count, seconds = route.connections or options.connections, route.timeout or options.timeout
+            if route.line not in self._places:
+                self._places[route.line] = _Places(route.origin, count, seconds, counts, self.reasons)
+                counts.watch_queue(route.line, self._places[route.line])
         self.is_stopping = self._is_given_up = False
 
     async def open(self) -> None:
-        """Makes what belongs to the running loop."""
-        found: Dict[str, _Places] = {}
-        for route in self._options.routes:
-            service = route.origin
-            if service not in found:
-                found[service] = _Places(self._options, functools.partial(self._note_busy, service))
-                self._metrics.watch_queue(service, found[service])
-            self._places[route] = found[service]
+        """Makes what belongs to the running loop; raises OSError if the files of a route cannot be used."""
+        self._own = {route: _own_of(route) for route in self._options.routes}
         self._connector = aiohttp.TCPConnector(limit=0, keepalive_timeout=self._options.keep_alive)
         tracing = aiohttp.TraceConfig()
         tracing.on_request_headers_sent.append(_sent_once)
@@ -122,19 +113,13 @@ class Upstreams:
     def places(self, route: Route) -> Places:
         """Returns what bounds how many requests are on their way to the service of a route: each has a place before it
         is sent, and is 503 ``Busy`` after the time-out of waiting."""
-        return self._places[route]
+        return self._places[route.line]
 
-    def _note_busy(self, service: str) -> None:
-        self._metrics.fault("Busy")
-        self.say(service, "Busy", "connections")
-
-    def say(self, url: str, code: str, reason: str, detail: object = "") -> None:
-        """Says in the log why there is no answer from a URL."""
-        self._reasons.say(url, code, reason, detail)
-
-    async def send(self, request: Outgoing, room: Room, journal: Optional[StoreJournal] = None) -> Answer:
-        """Sends a request, which has its place, and returns its answer with whole body; one that has a journal, and is
-        not a GET, while no other gateway goes on with its batch.
+    async def send(
+        self, route: Route, request: PreparedRequest, room: BodyBudget, journal: Optional[StoreJournal] = None
+    ) -> Answer:
+        """Sends a request, which has its place, to the service of a route and returns its answer with whole body; one
+        that has a journal, and is not a GET, while no other gateway goes on with its batch.
 
         Raises:
             Refusal: It was not sent: 503 ``Stopping``, ``Unreachable`` or ``NoJournal``, or 409 ``InProgress``. There is
@@ -143,37 +128,21 @@ class Upstreams:
         """
         if self.is_stopping:
             raise Refusal(503, "Stopping", "The gateway stops, and has not sent the request", retry_after="1")
-        self._metrics.requests_running += 1
-        began, status = time.perf_counter(), 500
-        try:
-            answer = await self._answer(request, room, None if request.method == "GET" else journal)
-            status = answer.status
-            return answer
-        except Refusal as refusal:
-            status = refusal.answer.status
-            raise
-        except asyncio.CancelledError:
-            status = 504  # the deadline of the batch
-            raise
-        finally:
-            self._metrics.requests_running -= 1
-            self._metrics.request(request.method, status, time.perf_counter() - began)
-
-    async def _answer(self, request: Outgoing, room: Room, journal: Optional[StoreJournal]) -> Answer:
+        kept = None if request.method == "GET" else journal
         try:
             while True:
                 try:
-                    return await self._exchanged(request, room, journal)
+                    return await self._exchanged(route, request, room, kept)
                 except Late:
-                    await _hold(journal)
+                    await _hold(kept)
         except Refusal as refusal:
             if refusal.answer.status == 502:
-                self.say(request.url, _code(refusal), "answer", refusal)
+                self.reasons.say(request.url, code_of(refusal.answer), "answer", refusal)
             raise
         except (asyncio.TimeoutError, aiohttp.ClientError, OSError) as error:
             found = self._refusal(error)
             if not self._is_given_up:
-                self.say(request.url, _code(found), reason_of(error), f"{type(error).__name__}: {error}")
+                self.reasons.say(request.url, code_of(found.answer), reason_of(error), f"{type(error).__name__}: {error}")
             raise found from None
 
     def _refusal(self, error: BaseException) -> Refusal:
@@ -186,18 +155,37 @@ class Upstreams:
             return Refusal(503, "Unreachable", "The service cannot be reached; the request was not sent")
         return Refusal(502, "BadGateway", "The connection broke before an answer came")
 
-    async def _exchanged(self, request: Outgoing, room: Room, journal: Optional[StoreJournal]) -> Answer:
+    async def _exchanged(
+        self, route: Route, request: PreparedRequest, room: BodyBudget, journal: Optional[StoreJournal]
+    ) -> Answer:
         """The answer of a service; raises Refusal if there is no room for it, or it cannot be shown."""
-        headers = {"accept-encoding": "identity", **request.headers}
-        url = URL(request.url, encoded=True)
         session = self.session(request.method, journal is not None)
-        more = {"data": request.body or None, "allow_redirects": False, "trace_request_ctx": journal}
-        async with session.request(request.method, url, headers=headers, **more) as answer:
+        more: Dict[str, Any] = {
+            "headers": {"accept-encoding": "identity", **request.headers},
+            "data": request.body or None,
+            "allow_redirects": False,
+            "trace_request_ctx": journal,
+            **self._own[route],
+        }
+        async with session.request(request.method, URL(request.url, encoded=True), **more) as answer:
             if not 200 <= answer.status <= 599:
                 raise Refusal(502, "BadGateway", f"The service has answered with the status {answer.status}")
             with room.read(request.method) as reading:
                 await _read(answer, reading)
                 return Answer(answer.status, headers_of(answer.headers.items()), reading.body())
+
+
+def _own_of(route: Route) -> Dict[str, Any]:
+    """What requests of a route have in place of what those of all have."""
+    found: Dict[str, Any] = {} if route.timeout is None else {"timeout": aiohttp.ClientTimeout(route.timeout)}
+    if route.ca or route.certificate:
+        try:
+            found["ssl"] = context = ssl.create_default_context(cafile=route.ca or None)
+            if route.certificate:
+                context.load_cert_chain(route.certificate, route.key or None, password=lambda: "")  # asks nobody
+        except (OSError, ValueError) as error:
+            raise OSError(f"the certificates of {route.prefix}: {error}") from None
+    return found
 
 
 async def _hold(journal: Optional[StoreJournal]) -> None:
@@ -209,11 +197,7 @@ async def _hold(journal: Optional[StoreJournal]) -> None:
         raise Refusal(503, "NoJournal", "The journal cannot be reached; the request was not sent") from None
 
 
-def _code(refusal: Refusal) -> str:
-    return str(refusal.answer.body["error"]["code"])
-
-
-async def _read(answer: aiohttp.ClientResponse, reading: Reading) -> None:
+async def _read(answer: aiohttp.ClientResponse, reading: BodyReader) -> None:
     """Reads the body of an answer without its coding, as far as it is kept; raises Refusal if it cannot be read: 502
     ``Encoded``."""
     coding = answer.headers.get("Content-Encoding", "").strip().lower()

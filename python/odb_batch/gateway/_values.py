@@ -2,15 +2,14 @@
 
 import argparse
 import re
-from typing import NamedTuple, Tuple, Union
+from typing import Any, Callable, Dict, List, Mapping, NamedTuple, Tuple, Union
 from urllib.parse import urlsplit
 
-from .._commands import MAX_WIDTH
-from .._work import MOST_BYTES
+from .._native.calls import MAX_WIDTH
+from ..driver.execution import MAX_BODY_BYTES
 from ._credentials import is_own
 from ._routes import Route, normalized
 
-_MOST = 1_000_000_000
 # What cannot say who a client is: it changes, or is about one batch or one connection.
 _SAYS_NOT_WHO = frozenset(
     {
@@ -25,6 +24,19 @@ class Address(NamedTuple):
 
     host: str
     port: int
+
+    def __str__(self) -> str:
+        return f"{self.host}:{self.port}"
+
+    def of_worker(self, number: int) -> "Address":
+        """Returns where the worker of a number, from 1 on, listens: each at the port after that of the one before."""
+        return self._replace(port=self.port + number - 1)
+
+
+def _require(is_right: object, text: str, what: str) -> None:
+    """Raises what argparse takes if a text is not what it has to be."""
+    if not is_right:
+        raise argparse.ArgumentTypeError(f"{text!r} is not {what}")
 
 
 def _is_service(url: str) -> bool:
@@ -49,9 +61,8 @@ def route(text: str) -> Route:
     """Reads a prefix with the URL that takes its place."""
     prefix, _, url = text.partition("=")
     is_path = re.fullmatch(r"/[!-~]*", prefix) is not None and not set("?#") & set(prefix)
-    if not (is_path and _is_service(url) and ".." not in prefix.split("/")):
-        message = f"{text!r} is not PREFIX=URL, such as /odata/Orders=http://localhost:8101/v2/Orders"
-        raise argparse.ArgumentTypeError(message)
+    is_route = is_path and _is_service(url) and ".." not in prefix.split("/")
+    _require(is_route, text, "PREFIX=URL, such as /odata/Orders=http://localhost:8101/v2/Orders")
     if not urlsplit(url).path:
         url += "/"
     if prefix.endswith("/") != url.endswith("/"):
@@ -61,8 +72,7 @@ def route(text: str) -> Route:
 
 def upstream(text: str) -> Route:
     """Reads the root of a service, whose path is its prefix."""
-    if not _is_service(text):
-        raise argparse.ArgumentTypeError(f"{text!r} is not a URL, such as http://localhost:8101/odata/")
+    _require(_is_service(text), text, "a URL, such as http://localhost:8101/odata/")
     root = text if text.endswith("/") else text + "/"
     return Route(normalized(urlsplit(root).path), root)
 
@@ -71,22 +81,20 @@ def address(text: str) -> Address:
     """Reads where to listen."""
     host, _, port = text.rpartition(":") if ":" in text else ("127.0.0.1", "", text)
     name = host[1:-1] if re.fullmatch(r"\[.*:.*\]", host) else host
-    if not re.fullmatch(r"[0-9]{1,5}", port) or int(port) > 65_535 or (name and not _is_host(name)):
-        raise argparse.ArgumentTypeError(f"{text!r} is not a port or HOST:PORT")
+    is_port = re.fullmatch(r"[0-9]{1,5}", port) is not None and int(port) <= 65_535
+    _require(is_port and (not name or _is_host(name)), text, "a port or HOST:PORT")
     return Address(name, int(port))
 
 
 def path(text: str) -> str:
     """Reads the path of a URL."""
-    if not re.fullmatch(r"/[A-Za-z0-9._~/-]+", text):
-        raise argparse.ArgumentTypeError(f"{text!r} is not a path, such as /metrics")
+    _require(re.fullmatch(r"/[A-Za-z0-9._~/-]+", text), text, "a path, such as /metrics")
     return text
 
 
 def header(text: str) -> str:
     """Reads the name of a header, and returns it in lower case."""
-    if not re.fullmatch(r"[A-Za-z0-9-]+", text):
-        raise argparse.ArgumentTypeError(f"{text!r} is not the name of a header, such as X-Api-Key")
+    _require(re.fullmatch(r"[A-Za-z0-9-]+", text), text, "the name of a header, such as X-Api-Key")
     return text.lower()
 
 
@@ -101,8 +109,7 @@ def client(text: str) -> str:
 def sent(text: str) -> Tuple[str, str]:
     """Reads the name of a header with the prefix of a route."""
     name, _, prefix = text.partition("=")
-    if not re.fullmatch(r"/[!-~]*", prefix):
-        raise argparse.ArgumentTypeError(f"{text!r} is not HEADER=PREFIX, such as Authorization=/odata/")
+    _require(re.fullmatch(r"/[!-~]*", prefix), text, "HEADER=PREFIX, such as Authorization=/odata/")
     return header(name), normalized(prefix)
 
 
@@ -119,29 +126,45 @@ def metrics(text: str) -> Union[str, Address]:
     return path(text) if text.startswith("/") else address(text)
 
 
-def number(text: str) -> int:
-    """Reads a whole number above 0."""
-    if not re.fullmatch(r"[0-9]{1,10}", text) or not 1 <= int(text) <= _MOST:
-        raise argparse.ArgumentTypeError(f"{text!r} is not a whole number from 1 to {_MOST}")
-    return int(text)
+def _whole(most: int) -> Callable[[str], int]:
+    """Returns what reads a whole number from 1 to another one."""
+
+    def read(text: str) -> int:
+        is_whole = re.fullmatch(r"[0-9]{1,10}", text) is not None and 1 <= int(text) <= most
+        _require(is_whole, text, f"a whole number from 1 to {most}")
+        return int(text)
+
+    return read
 
 
-def width(text: str) -> int:
-    """Reads a number of requests at once."""
-    if number(text) > MAX_WIDTH:
-        raise argparse.ArgumentTypeError(f"{text!r} is not a whole number from 1 to {MAX_WIDTH}")
-    return int(text)
+#: How many there are of something, requests at once, bytes of a document, and processes.
+number, width, size, workers = _whole(1_000_000_000), _whole(MAX_WIDTH), _whole(MAX_BODY_BYTES), _whole(256)
 
 
 def seconds(text: str) -> float:
     """Reads a number of seconds above 0."""
-    if not re.fullmatch(r"[0-9]{1,9}(\.[0-9]+)?", text) or not float(text) > 0:
-        raise argparse.ArgumentTypeError(f"{text!r} is not a number of seconds above 0")
+    is_number = re.fullmatch(r"[0-9]{1,9}(\.[0-9]+)?", text) is not None and float(text) > 0
+    _require(is_number, text, "a number of seconds above 0")
     return float(text)
 
 
-def size(text: str) -> int:
-    """Reads a number of bytes that a document may have."""
-    if number(text) > MOST_BYTES:
-        raise argparse.ArgumentTypeError(f"{text!r} is not a whole number from 1 to {MOST_BYTES}")
-    return int(text)
+_LIMITS: Mapping[str, Callable[[str], Any]] = {"timeout": seconds, "connections": number}
+_TLS = ("ca", "certificate", "key")
+
+
+def table(given: Mapping[str, Any]) -> Tuple[Route, List[Tuple[str, str]]]:
+    """Reads a route of a file, which may have limits, credentials and TLS of its own; and which credentials it gets."""
+    for name in given:
+        if name not in ("url", "prefix", "send", *_LIMITS, *_TLS):
+            raise argparse.ArgumentTypeError(f"{name} is not a member of a route")
+    url, prefix = str(given.get("url", "")), given.get("prefix")
+    found = upstream(url) if prefix is None else route(f"{prefix}={url}")
+    limits = {name: read(str(given[name])) for name, read in _LIMITS.items() if name in given}
+    files: Dict[str, Any] = {name: str(given[name]) for name in _TLS if name in given}
+    if files and not url.startswith("https:"):
+        raise argparse.ArgumentTypeError(f"{found.prefix}: {', '.join(files)}: only for https")
+    if "key" in files and "certificate" not in files:
+        raise argparse.ArgumentTypeError(f"{found.prefix}: key without certificate")
+    names = given.get("send", [])
+    sent = [(header(str(name)), found.prefix) for name in (names if isinstance(names, list) else [names])]
+    return found._replace(**limits, **files), sent
