@@ -29,10 +29,10 @@ def _setting(key):
 
 
 def _extras():
-    """The extras, each with the distribution that it needs."""
+    """The extras, each with the distributions that it needs."""
     with open(os.path.join(HERE, "pyproject.toml"), encoding="utf-8") as file:
         table = file.read().partition("[project.optional-dependencies]\n")[2].partition("\n[")[0]
-    return re.findall(r'(?m)^(\w+) = \["(.*)"\]$', table)
+    return [(extra, re.findall('"(.*?)"', needed)) for extra, needed in re.findall(r"(?m)^(\w+) = \[(.*)\]$", table)]
 
 
 def _files():
@@ -62,7 +62,7 @@ def _metadata():
         "Description-Content-Type: text/markdown",
     ]
     for extra, needed in _extras():
-        lines += [f"Provides-Extra: {extra}", f'Requires-Dist: {needed}; extra == "{extra}"']
+        lines += [f"Provides-Extra: {extra}", *(f'Requires-Dist: {each}; extra == "{extra}"' for each in needed)]
     return "\n".join(lines) + "\n\n" + page
 
 

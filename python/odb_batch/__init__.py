@@ -36,78 +36,26 @@ may be called from any number of threads at once, also over one run; they releas
 they work.
 """
 
-from ._commands import (
-    Command,
-    Counts,
-    Form,
-    Mode,
-    Order,
-    Output,
-    Plan,
-    PlannedRequest,
-    Replay,
-    canon,
-    check,
-    faults,
-    match,
-    output,
-    plan,
-    replay,
-    rest,
+from ._native.calls import Mode
+from ._native.library import VERSION as __version__
+from .commands import (
+    Command, Counts, Form, Order, Output, Plan, PlannedRequest, Replay, canon, check, faults, match, output, plan, replay, rest,
     run,
-)
-from ._documents import Document, Events, Report, Start
-from ._events import Journal, JournalEvent, ReportUnit, StartUnit, Stop
-from ._faults import Fault, OdbError, Refused
-from ._groups import MemberRefused, PreparedGroup
-from ._library import VERSION as __version__
-from ._messages import Answer, PreparedRequest, Refusal
-from ._perform import perform
-from ._perform_async import perform_async
-from ._requests import Request, requests
-from ._runs import RequestState, Run
+)  # fmt: skip
+from .documents.encoding import Document, Events, Report, Start
+from .documents.requests import Request, requests
+from .driver.groups import MemberRefused, PreparedGroup
+from .driver.journal import Journal, JournalEvent, ReportUnit, StartUnit, Stop
+from .driver.tasks import Gate, SendAsync, SendGroup, TransactionAsync, perform_async
+from .driver.threads import Send, Transaction, perform
+from .errors.faults import Fault, OdbError, Refused
+from .http.messages import Answer, Answered, GroupFailed, PreparedRequest, Refusal
+from .runs import RequestState, Run
 
 __all__ = [
-    "Answer",
-    "Command",
-    "Counts",
-    "Document",
-    "Events",
-    "Fault",
-    "Form",
-    "Journal",
-    "JournalEvent",
-    "MemberRefused",
-    "Mode",
-    "OdbError",
-    "Order",
-    "Output",
-    "Plan",
-    "PlannedRequest",
-    "PreparedGroup",
-    "PreparedRequest",
-    "Refusal",
-    "Refused",
-    "Replay",
-    "Report",
-    "ReportUnit",
-    "Request",
-    "RequestState",
-    "Run",
-    "Start",
-    "StartUnit",
-    "Stop",
-    "__version__",
-    "canon",
-    "check",
-    "faults",
-    "match",
-    "output",
-    "perform",
-    "perform_async",
-    "plan",
-    "replay",
-    "requests",
-    "rest",
-    "run",
-]
+    "Answer", "Answered", "Command", "Counts", "Document", "Events", "Fault", "Form", "Gate", "GroupFailed", "Journal",
+    "JournalEvent", "MemberRefused", "Mode", "OdbError", "Order", "Output", "Plan", "PlannedRequest", "PreparedGroup",
+    "PreparedRequest", "Refusal", "Refused", "Replay", "Report", "ReportUnit", "Request", "RequestState", "Run", "Send",
+    "SendAsync", "SendGroup", "Start", "StartUnit", "Stop", "Transaction", "TransactionAsync", "__version__", "canon", "check",
+    "faults", "match", "output", "perform", "perform_async", "plan", "replay", "requests", "rest", "run",
+]  # fmt: skip

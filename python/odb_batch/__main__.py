@@ -5,7 +5,7 @@ import importlib
 import sys
 from typing import Sequence
 
-from ._library import MISSING
+from ._native.library import MISSING
 
 # The exit status without the library; wrong arguments end with 2.
 UNUSABLE = 3
@@ -13,7 +13,7 @@ UNUSABLE = 3
 # Each command: the module whose `main` takes the words after it and returns the exit status, and what it does.
 COMMANDS = {
     "gateway": ("odb_batch.gateway._tool", "answers $batch for services that have none"),
-    "conformance": ("odb_batch.conformance._tool", "judges whether a service keeps what a batch promises"),
+    "conformance": ("odb_batch.conformance._command", "judges whether a service keeps what a batch promises"),
     "page": ("odb_batch._page", "opens a page in the browser in which a batch is checked, drawn and run"),
 }
 # Those that call the library, unless they print their help.

@@ -8,7 +8,7 @@ import sys
 import webbrowser
 from typing import Sequence
 
-HERE = os.path.dirname(os.path.abspath(__file__))
+HERE = os.path.dirname(__file__)
 NAME = "odb_batch.html"
 # The exit status where there is no page, or it cannot be written; wrong arguments end with 2.
 UNUSABLE = 3
@@ -27,7 +27,7 @@ def main(words: Sequence[str]) -> int:
     )
     parser.add_argument("file", metavar="FILE", nargs="?", help="write the page to this file, and open nothing")
     file = parser.parse_args(words).file
-    page = next((it for it in places() if os.path.isfile(it)), None)
+    page = next((place for place in places() if os.path.isfile(place)), None)
     if page is None:
         print("error: this package has no page: bin/odb_page makes it", file=sys.stderr)
         return UNUSABLE

@@ -9,30 +9,20 @@ import asyncio
 import functools
 import inspect as inspection
 import weakref
-from typing import Any, Awaitable, Callable, Dict, Iterable, List, MutableMapping, Optional
+from dataclasses import replace
+from typing import Any, Awaitable, Callable, Iterable, MutableMapping, Optional
 from urllib.parse import quote, unquote, urlsplit
 
-from ._answers import LOG
-from ._clocks import uncancel, within
-from ._commands import policy
-from ._endpoint import (
-    Outer,
-    folder_of,
-    message_of,
-    names_of,
-    performed,
-    refused,
-    require_once,
-    root_of,
-    seconds_of,
-    too_long,
-)
-from ._faults import Fault
-from ._messages import Answer, PreparedRequest, Refusal, header_dict
-from ._perform_async import TransactionAsync, perform_async
-from ._places import Places
-from ._room import Reading, Room, memory_of
-from ._work import require_limit
+from ._native.calls import policy_numbers
+from .driver.tasks import TransactionAsync, perform_async
+from .driver.waits import Places, uncancel, within
+from .errors.faults import Fault
+from .http.batch_request import BatchRequest, batch_folder
+from .http.budget import BodyBudget, BodyReader, memory_budget
+from .http.headers import require_once
+from .http.messages import LOG, Answer, PreparedRequest, Refusal, header_dict
+from .http.options import require_limit, require_seconds, root_path
+from .http.responses import batch_response, error_response, length_refusal, wire_message
 
 __all__ = ["BatchMiddleware"]
 
@@ -103,12 +93,12 @@ class BatchMiddleware:
         if at_once < 1:
             raise ValueError(f"at_once must be at least 1, not {at_once!r}")
         require_limit(limit)
-        policy("stop", width)  # refuses a width that no run may have
+        policy_numbers("stop", width)  # refuses a width that no run may have
         self.app, self.path, self.width, self.stop, self.inspect = app, path, width, stop, inspect
         self.transaction = None if transaction is None else _asynchronous(transaction)
-        self.timeout, self.deadline = seconds_of("timeout", timeout), seconds_of("deadline", deadline)
-        self.at_once, self.limit, self.max_size, self.budget = at_once, limit, max_size, memory_of(memory, max_size)
-        self.allowed, self.root = names_of(allowed), root_of(root, path)
+        self.timeout, self.deadline = require_seconds("timeout", timeout), require_seconds("deadline", deadline)
+        self.at_once, self.limit, self.max_size, self.budget = at_once, limit, max_size, memory_budget(memory, max_size)
+        self.allowed, self.root = tuple(allowed), root_path(root, path)
         # Places belong to one loop, and tests may run the application in several.
         self._places: "weakref.WeakKeyDictionary[asyncio.AbstractEventLoop, Places]" = weakref.WeakKeyDictionary()
 
@@ -116,23 +106,23 @@ class BatchMiddleware:
         if scope["type"] != "http" or scope["path"] not in (self.path, scope.get("root_path", "") + self.path):
             return await self.app(scope, receive, send)
         # It is held until the server has taken the answer.
-        with Room(self.max_size, self.budget) as room:
+        with BodyBudget(self.max_size, self.budget) as room:
             try:
                 answer = await self._answer(scope, receive, room)
             except (Fault, Refusal) as error:
-                answer = refused(error)
-            headers, body = message_of(answer)
+                answer = error_response(error)
+            headers, body = wire_message(answer)
             pairs = [(name.encode(), value.encode("latin-1")) for name, value in headers.items()]
             await send({"type": "http.response.start", "status": answer.status, "headers": pairs})
             await send({"type": "http.response.body", "body": body})
 
-    async def _answer(self, scope: _Scope, receive: _Receive, room: Room) -> Answer:
+    async def _answer(self, scope: _Scope, receive: _Receive, room: BodyBudget) -> Answer:
         """Performs the batch of a request; raises Fault or Refusal if it is refused as a whole."""
-        headers = header_dict((name.decode("latin-1"), value.decode("latin-1")) for name, value in scope["headers"])
+        headers = header_dict([(name.decode("latin-1"), value.decode("latin-1")) for name, value in scope["headers"]])
         prefix = scope.get("root_path", "")
-        folder, root = prefix + folder_of(self.path), prefix + self.root
+        folder, root = prefix + batch_folder(self.path), prefix + self.root
         scheme, host = scope.get("scheme", "http"), headers.get("host", "")
-        outer = Outer(scope["method"], scheme, host, folder, root, headers, self.allowed)
+        outer = BatchRequest(scope["method"], scheme, host, folder, root, headers, self.allowed)
         require_once(headers)
         try:
             batch = await within(_READ_SECONDS, self._read(receive, room))
@@ -153,7 +143,7 @@ class BatchMiddleware:
                 deadline=self.deadline,
                 gate=self._gate(),
             )
-        return performed(response, outer.mode)
+        return batch_response(response, outer.mode)
 
     def _gate(self) -> Places:
         loop = asyncio.get_running_loop()
@@ -161,7 +151,7 @@ class BatchMiddleware:
             self._places[loop] = Places(self.at_once, self.timeout)
         return self._places[loop]
 
-    async def _read(self, receive: _Receive, room: Room) -> bytes:
+    async def _read(self, receive: _Receive, room: BodyBudget) -> bytes:
         """Reads the batch."""
         batch = bytearray()
         while True:
@@ -170,7 +160,7 @@ class BatchMiddleware:
                 raise Refusal(400, "CutBody", "The client has hung up")
             part = message.get("body", b"")
             if len(batch) + len(part) > self.max_size:
-                raise too_long(self.max_size)
+                raise length_refusal(self.max_size)
             room.hold(len(part))
             batch += part
             if not message.get("more_body", False):
@@ -217,7 +207,7 @@ class _Client:
         self._task = asyncio.ensure_future(self._wait())
         return self
 
-    def __exit__(self, *_: Any) -> None:
+    def __exit__(self, *_: object) -> None:
         self._task.cancel()
 
     async def _wait(self) -> None:
@@ -234,20 +224,21 @@ class _Client:
 class _Inner:
     """Dispatches the requests of a batch to the application."""
 
-    def __init__(self, middleware: BatchMiddleware, scope: _Scope, outer: Outer, room: Room) -> None:
+    def __init__(self, middleware: BatchMiddleware, scope: _Scope, outer: BatchRequest, room: BodyBudget) -> None:
         self._middleware, self._outer, self._scope, self._room = middleware, outer, scope, room
         prefix = scope.get("root_path", "")
         # In newer servers the path of a scope has its root_path in front; what is dispatched is as what came.
         self._cut = "" if scope["path"] == prefix + middleware.path else prefix
+        self._front = quote(self._cut)
 
     async def dispatch(self, request: PreparedRequest) -> Answer:
         """Has the application answer a request."""
-        headers = self._outer.headers_of(request)
+        headers = self._outer.headers.for_request(request.headers)
         scope = self._scope_of(request, headers)
         if scope["path"] == self._scope["path"]:
             raise Refusal(400, "NestedBatch", "A batch has no batches")
         if self._middleware.inspect is not None:
-            self._middleware.inspect(request._replace(headers=dict(headers)))
+            self._middleware.inspect(replace(request, headers=dict(headers)))
         with self._room.read(request.method) as reading:
             exchange = _Exchange(request.body, reading)
             try:
@@ -262,11 +253,11 @@ class _Inner:
                     raise
             return exchange.answer()
 
-    def _scope_of(self, request: PreparedRequest, headers: Dict[str, str]) -> _Scope:
+    def _scope_of(self, request: PreparedRequest, headers: dict[str, str]) -> _Scope:
         if request.body:
             headers["content-length"] = str(len(request.body))
         url = urlsplit(request.url)
-        path, front = unquote(url.path)[len(self._cut) :], quote(self._cut)
+        path, front = unquote(url.path)[len(self._cut) :], self._front
         # A client may encode what is cut as it likes.
         raw_path = url.path[len(front) :] if url.path.startswith(front) else quote(path)
         scope: _Scope = {
@@ -296,16 +287,14 @@ class _Exchange:
         is_success: Whether its status is one from 200 to 299.
     """
 
-    def __init__(self, body: bytes, reading: Reading) -> None:
-        self._incoming: List[_Message] = [{"type": "http.request", "body": body, "more_body": False}]
-        self._begun: Dict[str, Any] = {}
+    def __init__(self, body: bytes, reading: BodyReader) -> None:
+        self._incoming: list[_Message] = [{"type": "http.request", "body": body, "more_body": False}]
+        self._begun: dict[str, Any] = {}
         self._reading = reading
-        self._completed = asyncio.Event()
+        self.is_complete = False
+        # What waits for the end of the answer; few applications do.
+        self._completed: Optional[asyncio.Event] = None
         self._task, self._is_cancelled = asyncio.current_task(), False
-
-    @property
-    def is_complete(self) -> bool:
-        return self._completed.is_set()
 
     @property
     def is_success(self) -> bool:
@@ -315,7 +304,9 @@ class _Exchange:
     async def receive(self) -> _Message:
         if not self._incoming:
             # A disconnect would end an answer that is streamed, so nothing more comes until the answer is complete.
-            await self._completed.wait()
+            if not self.is_complete:
+                self._completed = self._completed or asyncio.Event()
+                await self._completed.wait()
             return {"type": "http.disconnect"}
         return self._incoming.pop()
 
@@ -323,26 +314,30 @@ class _Exchange:
         if message["type"] == "http.response.start":
             self._begun.update(message)
         elif message["type"] == "http.response.body":
-            has_more = message.get("more_body", False)
-            await self._keep(message.get("body", b""), has_more)
+            part, has_more = message.get("body", b""), message.get("more_body", False)
+            was_cut = self._reading.refusal is not None
+            try:
+                is_kept = self._reading.add(part)
+            except Refusal as refusal:
+                await self._cut(refusal, was_cut, has_more)
+            else:
+                if has_more and not (is_kept and part):
+                    await asyncio.sleep(0)  # so that a timeout can end what sends for ever
             if not has_more:
-                self._completed.set()
+                self.is_complete = True
+                if self._completed is not None:
+                    self._completed.set()
 
-    async def _keep(self, part: bytes, has_more: bool) -> None:
-        """Keeps a part of the body. If a GET has no room for it, and there is more to come, the application is ended: by
-        an exception, and if it goes on, by a cancel."""
-        was_cut = self._reading.refusal is not None
-        try:
-            if (not self._reading.add(part) or not part) and has_more:
-                await asyncio.sleep(0)  # so that a timeout can end what sends for ever
-        except Refusal as refusal:
-            if was_cut and self._task is not None:
-                if not self._is_cancelled:
-                    self._is_cancelled = True
-                    self._task.cancel()
-                await asyncio.sleep(0)
-            if has_more:
-                raise _TooLong(str(refusal)) from None
+    async def _cut(self, refusal: Refusal, was_cut: bool, has_more: bool) -> None:
+        """Ends the application, which answers a GET for which there is no room, if there is more to come: by an exception,
+        and if it goes on, by a cancel."""
+        if was_cut and self._task is not None:
+            if not self._is_cancelled:
+                self._is_cancelled = True
+                self._task.cancel()
+            await asyncio.sleep(0)
+        if has_more:
+            raise _TooLong(str(refusal)) from None
 
     def is_cut(self) -> bool:
         """Whether the application was cancelled since its answer is too long, and by nobody else."""
@@ -356,5 +351,5 @@ class _Exchange:
         body = self._reading.body()
         if not self._begun or not self.is_complete:
             raise RuntimeError("the application has not completed its answer")
-        headers = ((name.decode("latin-1"), value.decode("latin-1")) for name, value in self._begun.get("headers", ()))
+        headers = [(name.decode("latin-1"), value.decode("latin-1")) for name, value in self._begun.get("headers", ())]
         return Answer(self._begun["status"], header_dict(headers), body)

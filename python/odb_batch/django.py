@@ -9,7 +9,7 @@ of the database would have everything rolled back without an exception.
 import logging
 from contextlib import contextmanager
 from functools import partial
-from typing import Iterator, List, Optional
+from typing import Iterator, Optional
 
 from django.db import IntegrityError, transaction
 
@@ -43,7 +43,7 @@ def group(name: str, using: Optional[str] = None) -> Iterator[None]:
     connection.close_if_unusable_or_obsolete()
     # The start and the end of each request of the group would close the connection of the transaction.
     connection.close_if_unusable_or_obsolete = _keep_open
-    committed: List[str] = []
+    committed: list[str] = []
     try:
         with transaction.atomic(using):
             transaction.on_commit(partial(committed.append, name), using)

@@ -8,50 +8,36 @@ wait for requests to itself would never answer.
 
 import io
 from concurrent.futures import ThreadPoolExecutor
+from dataclasses import replace
 from http import HTTPStatus
 from time import monotonic
-from typing import Any, Callable, Dict, Iterable, Iterator, Optional, Tuple
+from typing import Any, Callable, Iterable, Iterator, Optional
 from urllib.parse import unquote_to_bytes, urlsplit
 
-from ._commands import policy
-from ._endpoint import (
-    Outer,
-    folder_of,
-    message_of,
-    names_of,
-    performed,
-    refused,
-    require_once,
-    root_of,
-    seconds_of,
-    too_long,
-)
-from ._faults import Fault
-from ._messages import Answer, PreparedRequest, Refusal, header_dict
-from ._perform import Transaction, perform
-from ._room import Reading, Room, memory_of
-from ._work import require_limit
+from ._native.calls import policy_numbers
+from .driver.threads import Transaction, perform
+from .errors.faults import Fault
+from .http.batch_request import BatchRequest, batch_folder
+from .http.budget import BodyBudget, BodyReader, memory_budget
+from .http.headers import require_once
+from .http.messages import Answer, PreparedRequest, Refusal, header_dict
+from .http.options import require_limit, require_seconds, root_path
+from .http.responses import batch_response, error_response, length_refusal, wire_message
 
 __all__ = ["BatchMiddleware"]
 
-_Environ = Dict[str, Any]
+_Environ = dict[str, Any]
 _App = Callable[..., Iterable[bytes]]
-_Headers = Iterable[Tuple[str, str]]
+_Headers = Iterable[tuple[str, str]]
 # In which parts a batch is read.
 _PART = 65_536
 
 # What a server says of the outer request by names of its own, which an application could read in place of the rest.
 _OF_OUTER = frozenset(
     {
-        "CONTENT_LENGTH",
-        "CONTENT_TYPE",
-        "RAW_URI",
-        "REQUEST_URI",
-        "gunicorn.socket",
-        "wsgi.input",
-        "wsgi.input_terminated",
+        "CONTENT_LENGTH", "CONTENT_TYPE", "RAW_URI", "REQUEST_URI", "gunicorn.socket", "wsgi.input", "wsgi.input_terminated",
     }
-)
+)  # fmt: skip
 
 
 class BatchMiddleware:
@@ -116,30 +102,30 @@ class BatchMiddleware:
         stop: Optional[Callable[[], bool]] = None,
     ) -> None:
         require_limit(limit)
-        policy("stop", width)  # refuses a width that no run may have
+        policy_numbers("stop", width)  # refuses a width that no run may have
         self.app, self.path, self.transaction, self.width, self.stop = app, path, transaction, width, stop
-        self.timeout, self.deadline = seconds_of("timeout", timeout), seconds_of("deadline", deadline)
-        self.limit, self.max_size, self.budget, self.inspect = limit, max_size, memory_of(memory, max_size), inspect
-        self.allowed, self.root = names_of(allowed), root_of(root, path)
+        self.timeout, self.deadline = require_seconds("timeout", timeout), require_seconds("deadline", deadline)
+        self.limit, self.max_size, self.budget, self.inspect = limit, max_size, memory_budget(memory, max_size), inspect
+        self.allowed, self.root = tuple(allowed), root_path(root, path)
         self.pool = ThreadPoolExecutor(width, "batch") if width != 1 else None
 
     def __call__(self, environ: _Environ, start_response: Callable[..., Any]) -> Iterable[bytes]:
         if environ.get("PATH_INFO") != self.path:
             return self.app(environ, start_response)
-        room = Room(self.max_size, self.budget)
+        room = BodyBudget(self.max_size, self.budget)
         try:
             answer = self._answer(environ, room)
         except (Fault, Refusal) as error:
-            answer = refused(error)
+            answer = error_response(error)
         except BaseException:
             room.close()
             raise
-        headers, body = message_of(answer)
+        headers, body = wire_message(answer)
         status = f"{answer.status} {HTTPStatus(answer.status).phrase}"
         start_response(status, [(name.title(), value) for name, value in headers.items()])
         return _Body(body, room)
 
-    def _answer(self, environ: _Environ, room: Room) -> Answer:
+    def _answer(self, environ: _Environ, room: BodyBudget) -> Answer:
         """Performs the batch of a request; raises Fault or Refusal if it is refused as a whole."""
         outer = self._outer(environ)
         batch = self._read(environ, room)
@@ -157,36 +143,36 @@ class BatchMiddleware:
             deadline=self.deadline,
             pool=self.pool,
         )
-        return performed(response, outer.mode)
+        return batch_response(response, outer.mode)
 
-    def _outer(self, environ: _Environ) -> Outer:
+    def _outer(self, environ: _Environ) -> BatchRequest:
         headers = header_dict(
             (name[5:].replace("_", "-"), value) for name, value in environ.items() if name.startswith("HTTP_")
         )
         headers["content-type"] = environ.get("CONTENT_TYPE", "")
         prefix = _decoded(environ.get("SCRIPT_NAME", ""))
-        folder, root = prefix + folder_of(self.path), prefix + self.root
+        folder, root = prefix + batch_folder(self.path), prefix + self.root
         scheme, host = environ.get("wsgi.url_scheme", "http"), headers.get("host") or _server_of(environ)
-        outer = Outer(environ["REQUEST_METHOD"], scheme, host, folder, root, headers, self.allowed)
+        outer = BatchRequest(environ["REQUEST_METHOD"], scheme, host, folder, root, headers, self.allowed)
         require_once(headers)
         return outer
 
-    def _read(self, environ: _Environ, room: Room) -> bytes:
+    def _read(self, environ: _Environ, room: BodyBudget) -> bytes:
         """Reads the batch."""
         text = environ.get("CONTENT_LENGTH") or ""
         if len(text) > 20:  # of thousands of digits int() makes no number
-            raise too_long(self.max_size)
+            raise length_refusal(self.max_size)
         length = int(text) if text.isascii() and text.isdigit() else None
         if length is None and not environ.get("wsgi.input_terminated"):
             raise Refusal(411, "LengthRequired", "A batch has to have a Content-Length")
         if length is not None and length > self.max_size:
-            raise too_long(self.max_size)
+            raise length_refusal(self.max_size)
         batch, most = bytearray(), self.max_size + 1 if length is None else length
         while len(batch) < most and (part := environ["wsgi.input"].read(min(_PART, most - len(batch)))):
             room.hold(len(part))
             batch += part
         if len(batch) > self.max_size:
-            raise too_long(self.max_size)
+            raise length_refusal(self.max_size)
         if length is not None and len(batch) < length:
             raise Refusal(400, "CutBody", f"The batch has {len(batch)} bytes of {length}")
         return bytes(batch)
@@ -195,7 +181,7 @@ class BatchMiddleware:
 class _Body:
     """The body of the answer to a batch, which holds its memory until the server has sent it."""
 
-    def __init__(self, body: bytes, room: Room) -> None:
+    def __init__(self, body: bytes, room: BodyBudget) -> None:
         self._body, self._room = body, room
 
     def __iter__(self) -> Iterator[bytes]:
@@ -211,23 +197,23 @@ class _Body:
 class _Inner:
     """Dispatches the requests of a batch to the application."""
 
-    def __init__(self, middleware: BatchMiddleware, environ: _Environ, outer: Outer, room: Room) -> None:
+    def __init__(self, middleware: BatchMiddleware, environ: _Environ, outer: BatchRequest, room: BodyBudget) -> None:
         self._middleware, self._outer, self._room = middleware, outer, room
         self._prefix = _decoded(environ.get("SCRIPT_NAME", ""))
         self._environ = {
-            name: it for name, it in environ.items() if name not in _OF_OUTER and not name.startswith("HTTP_")
+            name: value for name, value in environ.items() if name not in _OF_OUTER and not name.startswith("HTTP_")
         }
         if middleware.width != 1:
             self._environ["wsgi.multithread"] = True
 
     def dispatch(self, request: PreparedRequest) -> Answer:
         """Has the application answer a request."""
-        headers = self._outer.headers_of(request)
+        headers = self._outer.headers.for_request(request.headers)
         environ = self._environ_of(request, headers)
         if environ["PATH_INFO"] == self._middleware.path:
             raise Refusal(400, "NestedBatch", "A batch has no batches")
         if self._middleware.inspect is not None:
-            self._middleware.inspect(request._replace(headers=dict(headers)))
+            self._middleware.inspect(replace(request, headers=dict(headers)))
         with self._room.read(request.method) as reading:
             reply = _Reply(reading, self._middleware.timeout)
             parts = self._middleware.app(environ, reply.start)
@@ -239,12 +225,12 @@ class _Inner:
                     parts.close()
             return reply.answer()
 
-    def _environ_of(self, request: PreparedRequest, headers: Dict[str, str]) -> _Environ:
+    def _environ_of(self, request: PreparedRequest, headers: dict[str, str]) -> _Environ:
         url = urlsplit(request.url)
         target = url.path + (f"?{url.query}" if url.query else "")
         return {
             **self._environ,
-            **{"HTTP_" + name.upper().replace("-", "_"): it for name, it in headers.items() if name != "content-type"},
+            **{"HTTP_" + name.upper().replace("-", "_"): value for name, value in headers.items() if name != "content-type"},
             "REQUEST_METHOD": request.method,
             "PATH_INFO": unquote_to_bytes(url.path)[len(self._prefix.encode()) :].decode("latin-1"),
             "QUERY_STRING": url.query,
@@ -259,9 +245,9 @@ class _Inner:
 class _Reply:
     """The answer of an application to one request, as WSGI passes it."""
 
-    def __init__(self, reading: Reading, timeout: Optional[float]) -> None:
+    def __init__(self, reading: BodyReader, timeout: Optional[float]) -> None:
         self._reading, self._count = reading, 0
-        self._begun: Tuple[str, _Headers] = ("", ())
+        self._begun: tuple[str, _Headers] = ("", ())
         self._ends = None if timeout is None else monotonic() + timeout
 
     def start(self, status: str, headers: _Headers, exc_info: Any = None) -> Callable[[bytes], None]:

@@ -11,7 +11,7 @@ from unittest import mock
 import pytest
 
 import odb_batch
-from odb_batch import Fault, OdbError, PlannedRequest, Refused, Report, Start
+from odb_batch import Fault, OdbError, Output, PlannedRequest, Refused, Report, Start
 from odb_batch import canon, check, match, output, plan, replay, run
 
 BATCH = {
@@ -112,9 +112,9 @@ class TestCommands:
 
 class TestOutputs:
     def test_are_json(self):
-        accepted, text = output("check", BATCH)
-        assert accepted
-        assert text == b'{"groups":1,"requests":4}\n'
+        printed = output("check", BATCH)
+        assert printed.accepted
+        assert printed.text == b'{"groups":1,"requests":4}\n'
         planned = json.loads(output("plan", BATCH).text)["requests"]
         assert planned[2] == {"group": "lend", "id": "loan", "level": 1, "needs": ["book"]}
         matched = json.loads(output("match", BATCH, RESPONSE).text)["responses"]
@@ -132,15 +132,15 @@ class TestOutputs:
         assert json.loads(output("replay", BATCH, OUTCOMES, form=form).text) == RESPONSE
 
     def test_take_events_as_a_list(self):
-        accepted, text = output("run", BATCH, [Start("book")])
-        assert not accepted
-        assert text == b'{"fault":{"code":"F66","name":"Unfinished","place":"events"}}\n'
+        printed = output("run", BATCH, [Start("book")])
+        assert not printed.accepted
+        assert printed.text == b'{"fault":{"code":"F66","name":"Unfinished","place":"events"}}\n'
 
     def test_are_faults(self):
-        accepted, text = output("match", BATCH, b"[")
-        assert not accepted
-        assert json.loads(text)["fault"] == {"code": "F02", "name": "NotJson", "place": "responses"}
-        assert output("plan", "", form="lines") == (False, b"fault F02 NotJson batch\n")
+        printed = output("match", BATCH, b"[")
+        assert not printed.accepted
+        assert json.loads(printed.text)["fault"] == {"code": "F02", "name": "NotJson", "place": "responses"}
+        assert output("plan", "", form="lines") == Output(False, b"fault F02 NotJson batch\n")
 
     @pytest.mark.parametrize(
         "options", [{"form": "xml"}, {"form": 1}, {"width": 0}, {"mode": "half"}, {"order": "middle"}]
@@ -161,7 +161,7 @@ class TestOutputs:
                 output(command, BATCH)
 
     def test_run_out_of_memory(self):
-        with mock.patch("odb_batch._library.call", return_value=(4, b"")), pytest.raises(MemoryError):
+        with mock.patch("odb_batch._native.library.call", return_value=(4, b"")), pytest.raises(MemoryError):
             output("check", BATCH)
 
 
@@ -218,7 +218,7 @@ class TestStatuses:
         "status, kind", [(4, MemoryError), (2, RuntimeError), (5, RuntimeError), (77, RuntimeError)]
     )
     def test_of_calls_are_errors(self, status, kind):
-        with mock.patch("odb_batch._library.call", return_value=(status, b"")), pytest.raises(kind):
+        with mock.patch("odb_batch._native.library.call", return_value=(status, b"")), pytest.raises(kind):
             check(BATCH)
 
 

@@ -1,13 +1,15 @@
 """A deadline for a whole batch: nothing more starts, and what runs is answered 504."""
 
 import asyncio
+import contextlib
 import threading
 from concurrent.futures import ThreadPoolExecutor
 
 import pytest
 
-from odb_batch import Stop, _perform, perform, perform_async
-from odb_batch._places import Places
+from odb_batch import Stop, perform, perform_async
+from odb_batch.driver import threads
+from odb_batch.driver.waits import Places
 from support.performing import Clock, Ledger, Memory, gets, shown
 
 
@@ -42,7 +44,7 @@ class TestTasks:
 
         assert shown(asyncio.run(main())) == {"a": 424, "b": 424}
 
-    def test_a_batch_that_is_cancelled_while_it_waits_is_cancelled(self):
+    def test_a_batch_that_is_cancelled_while_it_waits_is_cancelled(self, caplog):
         async def main():
             taken = Places(1)
             async with taken:
@@ -54,12 +56,14 @@ class TestTasks:
                 return task.cancelled(), taken.waiting
 
         assert asyncio.run(main()) == (True, 0)
+        assert caplog.text == ""
 
-    def test_a_group_is_rolled_back(self):
+    @pytest.mark.parametrize("statuses", [{"a": 504}, {"a": 504, "b": 424}], ids=str)
+    def test_a_group_is_rolled_back(self, statuses):
         ledger = Ledger()
-        batch = {"requests": [{"id": id, "method": "post", "url": "A", "atomicityGroup": "g"} for id in "ab"]}
+        batch = {"requests": [{"id": id, "method": "post", "url": "A", "atomicityGroup": "g"} for id in statuses]}
         found = over(batch, transaction=ledger.transaction)
-        assert (found, ledger.rolled_back, ledger.committed) == ({"a": 504, "b": 424}, ["g"], [])
+        assert (found, ledger.rolled_back, ledger.committed) == (statuses, ["g"], [])
 
     def test_a_timeout_holds_beside_it(self):
         async def hang(request):
@@ -67,6 +71,25 @@ class TestTasks:
 
         found = asyncio.run(perform_async(gets("a", "b"), hang, width=1, timeout=0.01, deadline=600))
         assert shown(found) == {"a": 504, "b": 504}
+
+    def test_a_request_is_not_sent_after_it(self):
+        """Where the loop was busy until then."""
+
+        async def main():
+            clock, sent = Clock(), []
+
+            @contextlib.asynccontextmanager
+            async def late(request):
+                clock.is_later = True
+                yield
+
+            async def send(request):
+                sent.append(request.id)
+                return (200,)
+
+            return shown(await perform_async(gets("a"), send, gate=late, deadline=600)), sent
+
+        assert asyncio.run(main()) == ({"a": 504}, [])
 
     def test_in_time_it_changes_nothing(self):
         async def send(request):
@@ -86,7 +109,7 @@ class TestThreads:
     def test_nothing_more_starts(self, width, monkeypatch):
         """A thread cannot be ended, so what runs is waited for."""
         sent, now = [], [0.0]
-        monkeypatch.setattr(_perform, "monotonic", lambda: now[0])
+        monkeypatch.setattr(threads, "monotonic", lambda: now[0])
 
         def send(request):
             sent.append(request.id)

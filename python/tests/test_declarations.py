@@ -4,7 +4,7 @@ import ctypes
 import os
 import re
 
-from odb_batch import _library
+from odb_batch._native import library
 
 ROOT = os.path.dirname(os.path.dirname(os.path.dirname(os.path.abspath(__file__))))
 HEADER = os.path.join(ROOT, "include", "odb_batch.h")
@@ -19,8 +19,8 @@ KINDS = {
     # The package reads an odb_request and an odb_position as their numbers.
     "odb_request *": ctypes.c_void_p,
     "odb_position *": ctypes.c_void_p,
-    "odb_live_run": _library.Handle,
-    "odb_live_run *": ctypes.POINTER(_library.Handle),
+    "odb_live_run": library.Handle,
+    "odb_live_run *": ctypes.POINTER(library.Handle),
     "void": None,
 }
 
@@ -34,8 +34,8 @@ def declared():
 
 
 def test_declarations_are_those_of_the_header():
-    names = [name for name in vars(_library._LIBRARY) if name.startswith("odb_")]
-    functions = {name: getattr(_library._LIBRARY, name) for name in names}
+    names = [name for name in vars(library.LIBRARY) if name.startswith("odb_")]
+    functions = {name: getattr(library.LIBRARY, name) for name in names}
     found = {name: (it.restype, list(it.argtypes)) for name, it in functions.items()}
     wanted = declared()
     assert found == {name: wanted.get(name) for name in found}

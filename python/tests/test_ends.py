@@ -53,6 +53,19 @@ class TestAnswersThatDoNotEnd:
         assert {id: it["status"] for id, it in found.items()} == {"r0": 507, "r1": 507, "r2": 200}
         assert ended == ["/odata/a", "/odata/b"]
 
+    def test_an_application_is_told_by_an_exception_first(self):
+        """As by a server whose client has gone."""
+        told = []
+
+        async def app(scope, receive, send):
+            try:
+                await flood(send)
+            except OSError:
+                told.append(scope["path"])
+                raise
+
+        assert batch(over(app, max_size=1000), {"url": "a"})["r0"]["status"] == 507 and told == ["/odata/a"]
+
     @pytest.mark.parametrize("method, part", [("post", b"x" * 100), ("get", b"")])
     def test_one_that_has_room_is_ended_by_the_timeout(self, method, part):
         async def app(scope, receive, send):

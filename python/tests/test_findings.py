@@ -6,7 +6,7 @@ import pytest
 from hypothesis import given
 
 from odb_batch import Fault, check, faults
-from odb_batch._findings import finding
+from odb_batch.errors.findings import describe
 from support.strategies import batches
 
 
@@ -60,7 +60,7 @@ def test_the_line_of_a_fault_stays():
 def test_of_each_fault_of_a_random_batch(batch):
     """It begins with the id, and names only what is in the request."""
     for fault in faults(batch):
-        begins = finding(fault.code, batch, fault.place)
+        begins = describe(fault.code, batch, fault.place)
         assert fault.message == f"{begins}{fault.name}: {' '.join(fault.explanation.split())}"
         if fault.code in ("F30", "F31", "F32", "F40", "F41", "F42", "F43", "F44", "F45", "F46"):
             request = json.loads(batch)["requests"][int(fault.place.rpartition("/")[2])]

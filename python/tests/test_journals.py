@@ -25,6 +25,13 @@ BATCH = {
 STARTS = [Start("a"), Start("b"), StartUnit(("c", "d")), Start("e")]
 
 
+def names(event):
+    """The requests of an event."""
+    if isinstance(event, ReportUnit):
+        return tuple(it.id for it in event.reports)
+    return event.ids if isinstance(event, StartUnit) else () if isinstance(event, Stop) else (event.id,)
+
+
 class Service:
     """Answers by outcomes, and keeps what it was sent; a start that is not synced before is an error, but of a GET."""
 
@@ -32,7 +39,7 @@ class Service:
         self.outcomes, self.journal, self.sent = outcomes, journal, []
 
     def note(self, id):
-        starts = [at for at, it in enumerate(self.journal.written) if id in (it if isinstance(it, Start) else it[0])]
+        starts = [at for at, it in enumerate(self.journal.written) if id in names(it)]
         assert starts[0] < self.journal.synced
         self.sent.append(id)
 
@@ -69,7 +76,7 @@ def starts(journal):
 
 
 def ids_of(events, kind):
-    return [it[0] for it in events if isinstance(it, kind)]
+    return [it.id if isinstance(it, (Start, Report)) else it.ids for it in events if isinstance(it, kind)]
 
 
 def reported(events):

@@ -55,12 +55,12 @@ def test_refuses_another_mode():
 
 @pytest.mark.parametrize("form", ["json", "lines"])
 def test_prints_the_match_of_a_service_that_stops(form):
-    accepted, text = output("match", BATCH, responses(book=404), form=form, mode="stop")
-    assert accepted
+    printed = output("match", BATCH, responses(book=404), form=form, mode="stop")
+    assert printed.accepted
     if form == "lines":
-        assert text == b"ok 3 responses\nbook 404\nloan 424\nlist 424\n"
+        assert printed.text == b"ok 3 responses\nbook 404\nloan 424\nlist 424\n"
     else:
-        assert [it["status"] for it in json.loads(text)["responses"]] == [404, 424, 424]
+        assert [it["status"] for it in json.loads(printed.text)["responses"]] == [404, 424, 424]
     assert not output("match", BATCH, responses(book=404), form=form).accepted
 
 

@@ -10,7 +10,8 @@ from urllib.parse import unquote, urlsplit
 
 import pytest
 
-from odb_batch import Refusal, _endpoint, asgi, wsgi
+from odb_batch import Refusal, asgi, wsgi
+from odb_batch.http import headers as policy
 from support.applications import CONTINUE, JSON, OverAsgi, OverWsgi, batch
 
 
@@ -205,7 +206,7 @@ class TestHeaders:
         assert (found["status"], found["body"]["headers"][name.lower()]) == (200, "1")
 
     def test_that_are_not_allowed_are_logged_once(self, service, caplog, monkeypatch):
-        monkeypatch.setattr(_endpoint, "_WARNED", set())
+        monkeypatch.setattr(policy, "_WARNED", set())
         for _ in range(2):
             batch(service, *[{"url": "a", "headers": {name: "1"}} for name in ("X-Dry-Run", "X-Other", "X-Dry-Run")])
         lines = [it.getMessage() for it in caplog.records if it.name == "odb_batch"]
@@ -213,8 +214,8 @@ class TestHeaders:
 
     def test_that_are_not_allowed_are_logged_for_some_names_alone(self, service, caplog, monkeypatch):
         """Clients choose the names."""
-        monkeypatch.setattr(_endpoint, "_WARNED", set())
-        monkeypatch.setattr(_endpoint, "_MOST_WARNED", 2)
+        monkeypatch.setattr(policy, "_WARNED", set())
+        monkeypatch.setattr(policy, "_MAX_WARNED", 2)
         batch(service, *[{"url": "a", "headers": {f"X-{k}": "1"}} for k in range(5)])
         assert len([it for it in caplog.records if it.name == "odb_batch"]) == 2
 
@@ -267,6 +268,7 @@ class TestBodies:
     def test_an_application_that_exits(self, service):
         with pytest.raises(SystemExit):
             batch(service, {"url": "exit"})
+        assert service.middleware.budget.used == 0
 
 
 class TestInspections:
@@ -293,6 +295,10 @@ class TestInspections:
 
 
 class TestOptions:
+    def test_nothing_more_starts_after_a_stop(self, over):
+        service = over("/odata/$batch", width=1, stop=lambda: len(service.seen) > 0)
+        assert [it["status"] for it in batch(service, {"url": "a"}, {"url": "b"}).values()] == [200, 424]
+
     @pytest.mark.parametrize("options, line", [
         ({"timeout": 0}, "timeout must be above 0, or None, not 0"), ({"deadline": -1}, "deadline must be above 0, or None, not -1"),
         ({"limit": 0}, "limit must be a whole number above 0, not 0"), ({"limit": True}, "limit must be a whole number above 0, not True"),

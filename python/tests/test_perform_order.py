@@ -139,6 +139,24 @@ class TestTasks:
         assert shown(asyncio.run(perform_async(batch, send, timeout=0.05))) == {"slow": 504, "after": 424}
         assert ended == ["slow"]
 
+    def test_a_timeout_holds_for_what_is_sent_after_another(self):
+        """One timer watches all. It is set for the first, which has ended when it comes."""
+        batch = {"requests": [*gets("first")["requests"], *gets("slow", dependsOn=["first"])["requests"]]}
+
+        async def main():
+            now = [0.0]
+            asyncio.get_running_loop().time = lambda: now[0]
+
+            async def send(request):
+                for _ in range(20 if request.id == "first" else 100):
+                    now[0] += 1
+                    await asyncio.sleep(0)
+                return (200,)
+
+            return await perform_async(batch, send, timeout=30)
+
+        assert shown(asyncio.run(main())) == {"first": 200, "slow": 504}
+
     def test_a_cancellation_rolls_back(self):
         ended, sent = [], []
 

@@ -76,7 +76,7 @@ class TestReferences:
     def test_read_an_answer_once_however_many_refer_to_it(self, driver, monkeypatch):
         """The body may be long, and of one that has no tag it is the whole body that is read."""
         read = []
-        monkeypatch.setattr("odb_batch._answers.members", lambda answer: read.append(answer) or {})
+        monkeypatch.setattr("odb_batch.driver.references.body_members", lambda answer: read.append(answer) or {})
         more = {"method": "patch", "url": "$a", "dependsOn": ["a"], "headers": {"If-Match": "$a"}}
         found = shown(driver({"requests": [*gets("a")["requests"], *({"id": id, **more} for id in "bcd")]}, answering({})))
         assert found == {"a": 200, **dict.fromkeys("bcd", 424)}

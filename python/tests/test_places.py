@@ -9,7 +9,7 @@ from concurrent.futures import ThreadPoolExecutor
 import pytest
 
 from odb_batch import PreparedGroup, Refusal, Report, Start, perform, perform_async
-from odb_batch._places import Places
+from odb_batch.driver.waits import Places
 from support.performing import Memory, gets, shown
 
 EIGHT = {"requests": [{"id": f"r{k}", "method": "delete", "url": f"Books({k})"} for k in range(8)]}
@@ -133,6 +133,13 @@ class TestJournals:
             first = asyncio.run(perform_async(EIGHT, send, gate=gate, stop=asked, journal=journal, **options))
             again = asyncio.run(perform_async(EIGHT, None, journal=Memory(journal.written), **options))
             assert again == first
+
+    def test_a_get_that_is_not_sent_again_is_answered_the_same(self):
+        """One that was out when a process ended, and is stopped before it has a place."""
+        journal = Memory([Start("a")])
+        first = asyncio.run(perform_async(gets("a"), None, gate=Places(1), stop=lambda: True, journal=journal))
+        again = asyncio.run(perform_async(gets("a"), None, journal=Memory(journal.written)))
+        assert (shown(first), again) == ({"a": 424}, first)
 
     def test_a_request_without_a_place_in_time_is_reported(self):
         journal = Memory()

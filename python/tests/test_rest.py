@@ -6,7 +6,7 @@ import pytest
 from hypothesis import given
 from hypothesis import strategies as st
 
-from odb_batch import Fault, output, rest
+from odb_batch import Fault, Output, output, rest
 from odb_batch.testing import batches
 from support import rules, rules_of_runs
 from support.profiles import share
@@ -80,4 +80,4 @@ def answered(draw):
 def test_the_rest_by_plain_rules(drawn, form):
     batch, found, mode = drawn
     wanted, status = rules_of_runs.printed("rest", batch, found, json=form == "json", stop=mode == "stop")
-    assert output("rest", batch, found, form=form, mode=mode) == (status == 0, wanted)
+    assert output("rest", batch, found, form=form, mode=mode) == Output(status == 0, wanted)

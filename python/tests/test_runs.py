@@ -14,7 +14,8 @@ from unittest import mock
 
 import pytest
 
-from odb_batch import Fault, OdbError, Refused, Report, Run, Start, _library, replay, run
+from odb_batch import Fault, OdbError, Refused, Report, Run, Start, replay, run
+from odb_batch._native import library
 
 BATCH = {
     "requests": [
@@ -98,10 +99,15 @@ class TestSteps:
             assert len(json.loads(live.response())["responses"]) == 60
 
 
+def report_of(event):
+    """A report as an element of a document."""
+    return {"report": event.id, "status": event.status, "headers": event.headers, "body": event.body}
+
+
 class TestEvents:
     @pytest.mark.parametrize("count", range(len(EVENTS) + 1))
     def test_goes_on_after_any_of_its_events(self, count):
-        elements = [{"start": it.id} if len(it) == 1 else dict(zip(("report", *it._fields[1:]), it)) for it in EVENTS]
+        elements = [{"start": it.id} if isinstance(it, Start) else report_of(it) for it in EVENTS]
         document = {"events": elements[:count]}
         for given in (EVENTS[:count], iter(EVENTS[:count]), document, json.dumps(document)):
             with Run(BATCH, events=given) as live:
@@ -223,7 +229,7 @@ class TestClosing:
 
     def closed(self):
         """Counts the runs that are closed meanwhile."""
-        return mock.patch.object(_library, "close_run", wraps=_library.close_run)
+        return mock.patch.object(library.LIBRARY, "odb_run_close", wraps=library.LIBRARY.odb_run_close)
 
     def test_is_closed_once(self):
         with self.closed() as close, pytest.raises(ZeroDivisionError):
@@ -276,7 +282,7 @@ class TestStatuses:
     def test_raises_what_else_a_call_returns(self, status, kind):
         with Run(BATCH) as live:
             for call in (lambda: live.ready, lambda: live.start("book"), lambda: live.report("book", 200)):
-                with mock.patch.object(_library, "call_run", return_value=status), pytest.raises(kind):
+                with mock.patch.object(Run, "_call", return_value=status), pytest.raises(kind):
                     call()
 
 

@@ -9,9 +9,9 @@ from hypothesis import Phase, find, given, settings
 from hypothesis import strategies as st
 
 from odb_batch import Answer, Fault, canon, check, match, replay, run
-from odb_batch._explanations import EXPLANATIONS
+from odb_batch.errors.explanations import EXPLANATIONS
 from odb_batch.testing import Scripted, batches, events, faulty_batches, outcomes
-from odb_batch.testing._faults import CHANGES
+from odb_batch.testing._faulty import CHANGES
 from odb_batch.testing._strategies import covered
 from support.profiles import share
 

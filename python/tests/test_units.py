@@ -36,7 +36,7 @@ def units_of(live, statuses):
 
 
 def states_of(live):
-    return [tuple(live.state(request["id"])) for request in BATCH["requests"]]
+    return [(live.state(request["id"]).state, live.state(request["id"]).status) for request in BATCH["requests"]]
 
 
 class Units(unittest.TestCase):

@@ -7,7 +7,7 @@ from urllib.parse import unquote, urlsplit
 import pytest
 
 from odb_batch import Refusal, perform
-from odb_batch._urls import Service
+from odb_batch.driver.references import ServiceUrls
 from support.program import TESTS
 
 with open(os.path.join(TESTS, "support", "urls.json"), encoding="utf-8") as table:
@@ -30,7 +30,7 @@ def test_the_table(case):
 @pytest.mark.parametrize("base", ["http://host/", ""])
 def test_half_of_a_surrogate_pair(base):
     with pytest.raises(Refusal) as refused:
-        Service(base).target("http://host/\ud800")
+        ServiceUrls(base).target("http://host/\ud800")
     assert refused.value.answer.status == 400
 
 

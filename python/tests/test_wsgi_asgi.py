@@ -8,7 +8,8 @@ from urllib.parse import unquote
 
 import pytest
 
-from odb_batch import _perform, asgi, wsgi
+from odb_batch import asgi, wsgi
+from odb_batch.driver import threads
 from support.applications import JSON, OverAsgi, OverNewAsgi, OverWideWsgi, OverWsgi, batch
 
 
@@ -162,7 +163,7 @@ class TestWsgi:
     def test_a_deadline(self, monkeypatch):
         """What runs is waited for, and nothing more starts."""
         now = [0.0]
-        monkeypatch.setattr(_perform, "monotonic", lambda: now[0])
+        monkeypatch.setattr(threads, "monotonic", lambda: now[0])
 
         def app(environ, start_response):
             now[0] += 60

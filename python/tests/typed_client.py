@@ -4,13 +4,13 @@ from typing import Dict, List, Tuple
 
 from odb_batch import Answer
 from odb_batch.client import (
-    AsyncBatchClient, Batch, BatchClient, BatchFailed, Group, Reference, RequestFailed, Result, Results, headers,
+    AsyncBatchClient, Batch, BatchClient, BatchFailed, Group, Reference, RequestFailed, Result, Results, batch_headers,
 )  # fmt: skip
 from odb_batch.testing import Scripted, batches, events, faulty_batches, outcomes
 
 
 def post(document: bytes) -> Tuple[int, Dict[str, str], bytes]:
-    return 200, headers("stop"), document
+    return 200, batch_headers("stop"), document
 
 
 class Response:
@@ -57,7 +57,7 @@ def check_sending(batch: Batch) -> List[int]:
         text = error.result.body
     wait: float = results.retry_after
     rest: Batch = results.rest()
-    return [len(rest), int(wait), len(text), *(it.status for it in results)]
+    return [len(rest), int(wait), len(text), *(it.status for it in results.values())]
 
 
 async def check_sending_async(batch: Batch) -> Results:

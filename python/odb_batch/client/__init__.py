@@ -16,12 +16,24 @@ What a service has not performed for now, as it had no capacity, is a batch agai
 :class:`BatchClient` over requests or httpx, or an :class:`AsyncBatchClient`, waits and sends it by itself.
 """
 
-from ._batch import Batch, headers
+import warnings
+from typing import Any
+
+from ._batch import Batch, BatchFailed, Post, PostAsync, Results, batch_headers
 from ._client import AsyncBatchClient, BatchClient
-from ._names import Group, Reference
-from ._results import BatchFailed, RequestFailed, Result, Results
+from ._references import Group, Reference
+from ._results import RequestFailed, Result
+from ._transports import HttpResponse, Posted
 
 __all__ = [
-    "AsyncBatchClient", "Batch", "BatchClient", "BatchFailed", "Group", "Reference", "RequestFailed", "Result", "Results",
-    "headers",
+    "AsyncBatchClient", "Batch", "BatchClient", "BatchFailed", "Group", "HttpResponse", "Post", "PostAsync", "Posted",
+    "Reference", "RequestFailed", "Result", "Results", "batch_headers",
 ]  # fmt: skip
+
+
+def __getattr__(name: str) -> Any:
+    """Returns what an old name stands for in this version."""
+    if name == "headers":
+        warnings.warn("odb_batch.client.headers is batch_headers now", DeprecationWarning, stacklevel=2)
+        return batch_headers
+    raise AttributeError(f"module {__name__!r} has no attribute {name!r}")

@@ -1,45 +1,30 @@
-"""A batch that is made by calls."""
+"""A batch that is made by calls, and sent by any client of HTTP."""
 
-import contextlib
-import json
-import os
-from collections import ChainMap
-from typing import (
-    AbstractSet, Any, Awaitable, Callable, Dict, Generator, Iterable, Iterator, List, Mapping, MutableMapping, Optional,
-    Tuple, Union,
-)  # fmt: skip
-from urllib.parse import unquote
+from typing import Awaitable, Callable, Generator
 
-from .._bodies import is_json, to_json
-from .._commands import Counts, Mode, check, plan
-from .._documents import Document, bytes_of
-from .._elements import batch_text, element_text
-from .._faults import Fault
-from .._messages import Answer, header_dict, media_type
-from .._preparation import CONDITIONS
-from .._requests import Request, requests
-from ._names import Group, Name, Reference
-from ._parts import MOST, Parts
-from ._posting import Posted, read_posted
-from ._rest import rest as rest_of
-from ._results import Results
+from .._native.calls import Mode
+from ..commands import plan
+from ..documents.encoding import Document, document_bytes
+from ..documents.requests import requests
+from ._builder import Builder, naming_requests
+from ._parts import MAX_REQUESTS, Parts
+from ._rest import rest_document
+from ._results import RequestFailed, ResultMap
+from ._transports import Posted, read_response
 
 #: Posts the bytes of a batch, and returns what that is answered.
 Post = Callable[[bytes], Posted]
 PostAsync = Callable[[bytes], Awaitable[Posted]]
 
-# Ids to which no URL refers, since $ and such a name mean something else (OData URL Conventions 4.01).
-_RESERVED = frozenset({"all", "batch", "crossjoin", "entity", "id", "metadata", "root"})
 
-
-def headers(mode: Mode = "continue") -> Dict[str, str]:
+def batch_headers(mode: Mode = "continue") -> dict[str, str]:
     """Returns the headers with which a batch is posted: ``Content-Type``, ``Accept``, and in mode ``"continue"`` the
     preference ``continue-on-error`` (OData Protocol 4.01, section 8.2.8.3)."""
     common = {"Content-Type": "application/json", "Accept": "application/json"}
     return {**common, "Prefer": "continue-on-error"} if mode == "continue" else common
 
 
-class Batch:
+class Batch(Builder):
     """A batch of requests (OData JSON Format 4.01, section 19), made by calls.
 
     Each call that adds a request returns a :class:`Reference`. A request that refers to an earlier one, by its URL
@@ -49,18 +34,6 @@ class Batch:
     A batch without requests is false.
     """
 
-    def __init__(self) -> None:
-        self._requests: List[Tuple[Request, Tuple[str, ...]]] = []
-        # The group of each request, by its id, and of each group itself: what is taken as a name.
-        self._names: MutableMapping[str, Optional[str]] = {}
-        # The names of the batch of which this is the rest: a reference to it means the same in both.
-        self._spent: AbstractSet[str] = frozenset()
-        # By the prefix of a name, up to which number names are taken.
-        self._numbers: Dict[str, int] = {}
-        self._group: Optional[Group] = None
-        # What a Reference and a Group have in common with the batches that they may be used in, also as copies.
-        self._origin = os.urandom(16)
-
     @classmethod
     def read(cls, document: Document) -> "Batch":
         """Returns the batch of a document, to be sent or to be extended.
@@ -69,206 +42,12 @@ class Batch:
             Fault: The batch is refused.
             MemoryError: An allocation failed.
         """
-        batch, text = cls(), bytes_of(document)
+        batch, text = cls(), document_bytes(document)
         for request, planned in zip(requests(text), plan(text)):
             batch._append(request, planned.needs)
         return batch
 
-    def __len__(self) -> int:
-        return len(self._requests)
-
-    def __repr__(self) -> str:
-        return f"<Batch of {len(self)} requests>"
-
-    # Adding requests
-
-    def get(
-        self,
-        url: Union[str, Reference],
-        *,
-        after: Union[Name, Iterable[Name]] = (),
-        headers: Optional[Mapping[str, Union[str, Reference]]] = None,
-        id: Optional[str] = None,
-    ) -> Reference:
-        """Adds a GET; see :meth:`request`."""
-        return self.request("GET", url, after=after, headers=headers, id=id)
-
-    def post(
-        self,
-        url: Union[str, Reference],
-        body: Any = None,
-        *,
-        after: Union[Name, Iterable[Name]] = (),
-        headers: Optional[Mapping[str, Union[str, Reference]]] = None,
-        id: Optional[str] = None,
-    ) -> Reference:
-        """Adds a POST; see :meth:`request`."""
-        return self.request("POST", url, body, after=after, headers=headers, id=id)
-
-    def put(
-        self,
-        url: Union[str, Reference],
-        body: Any = None,
-        *,
-        after: Union[Name, Iterable[Name]] = (),
-        headers: Optional[Mapping[str, Union[str, Reference]]] = None,
-        id: Optional[str] = None,
-    ) -> Reference:
-        """Adds a PUT; see :meth:`request`."""
-        return self.request("PUT", url, body, after=after, headers=headers, id=id)
-
-    def patch(
-        self,
-        url: Union[str, Reference],
-        body: Any = None,
-        *,
-        after: Union[Name, Iterable[Name]] = (),
-        headers: Optional[Mapping[str, Union[str, Reference]]] = None,
-        id: Optional[str] = None,
-    ) -> Reference:
-        """Adds a PATCH; see :meth:`request`."""
-        return self.request("PATCH", url, body, after=after, headers=headers, id=id)
-
-    def delete(
-        self,
-        url: Union[str, Reference],
-        *,
-        after: Union[Name, Iterable[Name]] = (),
-        headers: Optional[Mapping[str, Union[str, Reference]]] = None,
-        id: Optional[str] = None,
-    ) -> Reference:
-        """Adds a DELETE; see :meth:`request`."""
-        return self.request("DELETE", url, after=after, headers=headers, id=id)
-
-    def request(
-        self,
-        method: str,
-        url: Union[str, Reference],
-        body: Any = None,
-        *,
-        after: Union[Name, Iterable[Name]] = (),
-        headers: Optional[Mapping[str, Union[str, Reference]]] = None,
-        id: Optional[str] = None,
-    ) -> Reference:
-        """Adds a request, and returns the reference to it.
-
-        Args:
-            method: Its method: DELETE, GET, PATCH, POST or PUT.
-            url: Its URL, relative to the service, or with a reference: ``order`` or ``f"{order}/Lines"``.
-            body: Its body: bytes as they are on the wire, or any other value, which ``json`` writes; a Decimal keeps
-                its digits. None if it has none.
-            after: What it depends on: a request or a group, its name, or several of them.
-            headers: Its headers. The value of ``If-Match`` and ``If-None-Match`` may be a reference, which stands for
-                an ETag. A body without ``Content-Type`` is ``application/json``.
-            id: Its id; without it that is the first free number.
-
-        Raises:
-            ValueError: The id is one that no URL can refer to, as ``metadata``; the bytes of a body are not JSON though
-                its media type is; or a reference or a group is of another batch.
-            TypeError: ``json`` cannot write the body; or an id, the URL, the value of a header or what is in ``after``
-                is of another type.
-        """
-        name = self._id(id, "", len(self))
-        if name in _RESERVED:
-            raise ValueError(f"no URL can refer to a request with the id {id!r}")
-        url = self._text(url)
-        given = header_dict((key, self._text(value)) for key, value in (headers or {}).items())
-        text = _body_text(body, given)
-        needs = self._needs(after, url, given)
-        group = None if self._group is None else self._group.id
-        self._append(Request(name, method.upper(), url, None, url, given, group, text), needs)
-        return Reference(name, self._origin)
-
-    @contextlib.contextmanager
-    def group(self, id: Optional[str] = None) -> Iterator[Group]:
-        """Makes the requests that are added in its block an atomicity group: all of them are performed, or none.
-
-        If the block ends by an exception, none of them is added.
-
-        Args:
-            id: The name of the group; without it that is a free one.
-
-        Raises:
-            ValueError: The block is in that of another group.
-            TypeError: The name is not a text.
-        """
-        if self._group is not None:
-            raise ValueError("a group cannot be in another one")
-        begun, names, numbers = len(self._requests), self._names, dict(self._numbers)
-        self._group = Group(self._id(id, "g", 0), self._origin)
-        own: Dict[str, Optional[str]] = {}
-        self._names = ChainMap(own, names)
-        self._names.setdefault(self._group.id, self._group.id)
-        try:
-            yield self._group
-            names.update(own)
-        except BaseException:
-            del self._requests[begun:]
-            self._numbers = numbers
-            raise
-        finally:
-            self._group, self._names = None, names
-
-    def _id(self, id: Optional[str], prefix: str, count: int) -> str:
-        """A name that was given; without one the first that is not taken, of a prefix and a greater number."""
-        if id is not None:
-            if not isinstance(id, str):
-                raise TypeError(f"an id is a str, not {id!r}")
-            return id
-        count = max(count, self._numbers.get(prefix, 0))
-        while (name := f"{prefix}{count + 1}") in self._names or name in self._spent:
-            count += 1
-        self._numbers[prefix] = count
-        return name
-
-    def _text(self, value: Union[str, Reference]) -> str:
-        """A URL or the value of a header, in which a request of this batch stands for its reference."""
-        if isinstance(value, str):
-            return value
-        if not isinstance(value, Reference):
-            raise TypeError(f"a URL and a value of a header are a str or a Reference, not {value!r}")
-        return f"${self._name(value)}"
-
-    def _append(self, request: Request, needs: Tuple[str, ...]) -> None:
-        self._requests.append((request, needs))
-        self._names[request.id] = request.group
-        if request.group is not None:
-            self._names.setdefault(request.group, request.group)
-
-    def _needs(self, after: Union[Name, Iterable[Name]], url: str, given: Mapping[str, str]) -> Tuple[str, ...]:
-        """The names that a request depends on: those that it lists, what it refers to, and the groups of these."""
-        listed = [after] if isinstance(after, (Reference, Group, str)) else after
-        names = [*map(self._name, listed), *filter(self._names.__contains__, _referred(url, given))]
-        own = None if self._group is None else self._group.id
-        groups = (self._names.get(name) for name in names)
-        return tuple(dict.fromkeys([*names, *(it for it in groups if it is not None and it != own)]))
-
-    def _name(self, named: Name) -> str:
-        if isinstance(named, str):
-            return named
-        if not isinstance(named, (Reference, Group)):
-            raise TypeError(f"a request or a group is named by its reference or its id, not by {named!r}")
-        if named._origin != self._origin:
-            raise ValueError(f"{named.id} is of another batch")
-        return named.id
-
-    # Checking and sending
-
-    def document(self) -> bytes:
-        """Returns the document of the batch."""
-        return batch_text(element_text(request, needs) for request, needs in self._requests)
-
-    def check(self) -> Counts:
-        """Checks the batch as :func:`odb_batch.check` does, and returns its counts.
-
-        Raises:
-            Fault: The batch is refused. Its text begins with the code, the id of the request and what is wrong.
-            MemoryError: An allocation failed.
-        """
-        with _naming():
-            return check(self.document())
-
-    def send(self, post: Post, *, limit: int = MOST, mode: Mode = "continue") -> Results:
+    def send(self, post: Post, *, limit: int = MAX_REQUESTS, mode: Mode = "continue") -> "Results":
         """Sends the batch, if need be in parts, and returns what each request was answered.
 
         Units are sent in the order of the batch: groups, and requests without one. A part has as many as the limit
@@ -282,7 +61,7 @@ class Batch:
         After both nothing more is sent, and the other requests are 424.
 
         Args:
-            post: Posts the bytes of a document, with the headers that :func:`headers` returns. It returns the status,
+            post: Posts the bytes of a document, with the headers that :func:`batch_headers` returns. It returns the status,
                 the headers and the bytes of the body that it is answered, or a response of requests or httpx.
             limit: How many requests the service takes in a batch, from 1 to 10,000.
             mode: ``"continue"``; or ``"stop"`` if the service stops at the first error, as it does without the header
@@ -308,7 +87,7 @@ class Batch:
         except StopIteration as end:
             return results_of(end)
 
-    async def send_async(self, post: PostAsync, *, limit: int = MOST, mode: Mode = "continue") -> Results:
+    async def send_async(self, post: PostAsync, *, limit: int = MAX_REQUESTS, mode: Mode = "continue") -> "Results":
         """Does what :meth:`send` does by a coroutine function. If its task is cancelled, what was answered is lost."""
         parts = self.exchange(limit=limit, mode=mode)
         try:
@@ -323,21 +102,21 @@ class Batch:
         except StopIteration as end:
             return results_of(end)
 
-    def exchange(self, *, limit: int = MOST, mode: Mode = "continue") -> Generator[bytes, Posted, Results]:
+    def exchange(self, *, limit: int = MAX_REQUESTS, mode: Mode = "continue") -> Generator[bytes, Posted, "Results"]:
         """Yields one part after another, and is sent what it was answered, for clients that :meth:`send` does not fit.
 
         The exception by which a part was not answered is thrown into it. The value in the end is the results.
         """
-        with _naming():
+        with naming_requests():
             parts = Parts(self.document(), limit, mode)
         while (document := parts.next()) is not None:
             try:
-                answered = read_posted((yield document))
+                answered = read_response((yield document))
             except Exception as error:
                 parts.fail(error)
             else:
                 parts.take(answered)
-        rest = lambda: self._rest(rest_of(parts.document, parts.responses()))
+        rest = lambda: self._rest(rest_document(parts.document, parts.responses()))
         return Results(self, parts.document, parts.answers, rest, parts.error)
 
     def _rest(self, document: bytes) -> "Batch":
@@ -347,43 +126,66 @@ class Batch:
         return batch
 
 
-@contextlib.contextmanager
-def _naming() -> Iterator[None]:
-    """Has the text of a fault name the request, not its position."""
-    try:
-        yield
-    except Fault as fault:
-        fault._is_of_builder = True
-        raise
+class Results(ResultMap):
+    """What the requests of a batch were answered: a mapping of ids to :class:`Result`, in the order of the batch.
+
+    ``results[order]`` is that of a request, by what the batch returned for it or by its id. Another id is a KeyError,
+    and a request of another batch a ValueError. As a text they are how many requests are done, and each that is not, with
+    why.
+
+    Attributes:
+        error: The exception by which a part was not answered, the last if there are several: what ``post`` raised, or the
+            Fault of what is not the response to it; else None.
+        reason: Why :meth:`BatchClient.send` has ended; empty if nothing is left to be sent.
+    """
+
+    def raise_for_status(self) -> "Results":
+        """Returns the results themselves if all requests are done; else raises :class:`BatchFailed`, which has an error for
+        each that is not."""
+        if len(self.done) < len(self):
+            raise BatchFailed(self)
+        return self
+
+    def rest(self) -> Batch:
+        """Returns the batch of what failed for now or was skipped, and may be sent again; an empty one if nothing may.
+
+        A request may be sent again if it was answered 424, 429 or 503, since nothing was performed then; or 408, 502 or
+        504, if it is a GET, a PUT or a DELETE, since nobody knows. A group is in the rest as a whole: if it has failed,
+        what succeeded in it was undone. What is in the rest depends only on what has succeeded or is in the rest, too.
+        References to what has succeeded are replaced as in :meth:`Batch.send`.
+
+        The references that the batch has returned hold for the rest and its results.
+
+        Raises:
+            ValueError: A request refers to one that was answered without an ETag, or without a usable URL of what it
+                has created. The message says which.
+            MemoryError: An allocation failed.
+        """
+        batch: Batch = self._rest()
+        return batch
+
+
+class BatchFailed(Exception):
+    """Requests of a batch are not done. Its text is that of the results.
+
+    Attributes:
+        results: All results.
+        errors: A :class:`RequestFailed` for each request that is not done, in the order of the batch.
+    """
+
+    results: Results
+    errors: tuple[RequestFailed, ...]
+
+    def __init__(self, results: Results) -> None:
+        super().__init__(results)
+        self.results = results
+        self.errors = tuple(RequestFailed(result) for result in results.values() if results._outcomes[result.id] != "done")
+
+    def __str__(self) -> str:
+        return str(self.results)
 
 
 def results_of(end: StopIteration) -> Results:
     """Returns the results in which :meth:`Batch.exchange` ends."""
     results: Results = end.value
     return results
-
-
-def _body_text(body: Any, given: Dict[str, str]) -> Optional[bytes]:
-    """The text of a body in a document, or None. Headers without a media type get one, if there is a body."""
-    is_wire = isinstance(body, (bytes, bytearray, memoryview))
-    if body is None or (is_wire and not len(body)):
-        return None
-    given.setdefault("content-type", "application/json")
-    text = to_json(Answer(200, given, body), given)
-    if is_wire and is_json(media_type(given)):
-        try:
-            json.loads(text, parse_constant=_refuse)
-        except (ValueError, RecursionError):
-            raise ValueError("the body is not JSON") from None
-    return text
-
-
-def _refuse(constant: str) -> None:
-    raise ValueError(constant)
-
-
-def _referred(url: str, given: Mapping[str, str]) -> Iterator[str]:
-    """What follows a $ at the beginning of a URL and of conditions."""
-    for value in (unquote(url.replace("?", "/").replace("#", "/").partition("/")[0]), *map(given.get, CONDITIONS)):
-        if value is not None and value.startswith("$"):
-            yield value[1:]

@@ -4,12 +4,11 @@ import asyncio
 import time
 from typing import Any, Mapping, Optional
 
-from .._commands import Mode
-from ._batch import Batch, results_of
-from ._parts import MOST
-from ._patience import Patience, Post, Step
-from ._posting import post_by
-from ._results import Results
+from .._native.calls import Mode
+from ._batch import Batch, Results, results_of
+from ._parts import MAX_REQUESTS
+from ._retry import Post, RetryPolicy, Step
+from ._transports import make_post
 
 
 class _Sender:
@@ -29,8 +28,8 @@ class _Sender:
         backoff: float = 1.0,
         repeatable: bool = True,
     ) -> None:
-        self._session, self._post_by = session, post_by(session, url, self._is_async)
-        self._patience = Patience(headers, timeout, attempts, deadline, backoff, None if repeatable else False)
+        self._session, self._post = session, make_post(session, url, self._is_async)
+        self._policy = RetryPolicy(headers, timeout, attempts, deadline, backoff, None if repeatable else False)
 
 
 class BatchClient(_Sender):
@@ -57,7 +56,7 @@ class BatchClient(_Sender):
         ValueError: An option has a value that it may not have.
     """
 
-    def send(self, batch: Batch, *, limit: int = MOST, mode: Mode = "continue") -> Results:
+    def send(self, batch: Batch, *, limit: int = MAX_REQUESTS, mode: Mode = "continue") -> Results:
         """Sends a batch as :meth:`Batch.send` does, waits and sends its rest, until nothing is left or nothing more is to
         be sent: after so many attempts, at the deadline, after a ``Retry-After`` of more than 600 seconds, if a part is
         refused as a whole by 3xx or 4xx, or in mode ``"stop"`` after an error. :attr:`Results.reason` says which.
@@ -76,7 +75,7 @@ class BatchClient(_Sender):
         Raises:
             Fault, ValueError, TypeError, MemoryError: As by :meth:`Batch.send`. Nothing was sent after the first two.
         """
-        steps, answered = self._patience.steps(batch, limit, mode), None
+        steps, answered = self._policy.steps(batch, limit, mode), None
         try:
             while True:
                 answered = self._do(steps.send(answered))
@@ -89,7 +88,7 @@ class BatchClient(_Sender):
             time.sleep(step)
             return None
         try:
-            return self._post_by(*step)
+            return self._post(*step)
         except Exception as error:
             return error
 
@@ -101,7 +100,7 @@ class BatchClient(_Sender):
     def __enter__(self) -> "BatchClient":
         return self
 
-    def __exit__(self, *raised: object) -> None:
+    def __exit__(self, *_: object) -> None:
         self.close()
 
 
@@ -111,9 +110,9 @@ class AsyncBatchClient(_Sender):
 
     _is_async = True
 
-    async def send(self, batch: Batch, *, limit: int = MOST, mode: Mode = "continue") -> Results:
+    async def send(self, batch: Batch, *, limit: int = MAX_REQUESTS, mode: Mode = "continue") -> Results:
         """Does what :meth:`BatchClient.send` does. If its task is cancelled, what was answered is lost."""
-        steps, answered = self._patience.steps(batch, limit, mode), None
+        steps, answered = self._policy.steps(batch, limit, mode), None
         try:
             while True:
                 answered = await self._do(steps.send(answered))
@@ -125,7 +124,7 @@ class AsyncBatchClient(_Sender):
             await asyncio.sleep(step)
             return None
         try:
-            return await self._post_by(*step)
+            return await self._post(*step)
         except Exception as error:
             return error
 
@@ -137,5 +136,5 @@ class AsyncBatchClient(_Sender):
     async def __aenter__(self) -> "AsyncBatchClient":
         return self
 
-    async def __aexit__(self, *raised: object) -> None:
+    async def __aexit__(self, *_: object) -> None:
         await self.aclose()

@@ -1,22 +1,56 @@
 """A batch on its way in parts: which part is next, and what its requests are answered. It does not send."""
 
 import contextlib
-from typing import Any, Dict, List, Mapping, Optional, Set
+import re
+from dataclasses import replace
+from typing import Any, Iterable, Mapping, Optional
+from urllib.parse import unquote
 
-from .._answers import BROKEN, LOG, TIMED_OUT, TIMEOUTS, checked
-from .._commands import MAX_WIDTH, Mode, match, plan, policy
-from .._documents import bytes_of, json_of
-from .._elements import Unit, batch_text, element_text, is_plain, units_of
-from .._groups import SKIPPED
-from .._messages import Answer, Answered, Refusal
-from .._preparation import Preparation
-from .._requests import Request, requests
-from .._responses import answers_of
-from .._urls import Service
-from ._posting import is_named_timeout
+from .._native.calls import MAX_WIDTH, Mode, policy_numbers
+from ..commands import PlannedRequest, check, match, plan
+from ..documents.encoding import document_bytes, json_bytes
+from ..documents.requests import Request, requests
+from ..driver.groups import SKIPPED
+from ..driver.references import ReferenceResolver, ServiceUrls
+from ..errors.faults import Fault
+from ..http.batches import batch_json, read_answers, request_json
+from ..http.messages import BROKEN, LOG, TIMED_OUT, TIMEOUTS, Answer, Answered, Refusal, validate_answer
+from ._transports import is_named_timeout
 
 # How many requests a batch may have.
-MOST = 10_000
+MAX_REQUESTS = 10_000
+
+
+class Unit:
+    """An atomicity group of a batch, or a request without one.
+
+    Attributes:
+        group: The name of the group, or None.
+        ids: Its requests, in order.
+        needs: The numbers of the units that its requests depend on, without its own.
+    """
+
+    __slots__ = ("group", "ids", "needs")
+
+    def __init__(self, group: Optional[str]) -> None:
+        self.group = group
+        self.ids: list[str] = []
+        self.needs: set[int] = set()
+
+
+def units_of(plan: Iterable[PlannedRequest]) -> list[Unit]:
+    """Returns the units of a plan; each depends on earlier ones alone."""
+    units: list[Unit] = []
+    number_of: dict[str, int] = {}
+    for planned in plan:
+        if planned.group is None or not units or units[-1].group != planned.group:
+            units.append(Unit(planned.group))
+        unit, number = units[-1], len(units) - 1
+        unit.ids.append(planned.id)
+        number_of[planned.group or planned.id] = number_of[planned.id] = number
+        unit.needs.update(number_of[name] for name in planned.needs)
+        unit.needs.discard(number)
+    return units
 
 
 class Parts:
@@ -38,35 +72,35 @@ class Parts:
     """
 
     def __init__(self, document: bytes, limit: int, mode: Mode) -> None:
-        if isinstance(limit, bool) or not isinstance(limit, int) or not 1 <= limit <= MOST:
-            raise ValueError(f"limit must be a whole number from 1 to {MOST}, not {limit!r}")
-        policy(mode, MAX_WIDTH)
+        if isinstance(limit, bool) or not isinstance(limit, int) or not 1 <= limit <= MAX_REQUESTS:
+            raise ValueError(f"limit must be a whole number from 1 to {MAX_REQUESTS}, not {limit!r}")
+        policy_numbers(mode, MAX_WIDTH)
         given, planned = requests(document), plan(document)
         self.document, self._limit, self._mode = document, limit, mode
-        self._needs = {it.id: it.needs for it in planned}
-        self._groups = {it.id: it.group for it in planned}
-        self._requests = {it.id: it for it in given}
+        self._needs = {request.id: request.needs for request in planned}
+        self._groups = {request.id: request.group for request in planned}
+        self._requests = {request.id: request for request in given}
         self._units = units_of(planned)
         for unit in self._units:
             if len(unit.ids) > limit:
                 raise ValueError(f"the group {unit.group} has {len(unit.ids)} requests, and a batch may have {limit}")
-        self._preparation = Preparation(given, Service(""))
-        self.answers: Dict[str, Answer] = dict.fromkeys(self._needs, SKIPPED)
+        self._resolver = ReferenceResolver(given, ServiceUrls(""))
+        self.answers: dict[str, Answer] = dict.fromkeys(self._needs, SKIPPED)
         self.error: Optional[Exception] = None
         # Those to which others refer, of those that have succeeded.
-        self._referred: List[str] = []
+        self._referred: list[str] = []
         # The number of the next unit, and of those that have succeeded or are in the part that is out.
         self._at = 0
-        self._sound: Set[int] = set()
+        self._sound: set[int] = set()
         # The part that is out, and the numbers of its units.
         self._part = b""
-        self._out: List[int] = []
+        self._out: list[int] = []
         self._is_stopped = False
 
     def next(self) -> Optional[bytes]:
         """Returns the next part; None if nothing more is to be sent."""
-        elements: List[bytes] = []
-        names: Set[str] = set()
+        elements: list[bytes] = []
+        names: set[str] = set()
         self._out = []
         while self._at < len(self._units) and not self._is_stopped:
             unit = self._units[self._at]
@@ -84,26 +118,26 @@ class Parts:
                     self._out.append(self._at)
                     self._sound.add(self._at)
             self._at += 1
-        self._part = batch_text(elements)
+        self._part = batch_json(elements)
         return self._part if elements else None
 
-    def _elements(self, unit: Unit, names: Set[str]) -> List[bytes]:
+    def _elements(self, unit: Unit, names: set[str]) -> list[bytes]:
         """The texts of the requests of a unit; adds its names to those of the part. Dependencies on other parts, which
         have succeeded, are left out, and references to them replaced. Raises Refusal if one stands for nothing."""
         names.update(unit.ids, () if unit.group is None else (unit.group,))
         found = []
-        for id in unit.ids:
-            given, headers = self._requests[id], self._preparation.headers(id, names)
-            request = given._replace(url=self._url(given, names), headers=headers)
-            found.append(element_text(request, [name for name in self._needs[id] if name in names]))
+        for request_id in unit.ids:
+            given, headers = self._requests[request_id], self._resolver.headers(request_id, names)
+            request = replace(given, url=self._url(given, names), headers=headers)
+            found.append(request_json(request, [name for name in self._needs[request_id] if name in names]))
         return found
 
-    def _url(self, given: Request, names: Set[str]) -> str:
+    def _url(self, given: Request, names: set[str]) -> str:
         """The URL of a request in a part, without a reference to another part."""
         if given.reference is None or given.reference in names:
             return given.url
         try:
-            url = self._preparation.url(given.id)
+            url = self._resolver.url(given.id)
         except Refusal as refusal:
             if refusal.answer.status == 424:
                 raise
@@ -118,19 +152,19 @@ class Parts:
         Raises:
             TypeError: It is not a status with headers and the bytes of a body.
         """
-        if not isinstance(answered, (tuple, list)):
+        if not isinstance(answered, (Answer, tuple, list)):
             kind = type(answered).__name__
             raise TypeError(f"post must return (status, headers, body), or a response of requests or httpx, not a {kind}")
-        status, headers, body = checked(answered)
-        text = b"" if body is None else bytes_of(body)
-        answer = Answer(status, headers, text)
+        answer = validate_answer(answered)
+        text = b"" if answer.body is None else document_bytes(answer.body)
+        answer = replace(answer, body=text)
         if not answer.is_success:
             self._end(answer)
             return
         try:
             text = text[3:] if text.startswith(b"\xef\xbb\xbf") else text
             match(self._part, text, mode=self._mode)
-            found = answers_of(text)
+            found = read_answers(text)
         except ValueError as error:
             self.fail(error)
             return
@@ -155,19 +189,19 @@ class Parts:
     def _settle(self, number: int, answers: Mapping[str, Answer]) -> None:
         """Notes what the requests of a unit were answered; one without an answer was skipped."""
         unit = self._units[number]
-        for id in unit.ids:
-            answer = self.answers[id] = answers.get(id, SKIPPED)
+        for request_id in unit.ids:
+            answer = self.answers[request_id] = answers.get(request_id, SKIPPED)
             if not answer.is_success:
                 self._sound.discard(number)
-            elif self._preparation.keep(id, answer):
-                self._referred.append(id)
+            elif self._resolver.record(request_id, answer):
+                self._referred.append(request_id)
         if self._mode == "stop" and self._is_error(unit):
             self._is_stopped = True
 
     def _is_error(self, unit: Unit) -> bool:
         """Whether a request of a unit has ended with a status from 400 to 599. A 424 may also be that of one that was
         skipped or undone, since what it needs has failed, or its group by a status that is no error, as 304."""
-        statuses = {self.answers[id].status for id in unit.ids}
+        statuses = {self.answers[request_id].status for request_id in unit.ids}
         if any(400 <= status <= 599 and status != 424 for status in statuses):
             return True
         is_skipped = any(number not in self._sound for number in unit.needs)
@@ -176,21 +210,33 @@ class Parts:
     def responses(self) -> bytes:
         """Returns the responses to the whole batch, as :func:`~odb_batch.match` accepts them: their statuses, and of
         what others refer to the URL and the ETag."""
-        found: Dict[str, Dict[str, Any]] = {}
-        for id, answer in self.answers.items():
-            found[id] = {"id": id, "status": answer.status, "atomicityGroup": self._groups[id], "headers": {}}
-        for id in self._referred:
-            for name, of in (("location", self._preparation.place), ("etag", self._preparation.tag)):
+        found: dict[str, dict[str, Any]] = {}
+        for request_id, answer in self.answers.items():
+            group = self._groups[request_id]
+            found[request_id] = {"id": request_id, "status": answer.status, "atomicityGroup": group, "headers": {}}
+        for request_id in self._referred:
+            for name, of in (("location", self._resolver.location), ("etag", self._resolver.etag)):
                 with contextlib.suppress(Refusal):
-                    found[id]["headers"][name] = of(id)
-        return json_of({"responses": list(found.values())})
+                    found[request_id]["headers"][name] = of(request_id)
+        return json_bytes({"responses": list(found.values())})
 
 
 def _is_timeout(error: BaseException) -> bool:
     """Whether an exception is a timeout, or comes from one: clients of HTTP raise exceptions of their own then."""
-    chain: List[BaseException] = []
+    chain: list[BaseException] = []
     found: Optional[BaseException] = error
     while found is not None and found not in chain:
         chain.append(found)
         found = found.__cause__ or found.__context__
     return any(isinstance(raised, TIMEOUTS) or is_named_timeout(type(raised)) for raised in chain)
+
+
+def is_plain(url: str) -> bool:
+    """Returns whether a URL may take the place of a reference: it does not begin with ``$``, and does not lead to a
+    ``$batch``. It comes from a service, which may send anything."""
+    if unquote(re.split("[/?#]", url, maxsplit=1)[0]).startswith("$"):
+        return False
+    try:
+        return check({"requests": [{"id": "a", "method": "get", "url": url}]}).requests == 1
+    except Fault:
+        return False

@@ -17,10 +17,10 @@ from ._journal import StoreJournal
 from ._journals import Journals
 from ._lines import digest, identity
 from ._sqlite import SqliteStore
-from ._stores import NOBODY, Found, Hold, Late, Lease, Mark, Part, Store
+from ._stores import NOBODY, THREADS, Found, Hold, Late, Lease, Mark, Part, Store
 
 __all__ = [
-    "NOBODY", "Found", "Hold", "Journals", "Late", "Lease", "Mark", "Part", "SqliteStore", "Store", "StoreJournal",
+    "NOBODY", "THREADS", "Found", "Hold", "Journals", "Late", "Lease", "Mark", "Part", "SqliteStore", "Store", "StoreJournal",
     "digest", "identity", "store_of",
 ]  # fmt: skip
 

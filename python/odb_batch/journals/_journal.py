@@ -4,9 +4,9 @@ import asyncio
 import contextlib
 from typing import TYPE_CHECKING, List, Optional, Sequence, Set
 
-from .._documents import Report
-from .._events import JournalEvent, ReportUnit, StartUnit, Stop
-from .._messages import Refusal
+from ..documents.encoding import Report
+from ..driver.journal import JournalEvent, ReportUnit, StartUnit, Stop
+from ..http.messages import Refusal
 from ._lines import chunks_of, events_of
 from ._stores import NOBODY, Found, Late, Mark, Part, clock
 
@@ -121,25 +121,24 @@ class StoreJournal:
     # The append
 
     def next_part(self) -> Part:
-        """Returns what is written and not kept yet; `landed` or `failed` says what has become of it."""
+        """Returns what is written and not kept yet; `landed` says what has become of it."""
         text, self._chunks, self.size, self._flying = b"".join(self._chunks), [], 0, self._written
         self._next_lease = self._owner.store.lease
         self._mark = (self._next_lease.holder, self._mark[1])
         self._is_open = bool(self._out) and not self._is_left
         return Part(self.batch, self._number, self._mark, self._after, self._is_open, text)
 
-    def landed(self, is_kept: bool) -> None:
-        """Notes that the part is kept, or that another one has the batch."""
-        if is_kept:
+    def landed(self, error: Optional[Exception] = None) -> None:
+        """Notes that the part is kept; or why all that comes is refused: another one has the batch, or it is not known
+        whether the part is kept, and the next one would have its number."""
+        self._failure = error
+        if error is None:
             self._number, self._after, self._kept = self._number + 1, self._mark, self._flying
             # Not before: what was started under another lease may have been taken over.
             self._lease, self.has_kept = self._next_lease, True
-        else:
-            self.failed(in_progress())
-
-    def failed(self, error: Exception) -> None:
-        """Refuses all that comes: what was to be kept may still be kept, under the number of the next part."""
-        self._failure = error
+        turn, self.turn = self.turn, None
+        if turn is not None and not turn.done():
+            turn.set_result(None)
 
     # The end
 
@@ -152,8 +151,13 @@ class StoreJournal:
             return not isinstance(self._failure, Refusal)
         return self._is_open or bool(self._chunks and self._written)
 
+    @property
+    def has_failed(self) -> bool:
+        """Whether it is not known what was kept, or another one has the batch."""
+        return self._failure is not None
+
     async def end(self) -> None:
-        """Keeps what is written, and that nothing is out any more."""
+        """Keeps what is written, and that nothing is out any more; raises what has failed."""
         self._written += 1
         while self._kept < self._written:
             self._require()

@@ -4,16 +4,16 @@ import asyncio
 import contextlib
 import itertools
 from collections import deque
-from typing import AsyncIterator, Callable, Coroutine, Deque, Iterator, List, Set, Tuple
+from typing import AsyncIterator, Awaitable, Callable, Coroutine, Deque, Iterator, List, Optional, Set, Tuple
 
-from .._answers import LOG
+from ..http.messages import LOG, Refusal
 from ._journal import StoreJournal, in_progress
 from ._lines import digest
 from ._stores import Found, Hold, Part, Store, clock
 
-# At most so many bytes, unless one part has more, and so many parts are appended at once.
+# After so many bytes, or with so many parts, no further part is appended at once.
 _MOST_BYTES, _MOST_PARTS = 1_048_576, 256
-# A part with more bytes keeps no others waiting: it goes alone, beside them.
+# A part with more bytes keeps no others waiting: it goes beside them.
 _LONG = 65_536
 # How often a lease is renewed in its time.
 _RENEWALS = 5
@@ -24,23 +24,6 @@ _PRUNE_SECONDS, _PRUNED_WHILE_KEPT = 60.0, 24
 # For how many seconds a batch has to have been too old before it is removed, unless it is kept for less: the clock may
 # be wrong when the machine starts.
 _PATIENCE = 3_600.0
-
-
-class _Line:
-    """Journals that wait for an append: what comes while others are on their way goes together."""
-
-    def __init__(self, width: int) -> None:
-        self.free, self.waiting = width, deque()  # type: int, Deque[StoreJournal]
-
-    def taken(self) -> List[StoreJournal]:
-        """Takes those that go next."""
-        found, size = [], 0  # type: List[StoreJournal], int
-        while self.waiting and len(found) < _MOST_PARTS:
-            size += self.waiting[0].size
-            if found and size > _MOST_BYTES:
-                break
-            found.append(self.waiting.popleft())
-        return found
 
 
 class Journals:
@@ -68,8 +51,8 @@ class Journals:
         self.store, self._keep, self._ahead, self._steady = store, keep, ahead, steady
         self.writers = itertools.count(1)
         self._active: Set[bytes] = set()
-        self._lines = _Line(store.width), _Line(1)
         self._tasks: "Set[asyncio.Task[None]]" = set()
+        self._appends: "Set[asyncio.Task[None]]" = set()
         self._releases: "Set[asyncio.Task[None]]" = set()
         # What the clocks have shown: that nobody sets, and that of the store.
         self._shown: Deque[Tuple[float, float]] = deque()
@@ -86,8 +69,7 @@ class Journals:
         """Opens the store, or begins to wait for it if it cannot be reached; raises OSError if it cannot be used."""
         self.broken: "asyncio.Future[None]" = asyncio.get_running_loop().create_future()
         try:
-            await self.store.open()
-            self._begin()
+            await self._begin()
         except ConnectionError as error:
             LOG.error("the journal cannot be reached, and is waited for: %s", error)
             self._spawn(self._open_later(), self._tasks)
@@ -96,25 +78,40 @@ class Journals:
         while not self._is_open:
             await asyncio.sleep(_AGAIN)
             try:
-                await self.store.open()
-                self._begin()
+                await self._begin()
             except ConnectionError:
                 pass
             except OSError as error:
                 LOG.error("the journal cannot be used: %s", error)
                 return None if self.broken.done() else self.broken.set_exception(error)
 
-    def _begin(self) -> None:
+    async def _begin(self) -> None:
+        await self.store.open()
         self._is_open = True
-        self._spawn(self._prune_always(), self._tasks)
-        if self.store.lease.seconds < float("inf"):
-            self._spawn(self._renew_always(), self._tasks)
+        self._short: "asyncio.Queue[StoreJournal]" = asyncio.Queue()
+        self._long: "asyncio.Queue[StoreJournal]" = asyncio.Queue()
+        for waiting in [self._long, *[self._short] * self.store.width]:
+            self._spawn(self._append_always(waiting), self._appends)
+        often = min(max(_PRUNE_SECONDS, self._keep / _PRUNED_WHILE_KEPT), self._keep)
+        self._spawn(self._always(often, self.prune, "old journals cannot be removed"), self._tasks)
+        lease = self.store.lease.seconds
+        if lease < float("inf"):
+            self._spawn(self._always(lease / _RENEWALS, self.store.renew, "the lease is not renewed"), self._tasks)
+
+    async def _always(self, seconds: float, work: Callable[[], Awaitable[None]], failure: str) -> None:
+        """Does something again and again."""
+        while True:
+            try:
+                await work()
+            except OSError as error:
+                LOG.error("%s: %s", failure, error)
+            await asyncio.sleep(seconds)
 
     async def close(self) -> None:
         """Lets others go on with what is left, and closes the store."""
         if self._releases:
             await asyncio.wait(self._releases, timeout=_END)
-        rest = [*self._tasks, *self._releases]
+        rest = [*self._tasks, *self._appends, *self._releases]
         for task in rest:
             task.cancel()
         await asyncio.gather(*rest, return_exceptions=True)
@@ -125,14 +122,6 @@ class Journals:
         task = asyncio.ensure_future(work)
         tasks.add(task)  # the loop alone would not keep it
         task.add_done_callback(tasks.discard)
-
-    async def _renew_always(self) -> None:
-        while True:
-            await asyncio.sleep(self.store.lease.seconds / _RENEWALS)
-            try:
-                await self.store.renew()
-            except OSError as error:
-                LOG.error("the lease is not renewed: %s", error)
 
     # Opening
 
@@ -182,23 +171,23 @@ class Journals:
 
     async def _release(self, journal: StoreJournal) -> None:
         """Lets others go on with a batch that is left open: else they would wait for as long as the process lives."""
-        try:
-            with contextlib.suppress(Exception):  # it is looked at again
-                return await journal.end()
-        finally:
-            self._active.discard(journal.batch)
-        while journal.batch not in self._active:
-            self._active.add(journal.batch)
+        while True:
             try:
                 if await self._is_released(journal):
                     return
-            except OSError as error:
+            except (OSError, Refusal) as error:
                 LOG.error("a batch is left open: %s", error)
             finally:
                 self._active.discard(journal.batch)
             await asyncio.sleep(_AGAIN)
+            if journal.batch in self._active:  # somebody here goes on with it
+                return
+            self._active.add(journal.batch)
 
     async def _is_released(self, journal: StoreJournal) -> bool:
+        if not journal.has_failed:
+            await journal.end()
+            return True
         found = await self.store.read(journal.batch, lambda size: None)
         if not found or not found[-1].is_open or not journal.has_written(found[-1]):
             return True
@@ -212,53 +201,37 @@ class Journals:
         """Returns what the next append of a journal ends with, or the one that is on its way."""
         if journal.turn is None:
             journal.turn = asyncio.get_running_loop().create_future()
-            line = self._lines[journal.size > _LONG]
-            line.waiting.append(journal)
-            if line.free:
-                line.free -= 1
-                self._spawn(self._append_all(line), self._tasks)
+            (self._long if journal.size > _LONG else self._short).put_nowait(journal)
         return journal.turn
 
-    async def _append_all(self, line: _Line) -> None:
-        try:
+    async def _append_always(self, waiting: "asyncio.Queue[StoreJournal]") -> None:
+        """Appends what waits: what has come while others were on their way goes together."""
+        while True:
+            journals = [await waiting.get()]
             await asyncio.sleep(0)  # what starts in this turn of the loop goes with it
-            while line.waiting:
-                await self._append(line.taken())
-        finally:
-            line.free += 1
+            size = journals[0].size
+            while size < _MOST_BYTES and len(journals) < _MOST_PARTS and not waiting.empty():
+                journals.append(waiting.get_nowait())
+                size += journals[-1].size
+            await self._append(journals)
 
     async def _append(self, journals: List[StoreJournal]) -> None:
         parts, began = [it.next_part() for it in journals], clock()
-        error: BaseException = OSError("it was broken off")
+        ends: List[Optional[Exception]] = [OSError("it was broken off")] * len(parts)
         try:
             kept = await self.store.append(parts)
-            for journal in journals:
-                journal.landed(journal.batch in kept)
+            ends = [None if it.batch in kept else in_progress() for it in journals]
             self.refused += len(parts) - len(kept)
-        except BaseException as raised:
-            error = raised if isinstance(raised, OSError) else OSError(f"{type(raised).__name__}: {raised}")
-            for journal in journals:
-                journal.failed(error)
-            if not isinstance(raised, Exception):
-                raise
+        except Exception as error:
+            ends = [error if isinstance(error, OSError) else OSError(f"{type(error).__name__}: {error}")] * len(parts)
         finally:
             self.appends, self.parts = self.appends + 1, self.parts + len(parts)
             self.bytes += sum(len(it.text) for it in parts)
             self.seconds += clock() - began
-            for journal in journals:
-                turn, journal.turn = journal.turn, None
-                if turn is not None and not turn.done():
-                    turn.set_result(None)
+            for journal, end in zip(journals, ends):
+                journal.landed(end)
 
     # Removing
-
-    async def _prune_always(self) -> None:
-        while True:
-            try:
-                await self.prune()
-            except OSError as error:
-                LOG.error("old journals cannot be removed: %s", error)
-            await asyncio.sleep(min(max(_PRUNE_SECONDS, self._keep / _PRUNED_WHILE_KEPT), self._keep))
 
     async def prune(self) -> None:
         """Removes the batches of which nothing has happened for so long, unless they are being performed.
@@ -272,18 +245,15 @@ class Journals:
         if self._shown[0][0] <= now - patience:
             await self.store.prune(min(shown for _, shown in self._shown) - self._keep - self._ahead)
 
-    def metrics(self) -> Iterator[Tuple[str, str, str, float]]:
-        """Yields the name, the kind and the help of each metric, and its value."""
-        for name, help, value in (
-            ("appends", "Commits of the journal.", self.appends),
-            ("parts", "Parts of batches in these; divided by the commits: how many share one.", self.parts),
-            ("bytes", "Bytes of these.", self.bytes),
-            ("seconds", "How long these took.", round(self.seconds, 6)),
-            ("breaks", "Connections to the journal that broke.", getattr(self.store, "breaks", 0)),
-            ("refused", "Batches that another gateway has taken over.", self.refused),
-            ("lost", "Requests that were answered 500 Lost.", self.lost),
-        ):
-            yield f"journal_{name}_total", "counter", help, value
+    def metrics(self) -> Iterator[Tuple[str, str, float]]:
+        """Yields the name and the help of each metric, and its value; what ends with _total is a counter."""
+        yield "journal_appends_total", "Commits of the journal.", self.appends
+        yield "journal_parts_total", "Parts of batches in these; by the commits: how many share one.", self.parts
+        yield "journal_bytes_total", "Bytes of these.", self.bytes
+        yield "journal_seconds_total", "How long these took.", round(self.seconds, 6)
+        yield "journal_breaks_total", "Connections to the journal that broke.", getattr(self.store, "breaks", 0)
+        yield "journal_refused_total", "Batches that another gateway has taken over.", self.refused
+        yield "journal_lost_total", "Requests that were answered 500 Lost.", self.lost
         if self.store.lease.seconds < float("inf"):
             left = self.store.lease.deadline - clock()
-            yield "journal_lease_seconds", "gauge", "What is left of the lease.", round(max(left, 0.0), 3)
+            yield "journal_lease_seconds", "What is left of the lease.", round(max(left, 0.0), 3)

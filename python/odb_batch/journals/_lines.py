@@ -6,8 +6,8 @@ import hashlib
 import json
 from typing import Any, Dict, List, Sequence, Tuple
 
-from .._documents import Report, Start
-from .._events import JournalEvent, ReportUnit, StartUnit, Stop
+from ..documents.encoding import Report, Start
+from ..driver.journal import JournalEvent, ReportUnit, StartUnit, Stop
 
 
 def identity(**parts: str) -> bytes:

@@ -7,11 +7,11 @@ would be reported as done. Its connection is ended instead, and the statement is
 import asyncio
 import os
 import socket
-from typing import Any, Coroutine, List, Optional, Sequence, Set
+from typing import Any, Callable, List, Optional, Sequence, Set
 
 import asyncpg
 
-from .._answers import LOG
+from ..http.messages import LOG
 from ._stores import Found, Hold, Lease, Part, clock
 
 _FORM = 1
@@ -43,11 +43,12 @@ _FIND = """SELECT number, holder, writer, open, size, CASE WHEN total <= 65536 T
 _TEXTS = "SELECT text FROM odb_part WHERE batch = $1 AND number < $2 ORDER BY number"
 # What is read may not be on the standby, after a restart or a wait that was cancelled. This commit comes after it.
 _WAIT = "SELECT pg_logical_emit_message(true, 'odb_batch', '')"
-_BEGIN = "INSERT INTO odb_gateway VALUES ($1, $2, clock_timestamp() + $3::float8 * interval '1 second')"
+_BEGIN = "INSERT INTO odb_gateway VALUES ($1, $3, clock_timestamp() + $2::float8 * interval '1 second') RETURNING 1"
 _RENEW = """UPDATE odb_gateway SET until = clock_timestamp() + $2::float8 * interval '1 second' WHERE holder = $1
     RETURNING 1"""
-_END = "DELETE FROM odb_gateway WHERE holder = $1 AND until < clock_timestamp()"
-_IS_OVER = "SELECT NOT EXISTS (SELECT FROM odb_gateway WHERE holder = $1)"
+# It ends for good: a holder that has no row is never renewed.
+_IS_OVER = """WITH ended AS (DELETE FROM odb_gateway WHERE holder = $1 AND until < clock_timestamp() RETURNING 1)
+    SELECT EXISTS (SELECT FROM ended) OR NOT EXISTS (SELECT FROM odb_gateway WHERE holder = $1)"""
 _NOW = "SELECT extract(epoch FROM clock_timestamp())::float8"
 _OLD = """DELETE FROM odb_part WHERE batch IN (SELECT batch FROM odb_part AS a
     WHERE number = 0 AND at < to_timestamp($1::float8)
@@ -63,6 +64,8 @@ _LINKS, _IDLE_MILLISECONDS = 4, "10000"
 _RATE, _BREAK = 1e6, 0.1
 _LOCK = 7283541
 
+#: What is done over a connection: a coroutine function.
+_Work = Callable[[Any], Any]
 _errors = asyncpg.exceptions
 # After these the same statement may be sent again: a connection, or a transaction, was ended from outside.
 _AGAIN = (
@@ -87,11 +90,9 @@ class PostgresqlStore:
     width = 2
 
     def __init__(self, url: str, seconds: float = 15.0) -> None:
-        self._url, self._seconds, self._margin = url, seconds, min(1.0, seconds / 8)
+        self.url, self._seconds, self._margin = url, seconds, min(1.0, seconds / 8)
         self.lease, self.breaks = Lease(seconds, 0.0), 0
         self.patience, self.timeout = seconds, max(seconds / 3, 1.0)
-        # The servers' processes whose commit was not confirmed by a standby.
-        self._warned: Set[int] = set()
 
     async def open(self) -> None:
         # A long removal must not keep the lease from its renewal.
@@ -99,73 +100,8 @@ class PostgresqlStore:
         self._all, self._free = [self._beats, self._pruner, *links], asyncio.LifoQueue()  # type: List[_Link], Any
         for link in links:
             self._free.put_nowait(link)
-        try:
-            connection = await self.connected(self.timeout)
-            try:
-                await self._in_time(connection, self.timeout, self._prepare(connection))
-            finally:
-                connection.terminate()
-            await self._begin()
-        except (ValueError, asyncpg.InterfaceError) as error:  # the URL
-            raise _Unusable(f"PostgreSQL: {error}") from None
-        except _Unusable:
-            raise
-        except _AGAIN as error:
-            raise ConnectionError(f"PostgreSQL: {_text(error)}") from None
-        except asyncpg.PostgresError as error:
-            raise _Unusable(f"PostgreSQL: {_text(error)}") from None
-
-    async def _prepare(self, connection: Any) -> None:
-        """Makes the tables. Two processes that start at once would both make one."""
-        if await connection.fetchval("SHOW fsync") != "on":
-            raise ValueError("fsync is off")
-        async with connection.transaction():
-            await connection.execute(f"SELECT pg_advisory_xact_lock({_LOCK})")
-            if not await connection.fetchval("SELECT to_regclass('odb_form') IS NOT NULL"):
-                await connection.execute(TABLES)
-        form = await connection.fetchval("SELECT form FROM odb_form")
-        if form != _FORM:
-            raise ValueError(f"the tables have the form {form}, not {_FORM}")
-
-    async def connected(self, seconds: float) -> Any:
-        """Returns a connection to the primary; raises one of `_AGAIN`, or PostgresError."""
-        limit = str(int(self.timeout * 2000 + 20_000))
-        settings = {**_OPTIONS, "statement_timeout": limit, "idle_in_transaction_session_timeout": _IDLE_MILLISECONDS}
-        found = await asyncpg.connect(self._url, timeout=seconds, server_settings=settings)
-        # A commit whose wait for a standby was cancelled is reported as done, with a warning.
-        found.add_log_listener(lambda it, note: self._warned.add(it.get_server_pid()))
-        try:
-            if (await self.answered(found, seconds, "SELECT pg_is_in_recovery()"))[0][0]:
-                raise ConnectionError("it is a standby")
-        except BaseException:
-            found.terminate()
-            raise
-        return found
-
-    async def answered(self, connection: Any, seconds: float, words: str, *given: Any) -> List[Any]:
-        """Returns the rows of a statement; raises one of `_AGAIN`, or PostgresError."""
-        rows: List[Any] = await self._in_time(connection, seconds, connection.fetch(words, *given))
-        pid = connection.get_server_pid()
-        if pid in self._warned:
-            self._warned.discard(pid)
-            raise ConnectionError("the commit was not confirmed by a standby")
-        return rows
-
-    async def _in_time(self, connection: Any, seconds: float, work: Coroutine[Any, Any, Any]) -> Any:
-        """What some work over a connection returns; ends the connection where it takes too long.
-
-        Not `wait_for`, which would cancel the statement at the server, too.
-        """
-        task = asyncio.ensure_future(work)
-        try:
-            await asyncio.wait({task}, timeout=seconds)
-        finally:
-            if not task.done():
-                connection.terminate()
-                task.add_done_callback(lambda it: it.cancelled() or it.exception())
-        if not task.done():
-            raise asyncio.TimeoutError("no answer in time")
-        return task.result()
+        await self._pruner.done(_prepare)
+        await self._begin()
 
     async def _rows(self, words: str, *given: Any, size: int = 0) -> List[Any]:
         """The rows of a statement, over the next free connection."""
@@ -177,7 +113,7 @@ class PostgresqlStore:
 
     async def close(self) -> None:
         try:
-            await self._beats.rows("DELETE FROM odb_gateway WHERE holder = $1", self.lease.holder, patience=0)
+            await self._beats.rows("DELETE FROM odb_gateway WHERE holder = $1", self.lease.holder)
         except OSError as error:
             LOG.error("the lease lasts until its time is over: %s", error)
         for link in self._all:
@@ -186,23 +122,23 @@ class PostgresqlStore:
     # The lease
 
     async def _begin(self) -> None:
-        before, lease = clock(), Lease(self._seconds, 0.0)
-        name = f"{socket.gethostname()}-{os.getpid()}"
-        await self._beats.rows(_BEGIN, lease.holder, name, self._seconds, patience=0)
+        await self._hold(Lease(self._seconds, 0.0), _BEGIN, f"{socket.gethostname()}-{os.getpid()}")
+
+    async def _hold(self, lease: Lease, words: str, *given: Any) -> bool:
+        """Lets a lease last from now on; returns false if a statement finds that it has ended."""
+        before = clock()
+        if not await self._beats.rows(words, lease.holder, self._seconds, *given):
+            return False
         lease.deadline = before + self._seconds - self._margin
         self.lease = lease
+        return True
 
     async def renew(self) -> None:
-        before = clock()
-        if await self._beats.rows(_RENEW, self.lease.holder, self._seconds, patience=0):
-            self.lease.deadline = before + self._seconds - self._margin
-        else:
+        if not await self._hold(self.lease, _RENEW):
             LOG.error("another gateway has ended the lease of this one")
             await self._begin()
 
     async def is_over(self, holder: int) -> bool:
-        # It ends for good: a holder that has no row is never renewed.
-        await self._rows(_END, holder)
         return bool((await self._rows(_IS_OVER, holder))[0][0])
 
     # Parts
@@ -238,29 +174,53 @@ class PostgresqlStore:
         await self._rows(_WAIT)
 
     async def prune(self, before: float) -> None:
-        while await self._pruner.rows(_OLD, before, patience=0):
+        while await self._pruner.rows(_OLD, before):
             await asyncio.sleep(0)
-        await self._pruner.rows(_OLD_LEASES, patience=0)
+        await self._pruner.rows(_OLD_LEASES)
 
 
 class _Unusable(OSError):
     """The database has refused something, and would again."""
 
 
+async def _prepare(connection: Any) -> None:
+    """Makes the tables. Two processes that start at once would both make one."""
+    if await connection.fetchval("SHOW fsync") != "on":
+        raise _Unusable("PostgreSQL: fsync is off")
+    async with connection.transaction():
+        await connection.execute(f"SELECT pg_advisory_xact_lock({_LOCK})")
+        if not await connection.fetchval("SELECT to_regclass('odb_form') IS NOT NULL"):
+            await connection.execute(TABLES)
+    form = await connection.fetchval("SELECT form FROM odb_form")
+    if form != _FORM:
+        raise _Unusable(f"PostgreSQL: the tables have the form {form}, not {_FORM}")
+
+
 class _Link:
-    """A connection, which is made anew where it breaks, for one statement at a time."""
+    """A connection, which is made anew where it breaks, for one work at a time."""
 
     def __init__(self, store: PostgresqlStore) -> None:
         self._store, self._turn = store, asyncio.Lock()
         self._connection: Optional[Any] = None
+        self._is_warned = False
 
-    async def rows(self, words: str, *given: Any, patience: float, size: int = 0) -> List[Any]:
+    async def rows(self, words: str, *given: Any, patience: float = 0.0, size: int = 0) -> List[Any]:
         """Returns the rows of a statement that may be sent twice; raises OSError once there is no more patience."""
+        found: List[Any] = await self.done(lambda it: it.fetch(words, *given), patience, size)
+        return found
+
+    async def done(self, work: _Work, patience: float = 0.0, size: int = 0) -> Any:
+        """Returns what a work over the connection returns, as `rows`."""
         end = clock() + patience
         async with self._turn:
             while True:
                 try:
-                    return await self._tried(max(end - clock(), _BREAK), size, words, *given)
+                    if self._connection is None or self._connection.is_closed():
+                        await self._connect()
+                    return await self._in_time(work, self._store.timeout + size / _RATE)
+                except _Unusable:
+                    self.drop()
+                    raise
                 except _AGAIN as error:
                     self.drop()
                     self._store.breaks += 1
@@ -274,11 +234,42 @@ class _Link:
                     self.drop()
                     raise
 
-    async def _tried(self, left: float, size: int, words: str, *given: Any) -> List[Any]:
+    async def _connect(self) -> None:
+        """Makes a connection to the primary."""
         timeout = self._store.timeout
-        if self._connection is None or self._connection.is_closed():
-            self._connection = await self._store.connected(timeout)
-        return await self._store.answered(self._connection, timeout + size / _RATE, words, *given)
+        limit = str(int(timeout * 2000 + 20_000))
+        settings = {**_OPTIONS, "statement_timeout": limit, "idle_in_transaction_session_timeout": _IDLE_MILLISECONDS}
+        try:
+            found = await asyncpg.connect(self._store.url, timeout=timeout, server_settings=settings)
+        except (ValueError, asyncpg.InterfaceError) as error:
+            raise _Unusable(f"PostgreSQL: {error}") from None
+        # A commit whose wait for a standby was cancelled is reported as done, with a warning.
+        found.add_log_listener(self._note)
+        self._connection, self._is_warned = found, False
+        if await self._in_time(lambda it: it.fetchval("SELECT pg_is_in_recovery()"), timeout):
+            raise ConnectionError("it is a standby")
+
+    def _note(self, *_: Any) -> None:
+        self._is_warned = True
+
+    async def _in_time(self, work: _Work, seconds: float) -> Any:
+        """What a work over the connection returns; ends the connection where it takes too long.
+
+        Not `wait_for`, which would cancel the statement at the server, too.
+        """
+        task = asyncio.ensure_future(work(self._connection))
+        try:
+            await asyncio.wait({task}, timeout=seconds)
+        finally:
+            if not task.done():
+                self.drop()
+                task.add_done_callback(lambda it: it.cancelled() or it.exception())
+        if not task.done():
+            raise asyncio.TimeoutError("no answer in time")
+        found = task.result()
+        if self._is_warned:
+            raise ConnectionError("the commit was not confirmed by a standby")
+        return found
 
     def drop(self) -> None:
         """Ends the connection."""

@@ -47,6 +47,7 @@ _LEFT = """DELETE FROM piece WHERE rowid IN (SELECT rowid FROM piece WHERE NOT E
 _PIECE = 262_144
 # For how many seconds a commit may take, and for how many one is waited for at the end.
 _SECONDS, _CLOSE_SECONDS = 10.0, 0.5
+_FLAGS = os.O_RDWR | os.O_CLOEXEC | os.O_NOFOLLOW
 _OF_FILES = re.compile("[0-9a-f]{64}").fullmatch
 _Result = TypeVar("_Result")
 
@@ -86,7 +87,7 @@ class SqliteStore:
         self._require_folder()
         self._writer, self._reader = ThreadPoolExecutor(1, THREADS), ThreadPoolExecutor(1, THREADS)
         self._lock = self._locked(self._name(self.lease.holder))
-        self._turn = os.open(f"{self._path}-turn", os.O_RDWR | os.O_CREAT | os.O_CLOEXEC | os.O_NOFOLLOW, 0o600)
+        self._turn = os.open(f"{self._path}-turn", _FLAGS | os.O_CREAT, 0o600)
         try:
             self._to_write = await self._run(self._writer, self._connected)
             self._to_read = await self._run(self._reader, self._connected)
@@ -98,8 +99,6 @@ class SqliteStore:
         """Raises OSError if the folder is not there, has journals of another form, or something else than a file."""
         if any(map(_OF_FILES, os.listdir(self._folder))):
             raise OSError(f"{self._folder} has journals of an earlier version; name an empty folder")
-        if not os.access(self._folder, os.W_OK | os.X_OK):
-            raise PermissionError(13, "Permission denied", self._folder)
         for path in (self._path, f"{self._path}-wal", f"{self._path}-shm", f"{self._path}-turn"):
             if os.path.lexists(path) and not stat.S_ISREG(os.lstat(path).st_mode):
                 raise OSError(f"{path} is not a file")
@@ -110,7 +109,7 @@ class SqliteStore:
     def _locked(self, path: str) -> int:
         """Makes and locks a file; until it is locked another process may remove it."""
         while True:
-            file = os.open(path, os.O_RDWR | os.O_CREAT | os.O_CLOEXEC | os.O_NOFOLLOW, 0o600)
+            file = os.open(path, _FLAGS | os.O_CREAT, 0o600)
             fcntl.flock(file, fcntl.LOCK_EX)
             with contextlib.suppress(FileNotFoundError):
                 if os.path.samestat(os.fstat(file), os.stat(path)):
@@ -118,24 +117,21 @@ class SqliteStore:
             os.close(file)
 
     def _connected(self) -> sqlite3.Connection:
+        """A connection, after the tables were made if they are not there."""
         with contextlib.suppress(FileExistsError):  # SQLite would let others read it
             os.close(os.open(self._path, os.O_CREAT | os.O_EXCL, 0o600))
         found = sqlite3.connect(self._path, timeout=_SECONDS, isolation_level=None)
         with self._in_turn():
-            self._prepare(found)
-        return found
-
-    def _prepare(self, found: sqlite3.Connection) -> None:
-        found.execute("PRAGMA journal_mode = WAL")
-        found.execute("PRAGMA synchronous = FULL")
-        found.execute("PRAGMA journal_size_limit = 67108864")
-        (size,) = found.execute("PRAGMA page_size").fetchone()
-        found.execute(f"PRAGMA max_page_count = {max(1, self._most // size)}")
-        (form,) = found.execute("PRAGMA user_version").fetchone()
+            for pragma in ("journal_mode = WAL", "synchronous = FULL", "journal_size_limit = 67108864"):
+                found.execute(f"PRAGMA {pragma}")
+            (size,) = found.execute("PRAGMA page_size").fetchone()
+            found.execute(f"PRAGMA max_page_count = {max(1, self._most // size)}")
+            (form,) = found.execute("PRAGMA user_version").fetchone()
+            if not form:
+                found.executescript(f"BEGIN IMMEDIATE; {_TABLES} PRAGMA user_version = {_FORM}; COMMIT;")
         if form not in (0, _FORM):
             raise OSError(f"{self._path} has the form {form}, not {_FORM}")
-        if not form:
-            found.executescript(f"BEGIN IMMEDIATE; {_TABLES} PRAGMA user_version = {_FORM}; COMMIT;")
+        return found
 
     async def close(self) -> None:
         for pool, name in ((self._writer, "_to_write"), (self._reader, "_to_read")):
@@ -174,16 +170,13 @@ class SqliteStore:
 
     async def is_over(self, holder: int) -> bool:
         try:
-            file = os.open(self._name(holder), os.O_RDWR | os.O_CLOEXEC | os.O_NOFOLLOW)
-        except FileNotFoundError:
-            return True
-        try:
-            fcntl.flock(file, fcntl.LOCK_EX | fcntl.LOCK_NB)
-            return True
+            with open(self._name(holder), "rb") as file:
+                fcntl.flock(file.fileno(), fcntl.LOCK_EX | fcntl.LOCK_NB)
         except BlockingIOError:
             return False
-        finally:
-            os.close(file)
+        except FileNotFoundError:
+            pass
+        return True
 
     # Appending
 
@@ -245,12 +238,8 @@ class SqliteStore:
 
     def _sync(self) -> None:
         """Syncs what a process may have written and not synced before it ended, which is read after it."""
-        with contextlib.suppress(FileNotFoundError):
-            file = os.open(f"{self._path}-wal", os.O_RDWR | os.O_CLOEXEC)
-            try:
-                os.fsync(file)
-            finally:
-                os.close(file)
+        with contextlib.suppress(FileNotFoundError), open(f"{self._path}-wal", "rb") as file:
+            os.fsync(file.fileno())
 
     # Removing
 

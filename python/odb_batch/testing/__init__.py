@@ -15,8 +15,8 @@
 module needs: the extra ``testing`` of the package.
 """
 
-from ._faults import faulty_batches
-from ._runs import events
+from ._events import events
+from ._faulty import faulty_batches
 from ._scripted import Scripted
 from ._strategies import batches, outcomes
 

@@ -2,21 +2,21 @@
 
 import json
 from collections import Counter
-from typing import Dict, Iterable, List, Literal, Mapping, Optional, Sequence, Tuple, Union
+from typing import Iterable, Literal, Mapping, Optional, Sequence, Union
 
-from .._commands import Mode
-from .._documents import body_of
-from .._faults import Fault
-from .._messages import Answer
-from .._requests import Request
-from .._runs import Run
+from .._native.calls import Mode
+from ..documents.encoding import body_json
+from ..documents.requests import Request
+from ..errors.faults import Fault
+from ..http.messages import Answer
+from ..runs import Run
 
 #: What a request is answered: a status, or an answer.
 Scene = Union[int, Answer]
 #: What becomes of a batch: it is answered as a whole, and not performed; it is performed, and answered; the service hangs up
 #: before it performs any of it; or it performs the batch, and then hangs up.
 Happening = Union[Scene, Literal["answer", "hang up", "lose"]]
-Response = Tuple[int, Dict[str, str], bytes]
+Response = tuple[int, dict[str, str], bytes]
 
 _JSON = {"content-type": "application/json"}
 _DEFAULTS = {"POST": 201, "GET": 200}
@@ -57,12 +57,12 @@ class Scripted:
         performed: How often each request was performed, by its id: it was answered 2xx, and not undone.
     """
 
-    documents: List[bytes]
+    documents: list[bytes]
     performed: "Counter[str]"
 
     def __init__(
         self,
-        script: Mapping[str, Union[Scene, List[Scene]]] = {},
+        script: Mapping[str, Union[Scene, list[Scene]]] = {},
         *,
         limit: int = 10_000,
         mode: Mode = "continue",
@@ -70,14 +70,14 @@ class Scripted:
         schedule: Iterable[Happening] = (),
         repeatable: Optional[bool] = None,
     ) -> None:
-        self._script = {id: _scenes(id, it) for id, it in script.items()}
+        self._script = {request_id: _scenes(request_id, scene) for request_id, scene in script.items()}
         self._limit, self._mode, self._retry_after = limit, mode, str(retry_after)
         for happening in schedule if isinstance(schedule, Sequence) else ():
             if happening not in _HAPPENINGS:
                 _scenes("a batch", happening)
         self._schedule, self._repeatable = iter(schedule), repeatable
         # Of each id the document, the date and what was answered.
-        self._kept: Dict[str, Tuple[bytes, str, Response]] = {}
+        self._kept: dict[str, tuple[bytes, str, Response]] = {}
         self.documents, self.performed = [], Counter()
 
     def post(self, document: bytes, headers: Mapping[str, str] = {}) -> Response:
@@ -89,7 +89,7 @@ class Scripted:
         self.documents.append(document)
         happening = next(self._schedule, "answer")
         if isinstance(happening, Answer):
-            return happening.status, dict(happening.headers), body_of(happening.body)
+            return happening.status, dict(happening.headers), body_json(happening.body)
         if isinstance(happening, int):
             return self._refusal(happening, "Refused")
         if happening == "hang up":
@@ -100,16 +100,16 @@ class Scripted:
             raise ConnectionError("the answer is lost")
         return answered
 
-    def _answered(self, document: bytes, id: str, date: str) -> Response:
+    def _answered(self, document: bytes, request_id: str, date: str) -> Response:
         """Answers a batch, or answers it again."""
-        if not id or self._repeatable is None:
+        if not request_id or self._repeatable is None:
             return self._performed(document)
         if not self._repeatable:
             return self._rejected(501, "NotRepeatable")
-        if id not in self._kept:
+        if request_id not in self._kept:
             status, given, body = self._performed(document)
-            self._kept[id] = document, date, (status, {**given, _RESULT: "accepted"}, body)
-        *first, answered = self._kept[id]
+            self._kept[request_id] = document, date, (status, {**given, _RESULT: "accepted"}, body)
+        *first, answered = self._kept[request_id]
         return answered if first == [document, date] else self._rejected(422, "AnotherBatch")
 
     def _performed(self, document: bytes) -> Response:
@@ -124,7 +124,8 @@ class Scripted:
             while (ids := run.next_unit()) is not None:
                 self._perform(run, ids)
             response = run.response()
-        self.performed.update(it["id"] for it in json.loads(response)["responses"] if 200 <= it["status"] <= 299)
+        found = json.loads(response)["responses"]
+        self.performed.update(each["id"] for each in found if 200 <= each["status"] <= 299)
         return 200, dict(_JSON), response
 
     async def post_async(self, document: bytes, headers: Mapping[str, str] = {}) -> Response:
@@ -133,10 +134,10 @@ class Scripted:
 
     def _perform(self, run: Run, ids: Sequence[str]) -> None:
         """Performs the requests of a unit, up to the first that fails."""
-        for id in ids:
-            answer = self._next(run.request(id))
-            run.start(id)
-            run.report(id, answer.status, answer.headers, answer.body)
+        for request_id in ids:
+            answer = self._next(run.request(request_id))
+            run.start(request_id)
+            run.report(request_id, answer.status, answer.headers, answer.body)
             if not answer.is_success:
                 return
 
@@ -164,10 +165,10 @@ class Scripted:
         return status, {**headers, _RESULT: "rejected"}, body
 
 
-def _scenes(id: str, given: Union[Scene, List[Scene]]) -> List[Scene]:
+def _scenes(request_id: str, given: Union[Scene, list[Scene]]) -> list[Scene]:
     """What a request is answered, each time; a client would take an exception in `post` for a broken connection."""
     scenes = list(given) if isinstance(given, list) else [given]
-    statuses = [it.status if isinstance(it, Answer) else it for it in scenes]
-    if not statuses or not all(isinstance(it, int) and 200 <= it <= 599 for it in statuses):
-        raise TypeError(f"{id} is answered by statuses from 200 to 599 and Answers, not by {given!r}")
+    statuses = [scene.status if isinstance(scene, Answer) else scene for scene in scenes]
+    if not statuses or not all(isinstance(status, int) and 200 <= status <= 599 for status in statuses):
+        raise TypeError(f"{request_id} is answered by statuses from 200 to 599 and Answers, not by {given!r}")
     return scenes

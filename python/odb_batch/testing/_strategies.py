@@ -7,19 +7,19 @@ functions that take `draw` make a part of a document, from what was drawn before
 import copy
 import functools
 import re
-from typing import Any, Dict, List, Mapping, NamedTuple, Optional, Protocol, Sequence, Tuple
+from typing import Any, Mapping, NamedTuple, Optional, Protocol, Sequence
 
 from hypothesis import strategies as st
 from hypothesis.strategies import DrawFn, SearchStrategy
 
-Json = Dict[str, Any]
+Json = dict[str, Any]
 
 
 def of(*values: Any) -> SearchStrategy[Any]:
     return st.sampled_from(values)
 
 
-@functools.lru_cache(maxsize=None)
+@functools.cache
 def chance(percent: int) -> SearchStrategy[bool]:
     """True for so many of a hundred."""
     return of(*[False] * (100 - percent), *[True] * percent)
@@ -41,7 +41,7 @@ DOLLARS, TAILS = of("$", "%24"), of("", "/Pages", "?$top=1", "#x")
 METHODS = of("get", "post", "PATCH", "Delete", "put")
 WITH_BODY = ("post", "PATCH", "put")
 #: Bodies whose numbers are whole, which all commands take.
-WHOLE: Tuple[Any, ...] = ({}, [], 0, False, "", "text!", {"b": 1, "a": [2, {"z": None}]}, 2**64 - 1, -(2**63))
+WHOLE: tuple[Any, ...] = ({}, [], 0, False, "", "text!", {"b": 1, "a": [2, {"z": None}]}, 2**64 - 1, -(2**63))
 # The media types of bodies that are not JSON, with such bodies.
 TEXTS: Mapping[str, SearchStrategy[Any]] = {
     "text/plain": of("", "any text!"),
@@ -67,14 +67,14 @@ class Choices(NamedTuple):
 # Batches
 
 
-def unused(names: Sequence[str], prefix: str, taken: Sequence[Any]) -> List[str]:
+def unused(names: Sequence[str], prefix: str, taken: Sequence[Any]) -> list[str]:
     """The names that are not taken; if all are, one with a number."""
-    return [it for it in names if it not in taken] or [f"{prefix}{len(taken)}"]
+    return [name for name in names if name not in taken] or [f"{prefix}{len(taken)}"]
 
 
-def names_of(draw: Any, batch: List[Json], group: Optional[str]) -> List[str]:
+def names_of(draw: Any, batch: list[Json], group: Optional[str]) -> list[str]:
     """Names of earlier requests and groups in any order, with the groups that have to be listed; some come twice."""
-    names: List[str] = []
+    names: list[str] = []
     for earlier in draw(st.lists(st.sampled_from(batch), unique_by=id, max_size=3)) if batch else []:
         other = earlier.get("atomicityGroup")
         if other in (None, group):
@@ -87,12 +87,12 @@ def names_of(draw: Any, batch: List[Json], group: Optional[str]) -> List[str]:
     return names
 
 
-def covered(batch: List[Json], request: Json) -> List[str]:
+def covered(batch: list[Json], request: Json) -> list[str]:
     """The ids that a URL of a request may refer to, by the names that it lists. What has a reserved URL is not referred
     to: that URL cannot take the place of a reference."""
     around = {*(request.get("dependsOn") or []), request.get("atomicityGroup")} - {None}
-    found = [it for it in batch if it["id"] in around or it.get("atomicityGroup") in around]
-    return [it["id"] for it in found if it["url"] not in SPECIAL_URLS and not IS_RESERVED(it["url"])]
+    found = [request for request in batch if request["id"] in around or request.get("atomicityGroup") in around]
+    return [request["id"] for request in found if request["url"] not in SPECIAL_URLS and not IS_RESERVED(request["url"])]
 
 
 def add_body(draw: Any, request: Json, choices: Choices) -> None:
@@ -103,9 +103,9 @@ def add_body(draw: Any, request: Json, choices: Choices) -> None:
         request["headers"] = {draw(TYPE_NAMES): media, "Prefer": "x"}
 
 
-def request_after(draw: Any, batch: List[Json], group: Optional[str], choices: Choices) -> Json:
+def request_after(draw: Any, batch: list[Json], group: Optional[str], choices: Choices) -> Json:
     """A request that may come next in a batch."""
-    name = draw(st.sampled_from(unused(ID_NAMES, "r", [it["id"] for it in batch])))
+    name = draw(st.sampled_from(unused(ID_NAMES, "r", [request["id"] for request in batch])))
     request: Json = {"id": name, "method": draw(METHODS)}
     if group is not None:
         request["atomicityGroup"] = group
@@ -124,16 +124,16 @@ def request_after(draw: Any, batch: List[Json], group: Optional[str], choices: C
 
 
 @st.composite
-def units(draw: DrawFn, batch: List[Json], least: int, most: int, groups: bool, choices: Choices) -> List[Json]:
+def units(draw: DrawFn, batch: list[Json], least: int, most: int, groups: bool, choices: Choices) -> list[Json]:
     """The requests of a unit that may come next in a batch, or none if it ends. All sizes of a batch are as likely. A
     unit is drawn as one, so that it is left out as one where an example shrinks."""
     room = most - len(batch)
     if room <= 0 or (len(batch) >= least and draw(st.integers(0, room)) == 0):
         return []
     size = min(draw(SIZES) if groups else 0, room)
-    taken = sorted({it["atomicityGroup"] for it in batch if "atomicityGroup" in it})
+    taken = sorted({request["atomicityGroup"] for request in batch if "atomicityGroup" in request})
     group = unused(GROUP_NAMES, "group-", taken)[0] if size else None
-    found: List[Json] = []
+    found: list[Json] = []
     for _ in range(size or 1):
         found.append(request_after(draw, [*batch, *found], group, choices))
     return found
@@ -164,7 +164,7 @@ def batches(
             all commands take. None if there are no bodies.
     """
     choices = Choices(references, headers, bodies)
-    batch: List[Json] = []
+    batch: list[Json] = []
     while found := draw(units(batch, min_requests, max_requests, groups, choices)):
         batch += found
     return {"requests": batch}
@@ -197,9 +197,9 @@ def outcomes(draw: DrawFn, batch: Json, *, statuses: Optional[SearchStrategy[int
         statuses: What the statuses are drawn from; without it three of four are a success.
     """
     found = []
-    for it in batch["requests"]:
+    for request in batch["requests"]:
         drawn = status(draw) if statuses is None else draw(statuses)
-        found.append(with_rest(draw, {"id": it["id"], "status": drawn}))
+        found.append(with_rest(draw, {"id": request["id"], "status": drawn}))
     return {"outcomes": draw(st.permutations(found))}
 
 
@@ -207,10 +207,10 @@ class Driven(Protocol):
     """A live run, whoever has its rules."""
 
     @property
-    def ready(self) -> Tuple[str, ...]: ...
+    def ready(self) -> tuple[str, ...]: ...
 
     @property
-    def running(self) -> Tuple[str, ...]: ...
+    def running(self) -> tuple[str, ...]: ...
 
     def start(self, id: str) -> None: ...
 
@@ -219,16 +219,16 @@ class Driven(Protocol):
 
 def events_of(
     draw: Any, run: Driven, statuses: SearchStrategy[int], bodies: SearchStrategy[Any] = WHOLE_BODIES
-) -> List[Json]:
+) -> list[Json]:
     """The events of a run up to its end, in any order in which they may come."""
-    found: List[Json] = []
+    found: list[Json] = []
     while choices := [*(ready := run.ready), *run.running]:
-        id = draw(st.sampled_from(choices))
-        if id in ready:
-            run.start(id)
-            found.append({"start": id})
+        request_id = draw(st.sampled_from(choices))
+        if request_id in ready:
+            run.start(request_id)
+            found.append({"start": request_id})
         else:
             drawn = draw(statuses)
-            run.report(id, drawn)
-            found.append(with_rest(draw, {"report": id, "status": drawn}, bodies))
+            run.report(request_id, drawn)
+            found.append(with_rest(draw, {"report": request_id, "status": drawn}, bodies))
     return found

@@ -8,7 +8,7 @@ from decimal import Decimal
 import pytest
 
 from odb_batch import Counts, Fault, check
-from odb_batch.client import Batch, headers
+from odb_batch.client import Batch, batch_headers
 from odb_batch.testing import Scripted
 from support.counting import lines_of
 
@@ -81,7 +81,7 @@ def test_dependencies_in_a_group():
     with batch.group("g"):
         first = batch.post("A")
         batch.post(f"{first}/B")
-    assert last_of(batch)["dependsOn"] == ["1"] and batch.check() == (2, 1)
+    assert last_of(batch)["dependsOn"] == ["1"] and batch.check() == Counts(2, 1)
 
 
 @pytest.mark.parametrize("body, given, text", [
@@ -148,7 +148,7 @@ def test_references_hold_for_a_copy():
     first = batch.get("A")
     for copied in (copy.deepcopy(batch), pickle.loads(pickle.dumps(batch))):
         copied.get("B", after=first)
-        assert copied.check() == (2, 0) and len(batch) == 1
+        assert copied.check() == Counts(2, 0) and len(batch) == 1
 
 
 @pytest.mark.parametrize("call", [
@@ -175,7 +175,7 @@ def test_ids_that_are_free():
         batch.post("A", id="g1")
     with batch.group() as group:
         batch.post("A")
-    assert group.id == "g3" and batch.check() == (6, 2)
+    assert group.id == "g3" and batch.check() == Counts(6, 2)
 
 
 class TestGroups:
@@ -185,7 +185,7 @@ class TestGroups:
             pass
         with batch.group() as second:
             batch.post("A")
-        assert [first.id, second.id] == ["g1", "g2"] and batch.check() == (1, 1)
+        assert [first.id, second.id] == ["g1", "g2"] and batch.check() == Counts(1, 1)
 
     def test_as_many_as_a_batch_may_have(self):
         """Each name that is free is found at once, not by a look at all that are taken."""
@@ -199,7 +199,7 @@ class TestGroups:
 
         batch = Batch()
         filled(batch, 5000)
-        assert batch.check() == (10_000, 5000)
+        assert batch.check() == Counts(10_000, 5000)
         few, many = (lines_of(lambda: filled(Batch(), count)) for count in (100, 400))
         assert many < 5 * few
 
@@ -224,7 +224,7 @@ class TestGroups:
             raise KeyError
         with batch.group() as group:
             batch.post("C", after="b")
-        assert group.id == "g1" and last_of(batch)["dependsOn"] == ["b", "g"] and batch.check() == (3, 2)
+        assert group.id == "g1" and last_of(batch)["dependsOn"] == ["b", "g"] and batch.check() == Counts(3, 2)
 
 
 def test_check_says_where():
@@ -244,12 +244,12 @@ def test_read():
         b'{"requests":[{"id":"a","method":"post","url":"A","body":{"Price": 9.990}},'
         b'{"id":"2","dependsOn":["a"],"method":"get","url":"$a/B"}]}'
     )
-    assert check(batch.document()) == (2, 0)
+    assert check(batch.document()) == Counts(2, 0)
     with pytest.raises(Fault, match="F02"):
         Batch.read(b"{")
 
 
 def test_headers_of_a_post():
     common = {"Content-Type": "application/json", "Accept": "application/json"}
-    assert headers("stop") == common
-    assert headers() == headers("continue") == {**common, "Prefer": "continue-on-error"}
+    assert batch_headers("stop") == common
+    assert batch_headers() == batch_headers("continue") == {**common, "Prefer": "continue-on-error"}

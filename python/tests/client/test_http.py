@@ -10,7 +10,7 @@ from decimal import Decimal
 import pytest
 
 from app import make_app
-from odb_batch.client import AsyncBatchClient, Batch, BatchClient, RequestFailed, headers
+from odb_batch.client import AsyncBatchClient, Batch, BatchClient, RequestFailed, batch_headers
 from odb_batch.conformance import serving
 from odb_batch.testing import Scripted
 
@@ -23,7 +23,7 @@ def by_requests(url):
         with requests.Session() as session:
 
             def post(document):
-                return session.post(url, data=document, headers=headers(), timeout=60)
+                return session.post(url, data=document, headers=batch_headers(), timeout=60)
 
             return batch.send(post, **options)
 
@@ -38,7 +38,7 @@ def by_httpx(url):
         async with httpx.AsyncClient(timeout=60) as client:
 
             async def post(document):
-                answer = await client.post(url, content=document, headers=headers())
+                answer = await client.post(url, content=document, headers=batch_headers())
                 return answer.status_code, answer.headers, answer.content
 
             return await batch.send_async(post, **options)
@@ -70,9 +70,9 @@ def test_parts_of_twenty(client):
     with serving(application(service, heard)) as url:
         send = client(url)
         refused = send(batch, limit=20)
-        assert {it.status for it in refused} == {503, 424} and refused.retry_after == 7
+        assert {it.status for it in refused.values()} == {503, 424} and refused.retry_after == 7
         results = send(refused.rest(), limit=20)
-        assert [it.id for it in results if not it.is_success] == ["r30"] and results.retry_after == 7
+        assert [it.id for it in results.values() if not it.is_success] == ["r30"] and results.retry_after == 7
         assert send(results.rest())[lines[30]].is_success
     assert len(service.documents) == 5
     assert set(heard) == {("application/json", "continue-on-error", "application/json")}
@@ -83,7 +83,7 @@ def test_too_many_requests_in_a_batch(client):
     for _ in range(3):
         batch.get("Books")
     with serving(application(Scripted(limit=2), [])) as url:
-        assert {it.status for it in client(url)(batch)} == {413}
+        assert {it.status for it in client(url)(batch).values()} == {413}
 
 
 @pytest.mark.parametrize("limit", [2, 20])
@@ -99,7 +99,7 @@ def test_the_lending_library(client, limit, tmp_path):
         results = client(f"{url}/library/$batch")(batch, limit=limit)
     assert b'"Price":9.990' in results[read].body
     # What is in the group has changed the book, so its first ETag is an old one.
-    assert [it.status for it in results] == [201, 200, 204, 201, 412] and results.error is None
+    assert [it.status for it in results.values()] == [201, 200, 204, 201, 412] and results.error is None
     assert str(RequestFailed(results[late])).startswith(f"{late.id} (PATCH $1) 412 ")
 
 
@@ -111,7 +111,7 @@ def posts_of_requests(url, timeout=60, **options):
         with requests.Session() as session:
 
             def post(document):
-                return session.post(url, data=document, headers=headers(), timeout=timeout, **options)
+                return session.post(url, data=document, headers=batch_headers(), timeout=timeout, **options)
 
             return batch.send(post)
 
@@ -124,7 +124,7 @@ def posts_of_httpx(url, timeout=60):
 
     def send(batch):
         with httpx.Client(timeout=timeout) as client:
-            return batch.send(lambda it: client.post(url, content=it, headers=headers()))
+            return batch.send(lambda it: client.post(url, content=it, headers=batch_headers()))
 
     return send
 
@@ -135,7 +135,7 @@ def awaits_of_httpx(url, timeout=60):
 
     async def send(batch):
         async with httpx.AsyncClient(timeout=timeout) as client:
-            return await batch.send_async(lambda it: client.post(url, content=it, headers=headers()))
+            return await batch.send_async(lambda it: client.post(url, content=it, headers=batch_headers()))
 
     return lambda batch: asyncio.run(send(batch))
 
@@ -179,7 +179,7 @@ def test_a_timeout_of_the_client_of_http(posting):
     batch.post("B", {})
     with silent() as url:
         results = posting(url, timeout=0.2)(batch)
-    assert [it.status for it in results] == [504, 504] and type(results.error).__module__.partition(".")[0] in ("requests", "httpx")
+    assert [it.status for it in results.values()] == [504, 504] and type(results.error).__module__.partition(".")[0] in ("requests", "httpx")
 
 
 def test_a_service_that_is_not_there(posting):
@@ -214,7 +214,7 @@ def test_a_service_that_hangs_up(client):
     batch.get("C")
     with hanging_up() as url:
         results = client(url)(batch, limit=2)
-    assert [it.status for it in results] == [502, 502, 424] and isinstance(results.error, Exception)
+    assert [it.status for it in results.values()] == [502, 502, 424] and isinstance(results.error, Exception)
     assert len(results.rest()) == 2
 
 
@@ -306,7 +306,7 @@ def test_a_client_has_the_session_authenticate(patient):
     service = Scripted({"a": [503, 200]}, retry_after=0, schedule=[429])
     with serving(answer) as url:
         results = patient(f"{url}/odata/", credentials=("ada", "x"), headers={"X-Own": "1", "prefer": "own"})(gets("a", "b"))
-    assert [it.status for it in results] == [200, 200] and len(service.documents) == 3
+    assert [it.status for it in results.values()] == [200, 200] and len(service.documents) == 3
     wanted = {"PATH_INFO": "/odata/$batch", "HTTP_AUTHORIZATION": "Basic YWRhOng=", "HTTP_PREFER": "own", "HTTP_X_OWN": "1"}
     assert seen == [wanted] * 3
 
@@ -316,7 +316,7 @@ def test_a_client_whose_session_times_out(patient):
     batch.post("B", {}, id="b")
     with silent() as url:
         results = patient(url, timeout=0.2, attempts=1)(batch)
-    assert [it.status for it in results] == [504, 504] and [it.id for it in results.unknown] == ["b"]
+    assert [it.status for it in results.values()] == [504, 504] and [it.id for it in results.unknown] == ["b"]
 
 
 def test_a_client_that_has_no_connection(patient):

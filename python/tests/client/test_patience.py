@@ -8,7 +8,7 @@ import pytest
 
 from odb_batch import Answer, Fault, Refusal
 from odb_batch.client import AsyncBatchClient, Batch, BatchClient, BatchFailed
-from odb_batch.client import _patience
+from odb_batch.client import _retry
 from odb_batch.testing import Scripted
 
 ID, FIRST_SENT = "repeatability-request-id", "repeatability-first-sent"
@@ -38,7 +38,7 @@ def waits(monkeypatch):
     """The seconds that are slept; the clock of deadlines goes on by them."""
     found = []
     monkeypatch.setattr(time, "sleep", found.append)
-    monkeypatch.setattr(_patience.random, "uniform", lambda least, most: most)
+    monkeypatch.setattr(_retry.random, "uniform", lambda least, most: most)
     return found
 
 
@@ -66,7 +66,7 @@ class TestRests:
         batch.get("$b", id="c")
         batch.post("D?x=1", {}, id="d")
         results = send(batch, service, limit=2)
-        assert [it.status for it in results] == [201, 201, 200, 409] and counts(results) == [3, 1, 0, 0]
+        assert [it.status for it in results.values()] == [201, 201, 200, 409] and counts(results) == [3, 1, 0, 0]
         assert results.reason == "" and not results.rest() and results.error is None
         assert results[first].operation == "POST A" and results["d"].operation == "POST D"
         assert set(service.performed.values()) == {1}
@@ -98,8 +98,8 @@ class TestRests:
         batch = posts("a", "b", "c", "d")
         service = Scripted({"a": [429, 201], "c": 404}, mode="stop", retry_after=0)
         results = send(batch, service, mode="stop")
-        assert [it.status for it in results] == [201, 201, 404, 424] and results.reason == "c has failed"
-        assert [it.id for it in results.rest().send(Scripted().post)] == ["d"]
+        assert [it.status for it in results.values()] == [201, 201, 404, 424] and results.reason == "c has failed"
+        assert [it.id for it in results.rest().send(Scripted().post).values()] == ["d"]
 
 
 class TestWaits:
@@ -130,9 +130,9 @@ class TestWaits:
         seconds = []
         results = send(posts("a", "b"), Scripted(schedule=[503], retry_after=9), deadline=5)
         assert results.reason == "the deadline of 5 seconds is over" and waits == [] and counts(results) == [0, 0, 2, 0]
-        monkeypatch.setattr(_patience.time, "monotonic", lambda: 0.0)
+        monkeypatch.setattr(_retry.time, "monotonic", lambda: 0.0)
         client = BatchClient(lambda document, headers: None, deadline=5, timeout=60)
-        client._post_by = lambda document, headers, found: seconds.append(found) or (200, {}, b'{"responses":[]}')
+        client._post = lambda document, headers, found: seconds.append(found) or (200, {}, b'{"responses":[]}')
         client.send(posts("a"))
         assert seconds[0] <= 5
 
@@ -193,11 +193,11 @@ class TestRepeatableParts:
     @pytest.mark.parametrize("status", [400, 412, 422])
     def test_a_part_that_is_not_taken(self, status):
         results = send(posts("a", "b"), Scripted(repeatable=True, schedule=[rejected(status)]), limit=1)
-        assert [it.status for it in results] == [status, 424] and results.reason == f"a part was answered {status} as a whole"
+        assert [it.status for it in results.values()] == [status, 424] and results.reason == f"a part was answered {status} as a whole"
 
     def test_a_service_that_says_501_to_all(self):
         results = send(posts("a"), Scripted(schedule=[rejected(501)] * 9), attempts=2)
-        assert [it.status for it in results] == [501]
+        assert [it.status for it in results.values()] == [501]
 
     def test_a_part_that_stays_lost(self):
         heard = Heard(repeatable=True, schedule=["answer", "lose"] + [503] * 99, retry_after=0)
@@ -210,7 +210,7 @@ class TestRepeatableParts:
             raise Refusal(429, "Busy", "later", retry_after="0")
 
         results = BatchClient(post, backoff=0, attempts=2).send(posts("a"))
-        assert [it.status for it in results] == [429] and counts(results) == [0, 0, 1, 0]
+        assert [it.status for it in results.values()] == [429] and counts(results) == [0, 0, 1, 0]
 
 
 class TestTexts:

@@ -27,7 +27,7 @@ def scripted(draw):
 
 
 def statuses_of(results):
-    return {it.id: it.status for it in results}
+    return {it.id: it.status for it in results.values()}
 
 
 def requests_of(document):
@@ -61,4 +61,4 @@ def test_the_rest(drawn, mode):
     bodies = {it["id"]: it.get("body") for it in batch["requests"]}
     assert all(it.get("body") == bodies[it["id"]] for it in requests_of(rest.document()))
     again = rest.send(Scripted().post, limit=limit)
-    assert all(it.is_success for it in again) and not again.rest()
+    assert all(it.is_success for it in again.values()) and not again.rest()

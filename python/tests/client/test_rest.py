@@ -4,9 +4,9 @@ import json
 
 import pytest
 
-from odb_batch import Answer, Fault
+from odb_batch import Answer, Counts, Fault
 from odb_batch.client import Batch
-from odb_batch.client._rest import rest
+from odb_batch.client._rest import rest_document as rest
 from odb_batch.testing import Scripted
 
 
@@ -59,12 +59,12 @@ SCRIPT = {"throttled": [429, 201], "gone": 404, "f2": [503, 201], "g2": 409}
 def test_what_is_in_the_rest(limit):
     batch, service = library(), Scripted(SCRIPT)
     results = batch.send(service.post, limit=limit)
-    assert {it.id: it.status for it in results} == {
+    assert {it.id: it.status for it in results.values()} == {
         "a": 201, "throttled": 429, "behind": 424, "gone": 404, "never": 424, "f1": 424, "f2": 424, "g1": 424,
         "g2": 409, "h1": 201, "i": 424, "j": 424,
     }  # fmt: skip
     left = results.rest()
-    assert ids_of(left) == ["throttled", "behind", "f1", "f2", "i"] and left.check() == (5, 1)
+    assert ids_of(left) == ["throttled", "behind", "f1", "f2", "i"] and left.check() == Counts(5, 1)
     requests = {it["id"]: it for it in json.loads(left.document())["requests"]}
     assert "dependsOn" not in requests["throttled"]
     assert (requests["behind"]["url"], requests["behind"]["dependsOn"]) == ("/Made('a')/C", ["throttled"])
@@ -72,10 +72,10 @@ def test_what_is_in_the_rest(limit):
     assert (requests["i"]["url"], requests["i"]["headers"]["if-match"]) == ("/Made('h1')/I", '"1"')
     assert requests["i"]["dependsOn"] == ["busy"]
     second = left.send(service.post)
-    assert [it.status for it in second] == [201, 200, 424, 503, 424] and second.retry_after == 1.0
+    assert [it.status for it in second.values()] == [201, 200, 424, 503, 424] and second.retry_after == 1.0
     third = second.rest()
     assert ids_of(third) == ["f1", "f2", "i"]
-    assert all(it.is_success for it in third.send(service.post)) and not third.send(service.post).rest()
+    assert all(it.is_success for it in third.send(service.post).values()) and not third.send(service.post).rest()
 
 
 def test_references_hold_for_the_rest():
@@ -83,7 +83,7 @@ def test_references_hold_for_the_rest():
     first, second = batch.post("A", {}), batch.post("B", {})
     left = rest_of(batch, {"2": 429})
     left.get(f"{second}/C", after=second)
-    assert left.check() == (2, 0)
+    assert left.check() == Counts(2, 0)
     assert left.send(Scripted({"2": 201}).post)[second].status == 201
     with pytest.raises(KeyError):
         left.send(Scripted().post)[first]
@@ -98,7 +98,7 @@ def test_new_names_in_the_rest():
     left = rest_of(batch, {"1": 429})
     with left.group() as group:
         assert left.post("C", {}).id == "3"
-    assert group.id == "g2" and left.check() == (2, 1)
+    assert group.id == "g2" and left.check() == Counts(2, 1)
     left.get(done)
     with pytest.raises(Fault, match="F44"):
         left.check()

@@ -80,7 +80,7 @@ def test_the_kinds_are_those_of_the_rest(data):
         rest = results.rest()
     except ValueError:
         return  # it refers to what has no Location
-    assert [it.id for it in results.left] == [it.id for it in rest.send(Scripted().post)]
+    assert [it.id for it in results.left] == [it.id for it in rest.send(Scripted().post).values()]
 
 
 @share(3)

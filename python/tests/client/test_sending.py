@@ -22,7 +22,7 @@ def parts_of(service):
 
 
 def statuses_of(results):
-    return [it.status for it in results]
+    return [it.status for it in results.values()]
 
 
 def gets(*ids):
@@ -71,7 +71,7 @@ class TestResults:
         batch, service = Batch(), Scripted({"b": Answer(409, {"X-A": "1"}, sold)})
         a, b = batch.post("A", {}), batch.post("B", {}, id="b")
         results = batch.send(service.post)
-        assert [it.id for it in results] == ["1", "b"] and len(results) == 2 and results.error is None
+        assert [it.id for it in results.values()] == ["1", "b"] and len(results) == 2 and results.error is None
         assert results[a] == results["1"] and results[a].status == 201 and results[a].is_success
         assert results[a].raise_for_status() is results[a]
         assert results[b].headers["x-a"] == "1" and results[b].json() == sold
@@ -134,7 +134,7 @@ class TestParts:
         service = Scripted(limit=20)
         results = batch.send(service.post, limit=20)
         assert [len(it) for it in parts_of(service)] == [20, 10, 16]
-        assert all(it.is_success for it in results)
+        assert all(it.is_success for it in results.values())
         inner, outer = (json.loads(it)["requests"] for it in service.documents[:2])
         assert inner[1] == {"id": "2", "dependsOn": ["1"], "method": "get", "url": "$1/B0"}
         assert outer[0] == {"id": "21", "method": "get", "url": "/Made('1')/B19"}
@@ -275,7 +275,7 @@ class TestErrorsOfParts:
         assert sent == [["a", "b"], ["c", "d"]] and statuses_of(results) == [200, 200, status, status, 424]
         assert results["d"].headers["retry-after"] == "7" and results["d"].body == b"slow down"
         assert results.retry_after == 7.0 and results.error is None
-        assert [it.id for it in results.rest().send(Scripted().post)] == [*"cde"][0 if status in (429, 503) else 2 :]
+        assert [it.id for it in results.rest().send(Scripted().post).values()] == [*"cde"][0 if status in (429, 503) else 2 :]
 
     @pytest.mark.parametrize("status", [99, 202, 204, 600])
     def test_an_answer_that_says_nothing(self, status):
@@ -307,7 +307,7 @@ class TestErrorsOfParts:
         batch.get("C", id="c")
         results = batch.send(raising(error), limit=2)
         assert statuses_of(results) == [status, status, 424] and results.error is error
-        assert [it.id for it in results.rest().send(Scripted().post)] == ["a", "c"]
+        assert [it.id for it in results.rest().send(Scripted().post).values()] == ["a", "c"]
 
     def test_a_refusal_is_an_answer(self):
         refusal = Refusal(429, "Busy", "later", retry_after="7")

@@ -1,0 +1,1 @@
+"""The shared library, and the calls of it."""

@@ -1,0 +1,67 @@
+"""Calls of the library that write a text, and the numbers of their options."""
+
+from functools import partial
+from typing import Any, Literal, Optional, get_args
+
+from ..errors.faults import Fault, Position
+from . import library
+
+#: Whether a run goes on after an error; the position of a mode is its number.
+Mode = Literal["continue", "stop"]
+
+_MODES: tuple[str, ...] = get_args(Mode)
+MAX_WIDTH = 10_000
+#: How much longer than its documents a text is thought to be; a longer one takes a second call.
+MORE = 256
+
+
+def option_number(values: tuple[str, ...], name: str, value: str) -> int:
+    """Returns the number of the value of an option."""
+    if value not in values:
+        raise ValueError(f"{name} must be one of {', '.join(map(repr, values))}, not {value!r}")
+    return values.index(value)
+
+
+def mode_number(mode: Mode) -> int:
+    """Returns the number of a mode."""
+    return option_number(_MODES, "mode", mode)
+
+
+def policy_numbers(mode: Mode, width: int) -> tuple[int, int]:
+    """Returns the numbers of a policy."""
+    if isinstance(width, bool) or not isinstance(width, int) or not 1 <= width <= MAX_WIDTH:
+        raise ValueError(f"width must be a whole number from 1 to {MAX_WIDTH}, not {width!r}")
+    return mode_number(mode), width
+
+
+def status_error(name: str, status: int) -> Exception:
+    """Returns the exception for a status by which a function has written nothing."""
+    if status == library.OUT_OF_MEMORY:
+        return MemoryError(f"{name} ran out of memory")
+    return RuntimeError(f"{name} returned the status {status}")
+
+
+def read_text(name: str, *documents: bytes, options: tuple[Any, ...] = (), more: int = 0) -> bytes:
+    """Returns the text that a function writes, of documents and maybe of `more` bytes; raises what else it returns."""
+    status, text = library.call(name, documents, options, sum(map(len, documents)) + more + MORE)
+    if status == library.DONE:
+        return text
+    if status == library.REFUSED:
+        raise read_fault(text, *documents)
+    raise status_error(name, status)
+
+
+def read_fault(line: bytes, *documents: bytes) -> Fault:
+    """Returns the fault of a line ``fault CODE NAME PLACE``, in one of the documents: the batch, and maybe a second."""
+    _, code, name, place = line.decode().rstrip("\n").split(" ", 3)
+    if not documents:
+        return Fault(code, name, place)
+    document = documents[0 if place == "batch" or place.startswith("/requests/") else -1]
+    return Fault(code, name, place).in_document(document, partial(_position, document, place))
+
+
+def _position(document: bytes, place: str) -> Optional[Position]:
+    status, numbers = library.call_where(document, place.encode())
+    if status == library.OUT_OF_MEMORY:
+        raise status_error("odb_where", status)
+    return Position(*numbers) if status == library.DONE else None

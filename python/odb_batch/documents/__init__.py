@@ -1,0 +1,1 @@
+"""Documents: the bytes that the library reads, and the requests of a batch."""

@@ -1,0 +1,87 @@
+"""What is to be sent of each request of a batch: its method, URL, headers and body."""
+
+import json
+from dataclasses import dataclass
+from typing import Optional, Sequence
+
+from .._native import library
+from .._native.calls import MORE, read_fault, status_error
+from ..values import Value
+from .encoding import Document, document_bytes
+
+# How short a request may be in a document, and how many a batch may have.
+_SHORTEST = 32
+_MAX_REQUESTS = 10_000
+
+
+@dataclass(frozen=True)
+class Request(Value):
+    """A request of a batch, as it is to be sent.
+
+    Attributes:
+        id: Its id.
+        method: Its method in upper case, as ``"POST"``.
+        url: Its URL, as the batch has it.
+        reference: The id of the request that the URL refers to, or None.
+        rest: The part of the URL after that id: of ``$a/Lines?x=1`` the reference is ``a``, and the rest is
+            ``/Lines?x=1``. The whole URL if it refers to no request.
+        headers: Its headers, with their names in lower case.
+        group: Its atomicity group, or None.
+        body: The bytes of its body, just as they are in the document, whatever numbers they have; or None. A
+            body that is ``null`` is none.
+    """
+
+    id: str
+    method: str
+    url: str
+    reference: Optional[str]
+    rest: str
+    headers: dict[str, str]
+    group: Optional[str]
+    body: Optional[bytes]
+
+
+def _request(document: bytes, text: bytes, numbers: tuple[int, ...], parts: Sequence[tuple[int, ...]]) -> Request:
+    """Returns the request whose parts lie there; its reference is the position of another one."""
+    request_id, method, url, rest, headers, group, body = (
+        slice(start, start + length) for start, length in zip(numbers[0:14:2], numbers[1:14:2])
+    )
+    other = (0, 0) if numbers[14] == library.NONE else parts[numbers[14]]
+    return Request(
+        text[request_id].decode(),
+        text[method].decode(),
+        text[url].decode(),
+        text[other[0] : other[0] + other[1]].decode() or None,
+        text[rest].decode(),
+        json.loads(text[headers]),
+        None if numbers[10] == library.NONE else text[group].decode(),
+        None if numbers[12] == library.NONE else document[body],
+    )
+
+
+def requests(batch: Document) -> tuple[Request, ...]:
+    """Returns what is to be sent of each request of a batch, in the order of the batch.
+
+    >>> from odb_batch import requests
+    >>> for request in requests('''{"requests": [
+    ...     {"id": "a", "method": "post", "url": "Orders", "body": {"price": 9.990}},
+    ...     {"id": "b", "method": "get", "url": "$a/Lines?x=1", "dependsOn": ["a"]}]}'''):
+    ...     print(request.method, request.reference, request.rest, request.body)
+    POST None Orders b'{"price": 9.990}'
+    GET a /Lines?x=1 None
+
+    A body is the bytes of the document: of a batch that is a mapping, of the JSON that ``json`` writes of it.
+
+    Raises:
+        Fault: The batch is refused.
+        MemoryError: An allocation failed.
+    """
+    document = document_bytes(batch)
+    status, text, parts = library.call_requests(
+        document, len(document) + MORE, min(len(document) // _SHORTEST + 1, _MAX_REQUESTS)
+    )
+    if status == library.REFUSED:
+        raise read_fault(text, document)
+    if status != library.DONE:
+        raise status_error("odb_requests", status)
+    return tuple(_request(document, text, numbers, parts) for numbers in parts)

@@ -1,0 +1,366 @@
+"""A batch on its way: which unit begins, and what is reported. It has no threads, and does not send."""
+
+from typing import Callable, Generator, Optional, Sequence, Union
+
+from .._native.calls import MAX_WIDTH, Mode
+from ..commands import plan
+from ..documents.encoding import Document, Report, Start, document_bytes
+from ..documents.requests import requests
+from ..errors.faults import Fault, Refused
+from ..http.bodies import text_json, to_json
+from ..http.messages import (
+    FAILED, LOG, Answer, Answered, GroupFailed, PreparedRequest, Refusal, answer_for, validate_answer, visible_headers,
+)  # fmt: skip
+from ..http.options import require_limit
+from ..runs import Run
+from .groups import SKIPPED, MemberRefused, PreparedGroup
+from .journal import Journal, JournalEvent, ReportUnit, StartUnit, Stop
+from .references import ReferenceResolver, ServiceUrls
+
+
+class Unit:
+    """An atomicity group, or a request without one, that has begun.
+
+    Attributes:
+        ids: Its requests in order: each comes after those of the group that it needs.
+        group: The name of the group, or None.
+        open: The request that has started and is not reported yet, or None.
+        is_noted: Whether the journal has its start.
+    """
+
+    __slots__ = ("ids", "group", "open", "is_noted")
+
+    def __init__(self, ids: tuple[str, ...], group: Optional[str], is_noted: bool = False) -> None:
+        self.ids, self.group, self.is_noted = ids, group, is_noted
+        self.open: Optional[str] = ids[0]
+
+    def __str__(self) -> str:
+        return self.ids[0] if self.group is None else f"the group {self.group}"
+
+
+# How many bytes of a body a live run takes.
+MAX_BODY_BYTES = 16_777_216
+TOO_LONG = Refusal(507, "TooLong", "The answer is too long for a batch").answer
+# The answer to what was out when a process ended, and is not sent again.
+LOST = Refusal(500, "Lost", "The gateway was ended: it is not known whether the request was performed").answer
+
+
+class Execution:
+    """A batch on its way from its document to its response.
+
+    A unit that :meth:`begin` returns needs nothing more from outside of it. So a transaction that begins now does not
+    wait for what waits for it. It may have to wait for a place, so :meth:`confirm` asks again whether it is sent.
+
+    One thread calls ``begin`` and ``response``. The other methods may be called by any, for different units.
+
+    Args:
+        batch: The batch.
+        mode, width: Those of its run.
+        limit: How many requests it may have.
+        has_transactions: Whether groups can be kept.
+        service: Where its requests may lead.
+        stop: Is called before a unit begins, and before it is sent. Once it returns true, nothing more starts.
+        sends_groups: Whether a group is sent as one.
+        journal: Where its events are kept, and what has happened before.
+
+    Attributes:
+        resumed: The units that were out when another process ended, and are sent again.
+
+    Raises:
+        Fault: The batch is refused.
+        Refusal: It has too many requests, or groups that cannot be kept.
+        ValueError: An event of the journal is not one of this batch.
+    """
+
+    def __init__(
+        self,
+        batch: Document,
+        *,
+        mode: Mode,
+        width: int,
+        limit: int,
+        has_transactions: bool,
+        service: ServiceUrls,
+        stop: Optional[Callable[[], bool]],
+        sends_groups: bool = False,
+        journal: Optional[Journal] = None,
+    ) -> None:
+        require_limit(limit)
+        document = document_bytes(batch)
+        given = requests(document)
+        if len(given) > limit:
+            raise Refusal(413, "BatchTooLong", f"A batch may have {limit} requests")
+        has_groups = any(request.group is not None for request in given)
+        if has_groups and not (has_transactions or sends_groups):
+            raise Refusal(501, "NoGroups", "Atomicity groups are not supported here")
+        self._requests = {request.id: request for request in given}
+        self._resolver, self._stop, self._journal = ReferenceResolver(given, service), stop, journal
+        self._plan = plan(document) if has_groups and sends_groups else None
+        # Whether nothing more starts: since that was asked for, and in mode stop after an error.
+        self._is_stopped, self._has_failed, self._mode = False, False, mode
+        # How many requests are of units that have not begun.
+        self._left = len(given)
+        happened = journal.events if journal is not None else ()
+        # What was out before may be more than the width is now.
+        self._run = Run(document, mode=mode, width=MAX_WIDTH if happened else width)
+        try:
+            self.resumed = self._resume(happened)
+        except (Fault, Refused, LookupError, TypeError, ValueError) as error:
+            self._run.close()
+            raise ValueError(f"the journal has an event that is not one of this batch: {error}") from None
+
+    def __enter__(self) -> "Execution":
+        return self
+
+    def __exit__(self, *_: object) -> None:
+        self._run.close()
+
+    def _resume(self, events: Sequence[JournalEvent]) -> list[Unit]:
+        """Takes what has happened before; returns the units that were out and are sent again, which are GETs. The
+        others that were out are lost."""
+        out: dict[str, None] = {}
+        for event in events:
+            if isinstance(event, (Report, ReportUnit)):
+                for report in event.reports if isinstance(event, ReportUnit) else (event,):
+                    self._replay_report(report)
+                    del out[report.id]
+            elif isinstance(event, Stop):
+                self._run.stop()
+            elif isinstance(event, StartUnit):
+                self._run.start_unit(event.ids[0])
+                out.update(dict.fromkeys(event.ids))
+                self._left -= len(event.ids)
+            else:
+                self._run.start(event.id)
+                out[event.id] = None
+                self._left -= 1
+        again = set(filter(self.may_be_sent_again, out))
+        for request_id in [request_id for request_id in out if request_id not in again]:
+            LOG.error("%s was out when a process ended, and is lost", request_id)
+            self._report_and_note(request_id, LOST)
+        return [Unit((request_id,), None, is_noted=True) for request_id in out if request_id in again]
+
+    def may_be_sent_again(self, request_id: str) -> bool:
+        """Returns whether a request is a GET that is sent alone."""
+        return self._requests[request_id].method == "GET" and self._requests[request_id].group is None
+
+    def _replay_report(self, event: Report) -> None:
+        headers = dict(event.headers or {})
+        self._run.report(event.id, event.status, headers or None, event.body)
+        self._resolver.record(event.id, Answer(event.status, headers, event.body))
+
+    def _note(self, event: JournalEvent) -> None:
+        if self._journal is not None:
+            self._journal.write(event)
+
+    def begin(self) -> Optional[Unit]:
+        """Starts the first request of the first unit that may begin, or all of them if it is a group that is sent as
+        one; None if no unit may begin now."""
+        self._ask_to_stop()
+        while self._left and (ids := self._run.next_unit()) is not None:
+            unit = Unit(ids, self._requests[ids[0]].group)
+            try:
+                if self._is_one(unit):
+                    self._run.start_unit(ids[0])
+                else:
+                    self._run.start(ids[0])
+            except Refused:
+                continue  # meanwhile another thread has reported an error that stops the run
+            self._left -= len(ids)
+            return unit
+        return None
+
+    def confirm(self, unit: Unit) -> bool:
+        """Notes the start of a unit that is sent now, and returns true. If nothing more may start meanwhile, it is
+        answered 424 instead. The journal then has nothing of it, and who goes on from there answers the same."""
+        self._ask_to_stop()
+        # One that was on its way when a process ended has started before what failed since.
+        is_over = self._is_stopped or (self._has_failed and not unit.is_noted)
+        if is_over:
+            self._drop(unit)
+        elif self._journal is not None and not unit.is_noted:
+            self._note(StartUnit(unit.ids) if self._is_one(unit) else Start(unit.ids[0]))
+        return not is_over
+
+    def _is_one(self, unit: Unit) -> bool:
+        """Whether a unit is a group that is sent as one."""
+        return unit.group is not None and self._plan is not None
+
+    def _drop(self, unit: Unit) -> None:
+        unit.open = None
+        for request_id in unit.ids if self._is_one(unit) else unit.ids[:1]:
+            event = self._report(request_id, SKIPPED)
+            if unit.is_noted:
+                self._note(event)
+
+    def _ask_to_stop(self) -> None:
+        if self._stop is not None and not self._is_stopped and self._stop():
+            self.stop()
+            self._note(Stop())
+
+    def stop(self) -> None:
+        """Lets nothing more start."""
+        self._is_stopped = True
+        self._run.stop()
+
+    def prepare(self, unit: Unit) -> PreparedRequest:
+        """Returns the open request of a unit, as it is sent; raises Refusal if it cannot be."""
+        return self._resolver.prepare(str(unit.open))
+
+    # A group that is sent as one
+
+    def prepare_group(self, unit: Unit) -> PreparedGroup:
+        """Returns a group as it is sent; raises MemberRefused if a request of it cannot be."""
+        assert self._plan is not None
+        members, needs, inside = [], {}, frozenset(unit.ids)
+        for request_id in unit.ids:
+            try:
+                members.append(self._resolver.prepare_member(request_id, inside))
+            except Refusal as refusal:
+                raise MemberRefused(request_id, refusal.answer) from None
+            needs[request_id] = tuple(name for name in self._plan.request(request_id).needs if name in inside)
+        return PreparedGroup(str(unit.group), tuple(members), needs)
+
+    def finish_group(self, unit: Unit, answered: Union[Sequence[Answered], BaseException]) -> None:
+        """Reports all requests of a group that was sent as one, by what each is answered in order, or by the exception in
+        place of that. It is one event: a process that ends keeps all or none."""
+        answers = self._group_answers(unit, answered)
+        unit.open = None
+        self._note(ReportUnit(tuple(self._report(request_id, answer) for request_id, answer in zip(unit.ids, answers))))
+
+    def _group_answers(self, unit: Unit, answered: Union[Sequence[Answered], BaseException]) -> Sequence[Answer]:
+        if isinstance(answered, MemberRefused):
+            return [answered.answer if request_id == answered.id else SKIPPED for request_id in unit.ids]
+        try:
+            if isinstance(answered, BaseException):
+                return [answer_for(answered, str(unit))] * len(unit.ids)
+            if len(answered) != len(unit.ids):
+                raise TypeError(f"{unit} has {len(unit.ids)} requests, and {len(answered)} answers")
+            return list(map(validate_answer, answered))
+        except Exception as error:
+            return [answer_for(error, str(unit))] * len(unit.ids)
+
+    # The requests of a unit that are sent one after another
+
+    def steps(self, unit: Unit) -> Generator[PreparedRequest, Union[Answered, BaseException, None], Answer]:
+        """Yields the requests of a unit as they are sent, and is sent what each is answered, or the exception in place of
+        that. The value in the end is the answer to the last one, which is not reported yet.
+
+        Raises:
+            GroupFailed: A request of a group has not succeeded, or the body of the last one cannot be written.
+            Refused: Nothing more may start.
+        """
+        for request_id in unit.ids:
+            if unit.open != request_id:
+                self._run.start(request_id)
+                unit.open = request_id
+            try:
+                answered = yield self._resolver.prepare(request_id)
+                if isinstance(answered, BaseException):
+                    answer = answer_for(answered, f"the request {request_id}")
+                else:
+                    answer = validate_answer(answered)
+            except Exception as error:
+                answer = answer_for(error, f"the request {request_id}")
+            if unit.group is not None:
+                self._report_member(unit, answer)
+        return answer
+
+    def _report_member(self, unit: Unit, answer: Answer) -> None:
+        """Reports the open request of a group; the last one only if it fails, since it is reported after the commit."""
+        if unit.open == unit.ids[-1]:
+            answer, _ = self._write_body(unit.ids[-1], answer)
+            if answer.is_success:
+                return
+        self.finish(unit, answer)
+        if not answer.is_success:
+            raise GroupFailed(unit.group)
+
+    # The end of a unit
+
+    def refuse(self, unit: Unit, answer: Answer) -> None:
+        """Answers a unit that is not sent, since it has no place."""
+        if self._is_one(unit):
+            self.finish_group(unit, [answer] * len(unit.ids))
+        else:
+            self.finish(unit, answer)
+
+    def failure_answer(self, unit: Unit, error: BaseException) -> Optional[Answer]:
+        """Returns what the open request of a unit is answered, since its transaction has ended by an exception; None if
+        none is open: the group has failed before."""
+        if unit.open is not None:
+            return answer_for(error, str(unit))
+        if not isinstance(error, (GroupFailed, Refused)):
+            LOG.error("%s could not be rolled back", unit, exc_info=error)
+        return None
+
+    def finish(self, unit: Unit, answer: Optional[Answer]) -> None:
+        """Reports the open request of a unit, if there is one; without an answer it has failed."""
+        if unit.open is not None:
+            request_id, unit.open = unit.open, None
+            self._report_and_note(request_id, answer or FAILED)
+
+    def _write_body(self, request_id: str, answer: Answer) -> tuple[Answer, bytes]:
+        """Returns an answer to a request, and the text of its body; that of a failure if the body cannot be written. If it is
+        too long for a response a GET is refused; any other request was performed, so its answer loses the body."""
+        try:
+            text = to_json(answer, answer.headers)
+        except Exception as error:
+            LOG.error("the body of the answer to %s cannot be written", request_id, exc_info=error)
+            return FAILED, to_json(FAILED, {})
+        if len(text) <= MAX_BODY_BYTES:
+            return answer, text
+        LOG.error("the body of the answer to %s has more than %d bytes", request_id, MAX_BODY_BYTES)
+        if self._requests[request_id].method == "GET":
+            return TOO_LONG, to_json(TOO_LONG, TOO_LONG.headers)
+        return Answer(answer.status, answer.headers), b""
+
+    def _report_and_note(self, request_id: str, answer: Answer) -> None:
+        self._note(self._report(request_id, answer))
+
+    def _report(self, request_id: str, answer: Answer) -> Report:
+        """Reports the answer to a request; returns the event."""
+        answer, text = self._write_body(request_id, answer)
+        self._resolver.record(request_id, answer)
+        # Before the report, after which another thread may begin what it allows.
+        self._has_failed = self._has_failed or (self._mode == "stop" and answer.status >= 400)
+        headers = visible_headers(answer)
+        try:
+            self._run.report(request_id, answer.status, headers or None, text)
+        except Fault:
+            headers, text = self._report_unread(request_id, answer, headers, text)
+        return Report(request_id, answer.status, headers, text or None)
+
+    def _report_unread(
+        self, request_id: str, answer: Answer, headers: dict[str, str], text: bytes
+    ) -> tuple[dict[str, str], bytes]:
+        """Reports an answer that the run cannot read: with its body as a string, or else without the headers that are
+        not in ASCII, or both. Returns what it has reported."""
+        wire = bytes(answer.body) if isinstance(answer.body, (bytes, bytearray, memoryview)) else text
+        string = text_json(wire, {}) if wire else b""
+        string = string if len(string) <= MAX_BODY_BYTES else b""
+        plain = {name: value for name, value in headers.items() if name.isascii() and value.isascii()}
+        for heads, body in ((headers, string), (plain, text), (plain, string)):
+            try:
+                self._run.report(request_id, answer.status, heads or None, body)
+            except Fault:
+                if (heads, body) == (plain, string):
+                    raise
+                continue
+            if heads != headers:
+                LOG.warning("the answer to %s has a header that is not Unicode", request_id)
+            if body != text:
+                LOG.warning("the answer to %s has a body that is not JSON", request_id)
+            break
+        return heads, body
+
+    def response(self) -> bytes:
+        """Returns the response document of the finished run.
+
+        Raises:
+            RuntimeError: The answer to a request could not be reported. It is not a Fault, which would be one of the
+            batch.
+        """
+        if not self._run.finished:
+            raise RuntimeError("a request was started, and its answer could not be reported")
+        return self._run.response()

@@ -1,0 +1,95 @@
+"""Atomicity groups that are sent as one: the batch that a group is, and what its requests are answered."""
+
+import json
+from dataclasses import dataclass, replace
+from typing import Mapping
+
+from ..documents.requests import Request
+from ..http.batches import batch_json, request_json, response_members
+from ..http.bodies import is_json, media_type
+from ..http.messages import Answer, Answered, Refusal, header_dict, validate_answer
+from ..values import Value
+
+_BAD_RESPONSE = Refusal(502, "BadResponse", "What the service has answered is not the response to the group").answer
+#: The answer to a request that was not performed, since another one of its group has failed.
+SKIPPED = Answer(424)
+
+
+class MemberRefused(Exception):
+    """A request of a group cannot be sent, so the group is not: that one is answered so, and the others 424.
+
+    Attributes:
+        id: The id of the request.
+        answer: What it is answered.
+    """
+
+    def __init__(self, id: str, answer: Answer) -> None:
+        super().__init__(id)
+        self.id, self.answer = id, answer
+
+
+@dataclass(frozen=True)
+class PreparedGroup(Value):
+    """An atomicity group, as it is sent as one: as a batch of its own.
+
+    >>> from odb_batch import PreparedGroup, Request
+    >>> order = Request("a", "POST", "/v2/Orders", None, "/v2/Orders", {}, "g", b'{"price": 9.990}')
+    >>> group = PreparedGroup("g", (order,), {})
+    >>> group.batch()
+    b'{"requests":[{"id":"a","atomicityGroup":"g","method":"post","url":"/v2/Orders","body":{"price": 9.990}}]}'
+    >>> group.answers((200, {}, b'{"responses": [{"id": "a", "status": 201, "body": {"price": 9.990}}]}'))
+    [Answer(status=201, headers={}, body=b'{"price": 9.990}')]
+
+    Attributes:
+        name: The name of the group.
+        requests: Its requests in order. The URL of one that refers to another one of the group is as in the document;
+            any other is joined to the base and in ASCII, with the URL of the other resource in place of a reference.
+        needs: The ids of the group that a request depends on, by its id.
+    """
+
+    name: str
+    requests: tuple[Request, ...]
+    needs: Mapping[str, tuple[str, ...]]
+
+    def batch(self) -> bytes:
+        """Returns the batch of the group (OData JSON Format 4.01, section 19.1). Bodies are the bytes of the
+        document."""
+        members = (replace(request, group=self.name) for request in self.requests)
+        return batch_json([request_json(member, self.needs.get(member.id, ())) for member in members])
+
+    def answers(self, answered: Answered) -> list[Answer]:
+        """Returns what each request is answered, in order, by what the service has answered to the batch of the group.
+
+        Bodies of JSON are the bytes of the response. A request that the service leaves out is answered 424 after an
+        error, else 502. With another status than 200 each request is answered what the batch was. What is no response
+        document, or answers a request twice, is 502 ``BadResponse`` for each request.
+
+        Raises:
+            TypeError: It is not a status with headers and a body.
+        """
+        answer = validate_answer(answered)
+        if answer.status != 200:
+            return [answer if not answer.is_success else _BAD_RESPONSE] * len(self.requests)
+        try:
+            found = _responses(bytes(answer.body).decode("utf-8-sig"))
+            missing = _BAD_RESPONSE if all(answer.is_success for answer in found.values()) else SKIPPED
+            return [found.get(request.id, missing) for request in self.requests]
+        except (IndexError, KeyError, TypeError, ValueError, RecursionError, AttributeError):
+            return [_BAD_RESPONSE] * len(self.requests)
+
+
+def _responses(text: str) -> dict[str, Answer]:
+    """The answers of a response document by the ids of their requests; raises an exception if it is none."""
+    found: dict[str, Answer] = {}
+    for texts in response_members(text):
+        request_id = json.loads(texts["id"])
+        headers = header_dict((json.loads(texts.get("headers", "null")) or {}).items())
+        if request_id in found:
+            raise ValueError("a request is answered twice")
+        body = texts.get("body", "null")
+        answer = Answer(json.loads(texts["status"]), headers)
+        if body != "null":
+            kept = is_json(media_type(headers))
+            answer = Answer(answer.status, headers, body.encode() if kept else json.loads(body))
+        found[request_id] = validate_answer(answer)
+    return found

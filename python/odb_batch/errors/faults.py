@@ -1,0 +1,125 @@
+"""Why a document is refused, or a start or a report of a live run."""
+
+from functools import cached_property
+from typing import Callable, NamedTuple, Optional
+
+from .explanations import EXPLANATIONS
+from .findings import describe
+
+
+class Position(NamedTuple):
+    """Where an element begins in a document, as an odb_position has it."""
+
+    line: int
+    column: int
+    offset: int
+
+
+class OdbError(Exception):
+    """The library refuses something by its rules: the base of :class:`Fault` and :class:`Refused`.
+
+    A wrong option and a closed run are a plain ValueError, not of this class.
+
+    Attributes:
+        code: The code of the fault or the cause, as ``F41``, ``S4`` or ``P2``.
+        name: Its name, as ``ForwardName``.
+        explanation: What it means, and how it is repaired.
+    """
+
+    code: str
+    name: str
+
+    def __init__(self, code: str, name: str, where: str) -> None:
+        super().__init__(code, name, where)
+        self.code = code
+        self.name = name
+
+    def __str__(self) -> str:
+        return " ".join(map(str, self.args))
+
+    @property
+    def explanation(self) -> str:
+        return EXPLANATIONS.get(self.code, "")
+
+
+class Fault(OdbError, ValueError):
+    """A document is refused: by its first fault, or by one of all that :func:`faults` returns.
+
+    Its text is the code, the name and the place, as ``F41 ForwardName /requests/0``. Where that begins in the document, as
+    ``line``, ``column`` and ``offset`` say, is looked up when one of them is asked for; a fault keeps its document for that.
+    In a document that is not JSON (F02) they are those of the first byte that cannot be there, or of the end. Of a mapping
+    they are those in the JSON that ``json`` writes of it. They are None for a fault that a live run has found.
+
+    Attributes:
+        place: The document, as ``batch``, or its element, as ``/requests/0``, counted from 0; ``report``
+            for the headers or the body of a report of a live run.
+    """
+
+    place: str
+    _document: Optional[bytes] = None
+    _locate: Optional[Callable[[], Optional[Position]]] = None
+    # Whether its text is for who has not written the document: the message in place of the name and the place.
+    _is_of_builder = False
+
+    def __init__(self, code: str, name: str, place: str) -> None:
+        super().__init__(code, name, place)
+        self.place = place
+
+    def in_document(self, document: bytes, locate: Callable[[], Optional[Position]]) -> "Fault":
+        """Notes the document that has the fault, and what looks up where; returns the fault itself."""
+        self._document, self._locate = document, locate
+        return self
+
+    def __str__(self) -> str:
+        return f"{self.code} {self.message}" if self._is_of_builder else super().__str__()
+
+    @property
+    def message(self) -> str:
+        """What is wrong, for people: the id of the request and the name that is wrong, where there are any, then the
+        name of the fault and its explanation.
+
+        >>> from odb_batch import Fault, check
+        >>> try:
+        ...     check({"requests": [{"id": "a", "method": "get", "url": "A", "dependsOn": ["b"]}]})
+        ... except Fault as fault:
+        ...     print(fault.message[:54])
+        a: "b" in dependsOn is unknown. UnknownName: A name in
+        """
+        found = "" if self._document is None else describe(self.code, self._document, self.place)
+        return f"{found}{self.name}: {' '.join(self.explanation.split())}"
+
+    @cached_property
+    def _position(self) -> Optional[Position]:
+        return None if self._locate is None else self._locate()
+
+    @property
+    def line(self) -> Optional[int]:
+        """The line of the document in which the element begins, from 1."""
+        return self._position and self._position.line
+
+    @property
+    def column(self) -> Optional[int]:
+        """The column in that line, from 1, in characters."""
+        return self._position and self._position.column
+
+    @property
+    def offset(self) -> Optional[int]:
+        """How many bytes of the document come before the element."""
+        return self._position and self._position.offset
+
+
+class Refused(OdbError):
+    """A start or a report of a live run is refused, and nothing has changed.
+
+    Its text is the code, the name and the id, as ``S4 Waiting list``. The code is that of the first cause, S1 to S5 of
+    a start, P1 or P2 of a report.
+
+    Attributes:
+        id: The id of the request.
+    """
+
+    id: str
+
+    def __init__(self, code: str, name: str, id: str) -> None:
+        super().__init__(code, name, id)
+        self.id = id

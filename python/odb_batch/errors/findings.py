@@ -1,0 +1,99 @@
+"""What is wrong in a batch that is refused, in words: the id of the request, and the name that is wrong."""
+
+import json
+from typing import Any, Iterable, Optional
+from urllib.parse import unquote
+
+_MEMBERS = frozenset({"id", "method", "url", "atomicityGroup", "dependsOn", "headers", "body"})
+# How much of a name is shown.
+_MAX_LENGTH = 100
+
+
+def describe(code: str, document: bytes, place: str) -> str:
+    """Returns how a message about a fault begins, such as ``order: "lines" is not listed in dependsOn. ``: with the id of
+    the request, and the name that is wrong. Only with the id if it is not about a name; empty without an id."""
+    try:
+        requests = json.loads(document)["requests"]
+        at = int(place.rpartition("/")[2])
+        request_id = requests[at]["id"]
+        if not isinstance(request_id, str):
+            return ""
+        wrong = _find_wrong(code, requests, at)
+    except (ValueError, TypeError, LookupError, AttributeError, RecursionError):
+        return ""
+    return f"{_shorten(request_id)}: {wrong}. " if wrong else f"{_shorten(request_id)}: "
+
+
+def _find_wrong(code: str, requests: list[dict[str, Any]], at: int) -> str:
+    request = requests[at]
+    batch = _Names(requests)
+    listed = list(request.get("dependsOn") or [])
+    if code in ("F40", "F41", "F42", "F43"):
+        tests = {"F40": batch.is_unknown, "F41": batch.is_later, "F42": batch.is_own_group, "F43": batch.is_uncovered}
+        name = next(name for name in listed if tests[code](at, name))
+        if code == "F43":
+            group = requests[batch.positions[name]]["atomicityGroup"]
+            return f"{_quote(group)}, the group of {_quote(name)}, is not listed in dependsOn"
+        says = {"F40": "is unknown", "F41": "does not come before it", "F42": "is its own group"}
+        return f"{_quote(name)} in dependsOn {says[code]}"
+    if code in ("F44", "F45", "F46"):
+        says = {"F44": "in the URL is unknown", "F45": "in the URL does not come before it"}
+        return f"{_quote(_reference(request['url']))} {says.get(code, 'is not listed in dependsOn')}"
+    if code == "F12":
+        name = next(name for name in request if name not in _MEMBERS | {"if"} and "@" not in name)
+        return f"the member {_quote(name)} is unknown"
+    if code == "F19":
+        return f"the header {_quote(_repeated(request['headers']))} comes twice"
+    if code == "F32":
+        return f"the group {_quote(request['atomicityGroup'])} has been left before"
+    return {"F30": "an earlier request has this id", "F31": "a group has this name, too"}.get(code, "")
+
+
+class _Names:
+    """The ids and the groups of a batch, each with the position of the first request that has it."""
+
+    def __init__(self, requests: list[dict[str, Any]]) -> None:
+        self._requests = requests
+        self.positions: dict[str, int] = {}
+        self.groups: dict[str, int] = {}
+        for at, request in enumerate(requests):
+            self.positions.setdefault(request["id"], at)
+            if request.get("atomicityGroup") is not None:
+                self.groups.setdefault(request["atomicityGroup"], at)
+
+    def is_unknown(self, _: int, name: str) -> bool:
+        return name not in self.positions and name not in self.groups
+
+    def is_later(self, at: int, name: str) -> bool:
+        return self.positions.get(name, -1) >= at or self.groups.get(name, -1) > at
+
+    def is_own_group(self, at: int, name: str) -> bool:
+        own: Optional[str] = self._requests[at].get("atomicityGroup")
+        return name == own
+
+    def is_uncovered(self, at: int, name: str) -> bool:
+        if name not in self.positions:
+            return False
+        request, group = self._requests[at], self._requests[self.positions[name]].get("atomicityGroup")
+        return group not in (None, request.get("atomicityGroup"), *request["dependsOn"])
+
+
+def _reference(url: str) -> str:
+    return unquote(url.partition("/")[0].partition("?")[0].partition("#")[0])[1:]
+
+
+def _repeated(names: Iterable[str]) -> str:
+    seen = set()
+    for name in names:
+        if name.lower() in seen:
+            return name
+        seen.add(name.lower())
+    return ""
+
+
+def _shorten(text: str) -> str:
+    return text if len(text) <= _MAX_LENGTH else text[:_MAX_LENGTH] + ".."
+
+
+def _quote(name: str) -> str:
+    return json.dumps(_shorten(name), ensure_ascii=False)

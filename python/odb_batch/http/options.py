@@ -1,0 +1,27 @@
+"""The options that middlewares have in common, as they are checked."""
+
+from typing import Optional
+
+from .batch_request import batch_folder
+
+
+def require_seconds(name: str, seconds: Optional[float]) -> Optional[float]:
+    """Returns the value of an option that is a number of seconds, or None; raises ValueError if it is not above 0."""
+    if seconds is not None and not seconds > 0:
+        raise ValueError(f"{name} must be above 0, or None, not {seconds!r}")
+    return seconds
+
+
+def root_path(root: Optional[str], path: str) -> str:
+    """Returns the path that each URL has to begin with; raises ValueError if it or the path of batches is not one."""
+    if not path.startswith("/"):
+        raise ValueError(f"the path must begin with /, not {path!r}")
+    if root is not None and not (root.startswith("/") and root.endswith("/")):
+        raise ValueError(f"the root must begin and end with /, not {root!r}")
+    return batch_folder(path) if root is None else root
+
+
+def require_limit(limit: int) -> None:
+    """Raises ValueError if no batch may have as many requests."""
+    if isinstance(limit, bool) or not isinstance(limit, int) or limit < 1:
+        raise ValueError(f"limit must be a whole number above 0, not {limit!r}")
