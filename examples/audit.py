@@ -1,11 +1,14 @@
 #!/usr/bin/env python3
 """Audits a log of batches with the responses of their service, a pair a line, and counts the lines by fault.
 
-    python3 examples/audit.py LOG [--command match] [--strict] [--jobs 4] [--program PATH]
+    python3 examples/audit.py LOG [--command match] [--strict] [--list [N]] [--jobs 4] [--program PATH]
+    python3 examples/audit.py LOG --extract LINE
 
 Each line of the log is what `odb_batch match --lines` reads: the array `[batch, responses]`; or what another command reads.
 GNU parallel splits the log where it is installed; else this script gives each of its processes a part of the log. A part
 begins after a newline, so a line belongs to one part. It prints how many lines each fault has, and how many have none.
+With `--list` the first N lines with a fault come first, 100 if N is not given: the number of the line, and its fault.
+`--extract` audits nothing: it writes the two documents of a line to LINE.batch.json and LINE.second.json, byte for byte.
 
     status  when
     0       no line has a fault
@@ -18,6 +21,7 @@ With 2, 3 and 127 one line on standard error says why, after those of the progra
 """
 
 import argparse
+import json
 import os
 import re
 import shutil
@@ -26,19 +30,47 @@ import sys
 from collections import Counter
 from concurrent.futures import ThreadPoolExecutor
 from contextlib import suppress
+from itertools import islice
 from threading import Thread
-from typing import IO, Iterable, List, NoReturn, Optional, Tuple
-
-# How many lines have each fault, by its code, or none.
-Counts = Counter[Optional[str]]
+from typing import IO, Callable, Iterable, List, NoReturn, Optional, Tuple
 
 HERE = os.path.dirname(os.path.realpath(__file__))
 # A clone has this script in examples/, an archive of a release in share/doc/odb_batch/examples/.
 PLACES = ("odb_batch", os.path.join(HERE, "..", "bin", "odb_batch"), os.path.join(HERE, *[".."] * 4, "bin", "odb_batch"))
 COMMANDS = ("check", "plan", "canon", "match", "replay", "run")
-FAULT = b'{"fault":{"code":"'
+FAULT = b'{"fault":'
 PIECE = 1 << 20
 INCOMPLETE, NOT_FOUND, INTERRUPTED = 3, 127, 130
+
+
+class Results:
+    """What an audit finds of the lines of a log, or of a part of it.
+
+    Attributes:
+        counts: How many lines have each fault, by its code, or none.
+        lines: How many lines there are.
+        faults: The first lines with a fault, at most `listed`: each with its number, and its fault.
+    """
+
+    def __init__(self, listed: int) -> None:
+        self.counts: "Counter[Optional[str]]" = Counter()
+        self.lines, self.listed = 0, listed
+        self.faults: List[Tuple[int, str]] = []
+
+    def add(self, line: bytes) -> None:
+        """Takes the next line that a process has written."""
+        self.lines += 1
+        fault = json.loads(line)["fault"] if line.startswith(FAULT) else None
+        self.counts[fault and fault["code"]] += 1
+        if fault and len(self.faults) < self.listed:
+            self.faults.append((self.lines, "{code} {name} {place}".format_map(fault)))
+
+    def join(self, after: "Results") -> None:
+        """Takes the results of the part that follows."""
+        room = self.listed - len(self.faults)
+        self.faults += [(self.lines + number, fault) for number, fault in after.faults[:room]]
+        self.counts += after.counts
+        self.lines += after.lines
 
 
 class Failed(Exception):
@@ -56,11 +88,15 @@ class Parser(argparse.ArgumentParser):
         self.exit(2, f"error: {message}\n")
 
 
-def jobs_of(text: str) -> int:
-    """The number of processes that an argument asks for."""
-    if not re.fullmatch("[0-9]{1,4}", text) or not 1 <= int(text) <= 1000:
-        raise argparse.ArgumentTypeError(f"{text!r} is not a whole number from 1 to 1000")
-    return int(text)
+def up_to(most: int) -> Callable[[str], int]:
+    """What reads a whole number from 1 to `most`."""
+
+    def read(text: str) -> int:
+        if not re.fullmatch("[0-9]{1,12}", text) or not 1 <= int(text) <= most:
+            raise argparse.ArgumentTypeError(f"{text!r} is not a whole number from 1 to {most}")
+        return int(text)
+
+    return read
 
 
 def arguments() -> argparse.Namespace:
@@ -69,7 +105,10 @@ def arguments() -> argparse.Namespace:
     option("log", help="a file with a line for each batch")
     option("--command", default="match", choices=COMMANDS)
     option("--strict", action="store_true", help="have match also refuse statuses that no finished run answers")
-    option("--jobs", type=jobs_of, default=os.cpu_count() or 1, help="how many processes; as many as there are processors")
+    option("--list", dest="listed", type=up_to(1_000_000), nargs="?", const=100, default=0, metavar="N",
+           help="list the first N lines with a fault; 100")  # fmt: skip
+    option("--extract", type=up_to(10**12 - 1), metavar="LINE", help="write the documents of this line to files")
+    option("--jobs", type=up_to(1000), default=os.cpu_count() or 1, help="how many processes; as many as there are processors")
     option("--program", help="the program odb_batch; else the one on the PATH, of this clone or of this archive")
     option("--own", action="store_true", help="do not use GNU parallel")
     options = parser.parse_args()
@@ -136,78 +175,116 @@ def feed(log: str, begin: int, end: int, pipe: IO[bytes]) -> None:
             begin += len(piece)
 
 
-def code_of(line: bytes) -> Optional[str]:
-    """The code of the fault that a line of the result has, or None."""
-    return line[len(FAULT):].split(b'"', 1)[0].decode() if line.startswith(FAULT) else None
+def results_of(lines: Optional[Iterable[bytes]], listed: int) -> Results:
+    """The results that a process writes to its pipe."""
+    found = Results(listed)
+    for line in lines or ():
+        found.add(line)
+    return found
 
 
-def counted(lines: Optional[Iterable[bytes]]) -> Counts:
-    """The counts of the lines that a process writes to its pipe."""
-    assert lines is not None
-    return Counter(map(code_of, lines))
-
-
-def audit_part(command: List[str], log: str, begin: int, end: int) -> Counts:
-    """The counts of a part of a log, by a process of its own."""
+def audit_part(command: List[str], log: str, listed: int, begin: int, end: int) -> Results:
+    """The results of a part of a log, by a process of its own."""
     with subprocess.Popen(command, stdin=subprocess.PIPE, stdout=subprocess.PIPE) as process:
         feeder = Thread(target=feed, args=(log, begin, end, process.stdin))
         feeder.start()
-        counts = counted(process.stdout)
+        found = results_of(process.stdout, listed)
         feeder.join()
     if process.returncode not in (0, 1):
         raise Failed(f"{command[0]} ended with status {process.returncode}")
-    return counts
+    return found
 
 
-def audit_by_own(program: str, command: List[str], log: str, jobs: int) -> Counts:
-    words = [program, *command]
-    with ThreadPoolExecutor(jobs) as pool:
-        return sum(pool.map(lambda part: audit_part(words, log, *part), parts_of(log, jobs)), Counts())
+def audit_by_own(program: str, command: List[str], log: str, options: argparse.Namespace) -> Results:
+    words, found = [program, *command], Results(options.listed)
+    with ThreadPoolExecutor(options.jobs) as pool:
+        for part in pool.map(lambda part: audit_part(words, log, options.listed, *part), parts_of(log, options.jobs)):
+            found.join(part)
+    return found
 
 
-def audit_by_parallel(program: str, command: List[str], log: str, jobs: int) -> Counts:
-    words = ["parallel", "--plain", "--will-cite", "--pipe-part", "--block", "-1", "--jobs", str(jobs), "--arg-file", log]
+def audit_by_parallel(program: str, command: List[str], log: str, options: argparse.Namespace) -> Results:
+    words = ["parallel", "--plain", "--will-cite", "--pipe-part", "--block", "-1", "--keep-order"]
+    words += ["--jobs", str(options.jobs), "--arg-file", log]
     # The status of GNU parallel is how many jobs did not end with 0. One that refused lines has done its work.
     job = f'"$ODB_BATCH" {" ".join(command)} || test $? -eq 1'
     variables = {**os.environ, "ODB_BATCH": program, "PARALLEL_SHELL": "/bin/sh"}
     with subprocess.Popen([*words, job], env=variables, stdin=subprocess.DEVNULL, stdout=subprocess.PIPE) as process:
-        counts = counted(process.stdout)
+        found = results_of(process.stdout, options.listed)
     if process.returncode:
         raise Failed(f"parallel ended with status {process.returncode}")
-    return counts
+    return found
 
 
-def audit(options: argparse.Namespace) -> Counts:
-    """The counts of all lines of a log."""
+def audit(options: argparse.Namespace) -> Results:
+    """The results of all lines of a log."""
     program, log = found_program(options.program), found_log(options.log)
     lines = lines_of(log)
     uses_parallel = lines and not options.own and printed("parallel", "--version").startswith(b"GNU parallel")
     way = audit_by_parallel if uses_parallel else audit_by_own
     command = [options.command, "--lines", "--json", *(["--strict"] if options.strict else [])]
-    counts = way(program, command, log, options.jobs)
-    if sum(counts.values()) != lines:
-        raise Failed(f"{options.log} has {lines} lines, of which {sum(counts.values())} were counted")
-    return counts
+    found = way(program, command, log, options)
+    if found.lines != lines:
+        raise Failed(f"{options.log} has {lines} lines, of which {found.lines} were counted")
+    return found
 
 
-def show(counts: Counts) -> None:
-    """Prints how many lines each fault has, after those that have none."""
+def show(found: Results) -> None:
+    """Prints the lines with a fault that are listed; then how many lines have each fault, after those that have none."""
+    print_lines(
+        [f"line {number}: {fault}" for number, fault in found.faults]
+        + [f"{code or 'ok'} {count}" for code, count in sorted(found.counts.items(), key=lambda it: it[0] or "")]
+    )
+
+
+def print_lines(lines: List[str]) -> None:
     if sys.stdout is None:
         raise Failed("standard output is closed")
     try:
-        for code, count in sorted(counts.items(), key=lambda it: it[0] or ""):
-            print(code or "ok", count)
+        for line in lines:
+            print(line)
         sys.stdout.flush()
     except OSError as error:
         os.dup2(os.open(os.devnull, os.O_WRONLY), sys.stdout.fileno())  # takes what the buffer still has
         raise Failed(f"standard output: {error.strerror}") from None
 
 
+def extract(log: str, number: int) -> None:
+    """Writes the two documents of a line to files of their own, which must not be there."""
+    with open(log, "rb") as file:
+        line = next(islice(file, number - 1, None), None)
+    if line is None:
+        raise Failed(f"{log} has no line {number}")
+    paths = f"{number}.batch.json", f"{number}.second.json"
+    for path, document in zip(paths, documents_of(line, number)):
+        with open(path, "xb") as file:
+            file.write(document + b"\n")
+    print_lines(list(paths))
+
+
+def documents_of(line: bytes, number: int) -> Tuple[bytes, bytes]:
+    """The two documents of a line, as they are in it."""
+    text = line.decode("utf-8", "surrogateescape").strip()
+    begin = 1 + len(text[1:]) - len(text[1:].lstrip())
+    try:
+        _, end = json.JSONDecoder().raw_decode(text, begin)
+    except (ValueError, RecursionError):
+        end = begin
+    rest = text[end:].strip()
+    if not (text.startswith("[") and begin < end and rest.startswith(",") and rest.endswith("]")):
+        raise Failed(f"line {number} is not an array of two documents")
+    first, second = (it.encode("utf-8", "surrogateescape") for it in (text[begin:end], rest[1:-1].strip()))
+    return first, second
+
+
 def main() -> int:
     options = arguments()
     try:
-        counts = audit(options)
-        show(counts)
+        if options.extract:
+            extract(options.log, options.extract)
+            return 0
+        found = audit(options)
+        show(found)
     except Failed as error:
         print(f"error: {error}", file=sys.stderr)
         return error.status
@@ -216,7 +293,7 @@ def main() -> int:
         return INCOMPLETE
     except KeyboardInterrupt:
         return INTERRUPTED
-    return 1 if set(counts) - {None} else 0
+    return 1 if set(found.counts) - {None} else 0
 
 
 if __name__ == "__main__":

@@ -11,7 +11,7 @@ from odb_batch.testing import Scripted, batches
 
 def statuses(service):
     """What the requests of the lending are answered."""
-    return [it.status for it in BatchClient(service.post, backoff=0).send(lending(42))]
+    return [it.status for it in BatchClient(service.post, backoff=0).send(lending(42)).values()]
 
 
 def test_a_lending():
@@ -44,5 +44,5 @@ def test_each_request_has_a_result(batch, data):
     script = {it["id"]: data.draw(drawn) for it in batch["requests"]}
     service = Scripted(script, limit=20, retry_after=0)
     results = BatchClient(service.post, backoff=0, attempts=1).send(Batch.read(batch))
-    assert {it.id for it in results} == script.keys()
+    assert results.keys() == script.keys()
     assert all(it.status in (424, 429, 503) for it in results.left)

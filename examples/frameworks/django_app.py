@@ -2,6 +2,7 @@
 
 import json
 import os
+from urllib.parse import quote
 
 import django
 from django.conf import settings
@@ -43,7 +44,7 @@ class Book(models.Model):
         app_label, db_table = "books", "Books"
 
     def shown(self, status=200):
-        headers = {"ETag": f'"{self.version}"', "Location": f"/odata/Books('{self.id}')"}
+        headers = {"ETag": f'"{self.version}"', "Location": f"/odata/Books('{quote(self.id)}')"}
         return JsonResponse({"Id": self.id, "Title": self.title}, status=status, headers=headers)
 
 

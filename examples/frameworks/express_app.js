@@ -35,7 +35,8 @@ const remove = (key) => (group.getStore() ? store(key, null) : books.delete(key)
 const all = () => [...new Map([...books, ...(group.getStore() ?? [])]).values()].filter((book) => book !== null)
 
 const refuse = (res, status, message) => res.status(status).json({ error: { code: String(status), message } })
-const show = (res, { tag, ...book }) => res.set({ ETag: tag, Location: `/odata/Books('${book.Id}')` }).json(book)
+const urlOf = (book) => `/odata/Books('${encodeURIComponent(book.Id)}')`
+const show = (res, { tag, ...book }) => res.set({ ETag: tag, Location: urlOf(book) }).json(book)
 const writes = (handler) => (req, res, next) => Promise.resolve(alone(() => handler(req, res))).catch(next)
 const keyOf = (req) => req.params[0]
 const BOOK = /^\/odata\/Books\('(.*)'\)$/

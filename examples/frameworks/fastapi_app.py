@@ -5,6 +5,7 @@ import os
 import sqlite3
 from contextlib import asynccontextmanager, closing, contextmanager
 from contextvars import ContextVar
+from urllib.parse import quote
 
 from fastapi import Depends, FastAPI, Header, HTTPException, Request, Response
 from fastapi.responses import JSONResponse
@@ -71,7 +72,7 @@ async def group(name):
 
 
 def shown(row, status=200):
-    tag, place = f'"{row[2]}"', f"/odata/Books('{row[0]}')"
+    tag, place = f'"{row[2]}"', f"/odata/Books('{quote(row[0])}')"
     return JSONResponse({"Id": row[0], "Title": row[1]}, status, {"ETag": tag, "Location": place})
 
 

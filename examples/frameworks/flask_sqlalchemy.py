@@ -3,6 +3,7 @@
 import os
 from contextlib import contextmanager
 from contextvars import ContextVar
+from urllib.parse import quote
 
 from flask import Flask, abort, jsonify, request
 from sqlalchemy import Column, Integer, String, create_engine, event
@@ -26,7 +27,7 @@ class Book(Base):
     Version = Column(Integer, default=1)
 
     def shown(self, status=200):
-        tag, place = f'"{self.Version}"', f"/odata/Books('{self.Id}')"
+        tag, place = f'"{self.Version}"', f"/odata/Books('{quote(self.Id)}')"
         return jsonify(Id=self.Id, Title=self.Title), status, {"ETag": tag, "Location": place}
 
 

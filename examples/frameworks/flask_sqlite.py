@@ -4,10 +4,12 @@ import os
 import sqlite3
 from contextlib import closing, contextmanager
 from contextvars import ContextVar
+from urllib.parse import quote, unquote, urlsplit
 
 from flask import Flask, abort, jsonify, request
 from werkzeug.exceptions import HTTPException
 
+from odb_batch import Refusal
 from odb_batch.wsgi import BatchMiddleware
 
 PATH = os.environ.get("BOOKS", "books.sqlite")
@@ -35,6 +37,12 @@ def transaction(group=None):
             CURRENT.reset(token)
 
 
+def inspect(request):
+    """What a proxy denies by its path is denied in a batch, too."""
+    if unquote(urlsplit(request.url).path).startswith("/odata/admin/"):
+        raise Refusal(403, "Denied", "not in a batch")
+
+
 @app.before_request
 def refuse_options():
     if any(name.startswith("$") for name in request.args):
@@ -48,7 +56,7 @@ def text(name):
 
 
 def shown(row, status=200):
-    tag, place = f'"{row[2]}"', f"/odata/Books('{row[0]}')"
+    tag, place = f'"{row[2]}"', f"/odata/Books('{quote(row[0])}')"
     return jsonify(Id=row[0], Title=row[1]), status, {"ETag": tag, "Location": place}
 
 
@@ -91,5 +99,5 @@ def error(raised):
 
 
 app.wsgi_app = BatchMiddleware(
-    app.wsgi_app, "/odata/$batch", transaction=transaction, width=int(os.environ.get("WIDTH", "1"))
+    app.wsgi_app, "/odata/$batch", transaction=transaction, inspect=inspect, width=int(os.environ.get("WIDTH", "1"))
 )

@@ -1,19 +1,17 @@
-"""What docs/service.md shows: its commands, run, and its excerpts, compared."""
+"""What docs/service.md shows of the example: its commands, run."""
 
 import json
 import os
 import re
 import shlex
 import socket
-import sqlite3
 import subprocess
-from contextlib import closing, contextmanager
-from contextvars import ContextVar
 
 import pytest
 
 from common import ROOT, SECONDS
 from support.commands import with_package
+
 
 def page(*names):
     with open(os.path.join(ROOT, *names), encoding="utf-8") as file:
@@ -70,28 +68,3 @@ def test_gunicorn_by_the_command_of_the_page_answers_the_batch(tmp_path):
     words = [*start.split(), "--bind", f"127.0.0.1:{port}", "--workers", "1"]
     ask = commands_of_page()[2].replace("localhost:8080", f"127.0.0.1:{port}")
     assert answers(words, " answers", ask, LIBRARY=str(tmp_path / "library.sqlite")) == GOOD
-
-
-def excerpts():
-    return re.findall("```python\n(.*?)```", page("docs", "service.md"), re.DOTALL)
-
-
-def test_the_transaction_of_the_page_commits_and_rolls_back(tmp_path):
-    path = str(tmp_path / "some.sqlite")
-    names = {"PATH": path, **{it.__name__: it for it in (ContextVar, contextmanager, closing, sqlite3)}}
-    exec(excerpts()[0], names)
-    group, current = names["group"], names["GROUP"]
-    with group("made"):
-        current.get().execute("CREATE TABLE Books (Id)")
-        current.get().execute("INSERT INTO Books VALUES ('kept')")
-    with pytest.raises(KeyError), group("fails"):
-        current.get().execute("INSERT INTO Books VALUES ('lost')")
-        raise KeyError
-    assert current.get() is None
-    with closing(sqlite3.connect(path)) as database:
-        assert database.execute("SELECT * FROM Books").fetchall() == [("kept",)]
-
-
-def test_the_line_of_the_page_is_in_the_source():
-    *_, line = excerpts()
-    assert line in page("examples", "service", "app.py")
