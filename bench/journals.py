@@ -3,9 +3,9 @@
 
 FOLDER is what `bin/odb_library` has written, `dist/library` unless it is given. A gateway for each kind stands before one
 service that answers at once. 1, 8 and 64 clients send batches of five POSTs, side by side (flat: two syncs) or each after
-the one before (chain: six); the kinds take turns. Shown are medians over the turns, as a share of those without a journal
-of the same turn. SQLite is on the disk of the temporary folder, PostgreSQL too, with its usual `fsync`. With `--two` the
-clients ask two gateways by turns, over one PostgreSQL.
+the one before (chain: six); the kinds take turns. Shown are medians over the turns, and as a share of those of the first
+kind in the same turn. SQLite is on the disk of the temporary folder, PostgreSQL too, with its usual `fsync`. With `--two` the
+clients ask two gateways by turns, over one PostgreSQL. It takes three minutes; no turn begins after four.
 """
 
 import asyncio
@@ -31,7 +31,7 @@ from support import databases  # noqa: E402
 from support.commands import with_package  # noqa: E402
 from support.servers import FIRST_SENT  # noqa: E402
 
-CLIENTS, TURNS, SECONDS = (1, 8, 64), 3, 2.0
+CLIENTS, TURNS, SECONDS, MOST_SECONDS = (1, 8, 64), 5, 2.0, 240.0
 BODY = b'{"@context":"/odata/$metadata#Orders/$entity","Id":1,"Customer":"a customer","Price":9.990}'
 ANSWER = (
     b"HTTP/1.1 201 Created\r\nContent-Type: application/json\r\nLocation: /odata/Orders(1)\r\n"
@@ -122,9 +122,11 @@ async def measure(places):
         kind: [gateway(url, *(("--journal", place, "--one-client") if place else ())) for _ in range(count)]
         for kind, (place, count) in places.items()
     }
-    found = {}
+    found, end = {}, time.monotonic() + MOST_SECONDS
     try:
-        for _ in range(TURNS):
+        for turn in range(TURNS):
+            if turn and time.monotonic() > end:
+                break
             for shape, clients in itertools.product(("flat", "chain"), CLIENTS):
                 for kind in sorted(made, key=lambda _: secrets.randbits(16)):
                     row = await rate(made[kind], clients, shape, bool(places[kind][0]))
@@ -137,14 +139,16 @@ async def measure(places):
 
 
 def show(found, kinds):
-    first = kinds[0]
-    print(f"load {os.getloadavg()[0]:.1f}; batches a second, as a share of the first kind; processor ms; ms (half, 99 of 100)")
+    turns = len(found["flat", CLIENTS[0], kinds[0]])
+    print(f"medians of {turns} turns, load {os.getloadavg()[0]:.1f}; ms: how long half of the batches took, and 99 of 100")
+    print(f"{'':28}batches/s  share  processor ms  share  half  99 %")
     for shape, clients in itertools.product(("flat", "chain"), CLIENTS):
         for kind in kinds:
-            rows = found[shape, clients, kind]
-            share = statistics.median(row[0] / base[0] for row, base in zip(rows, found[shape, clients, first]))
+            rows, bases = found[shape, clients, kind], found[shape, clients, kinds[0]]
             rates, used, half, most = (statistics.median(row[k] for row in rows) for k in range(4))
-            print(f"{shape:6}{clients:3} {kind:18}{rates:8.1f}{share:8.2f}{used:8.2f}{half:8.1f}{most:8.1f}", flush=True)
+            share, more = (statistics.median(row[k] / base[k] for row, base in zip(rows, bases)) for k in range(2))
+            name = f"{shape:5}{clients:4} client{'s' if clients > 1 else ' '}  {kind}"
+            print(f"{name:28}{rates:9.1f}{share:7.2f}{used:14.1f}{more:7.2f}{half:6.0f}{most:6.0f}", flush=True)
 
 
 def main():
