@@ -132,6 +132,28 @@ def test_groups_that_are_half_performed(place, way, words, counts):
 
 
 @each_way
+@pytest.mark.parametrize("words, numbers", [(["--list", "3"], [1, 8, 15]), (["--list"], range(1, 701, 7)), (["--list", "1000"], range(1, 1001, 7))])
+def test_lists_the_first_lines_with_a_fault(place, way, words, numbers):
+    listed = [f"line {number}: F73 ResponseMissing /requests/0\n" for number in numbers]
+    last = ["line 1001: F07 NotPair batch\n"] if len(numbers) == 143 else []
+    counts, errors, status = COUNTS["mixed"]
+    found = place.audit("mixed", "--program", place.program, "--jobs", "3", *words, *way)
+    assert found == ("".join([*listed, *last, counts]), errors, status)
+
+
+def test_extracts_the_documents_of_a_line(place):
+    """They are as they are in the log, byte for byte, and are never written over a file."""
+    pair = b'{"requests": ["\xff", 1.50]}\t', b' {"responses":[]}'
+    place.write("odd", b"[1]\n[ %s,%s ]\r\n[1" % pair)
+    assert place.audit("odd", "--extract", "2") == ("2.batch.json\n2.second.json\n", "", 0)
+    for name, document in zip(("2.batch.json", "2.second.json"), pair):
+        with open(place.path(name), "rb") as file:
+            assert file.read() == document.strip() + b"\n"
+    for number in ("1", "2", "3", "4"):
+        assert_ended(place.audit("odd", "--extract", number), 3)
+
+
+@each_way
 @pytest.mark.parametrize("name", STAND_INS)
 def test_stand_in(place, way, name):
     """A program that ends early, in all of its processes."""
@@ -155,7 +177,10 @@ def test_missing_log(place, way, name):
 JOBS = [["--jobs", it] for it in ("0", "-1", "four", "1.5", "1001", "")]
 
 
-@pytest.mark.parametrize("words", [*JOBS, ["--command", "explain"], ["--more"], ["second"], ["--strict", "--command", "check"]], ids=" ".join)
+LISTED = [[option, it] for option in ("--list", "--extract") for it in ("0", "four")]
+
+
+@pytest.mark.parametrize("words", [*JOBS, *LISTED, ["--command", "explain"], ["--more"], ["second"], ["--strict", "--command", "check"]], ids=" ".join)
 def test_wrong_arguments(place, words):
     assert_ended(place.audit("mixed", "--program", place.program, *words), 2)
 

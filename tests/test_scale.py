@@ -1,7 +1,7 @@
 """The ways of docs/scale.md over a log on which a careless one fails, and with a program that ends early.
 
-The log has carriage returns inside of lines, bytes that are not UTF-8, refused lines, and empty ones. Commands and programs
-are those of the page; only the parts that Dask makes are smaller, so that a short log has many. Each way has to write the
+The log has carriage returns inside of lines, bytes that are not UTF-8, refused lines, and empty ones. Commands are those of the
+page, programs those of examples/; only the parts that Dask makes are smaller, so that a short log has many. Each way has to write the
 bytes that one process writes, and to fail if the program does.
 """
 
@@ -67,7 +67,7 @@ def written(folder):
 
 
 def by_one(folder):
-    return run(folder, "sh", "-c", block("$ odb_batch").removeprefix("$ "))
+    return run(folder, "sh", "-c", block("$ odb_batch match --strict --lines").removeprefix("$ "))
 
 
 def by_parallel(folder):
@@ -78,8 +78,9 @@ def by_dask(folder):
     python = python_of("dask.bag")
     if not python:
         pytest.skip("python3-dask is not installed")
-    program = block("import dask")
-    assert program.count(PART) == 1, f"the program for Dask in docs/scale.md has to have {PART} once"
+    with open(os.path.join(ROOT, "examples", "audit_dask.py"), encoding="utf-8") as file:
+        program = file.read()
+    assert program.count(PART) == 1, f"examples/audit_dask.py has to have {PART} once"
     path = os.path.join(folder, "by_dask.py")
     with open(path, "w", encoding="utf-8") as file:
         file.write(program.replace(PART, SMALL_PART))
@@ -118,11 +119,14 @@ def test_way(program, tmp_path, way, status):
 
 def test_audit(program, tmp_path):
     """What the page shows of an audit is what it prints."""
-    command, wanted = block("$ python3 examples/audit.py").split("\n", 1)
+    shown = block("$ python3 examples/audit.py")
     place = fresh(tmp_path / "audit", f'exec "{program}" "$@"')
     os.symlink(os.path.join(ROOT, "examples"), place / "examples")
     refused = PAIR.replace(b'{"id":"1","status":200}', b"")
     (place / "log.jsonl").write_bytes((b"\n".join([PAIR] * 99 + [refused]) + b"\n") * 200 + b"[1]\n")
     variables = {**os.environ, "PATH": f"{place}/bin:{os.environ['PATH']}"}
-    words = ["sh", "-c", command.removeprefix("$ ")]
-    assert subprocess.run(words, cwd=place, env=variables, capture_output=True, text=True).stdout == wanted
+    printed = ""
+    for command in re.findall(r"(?m)^\$ (.*)$", shown):
+        done = subprocess.run(["sh", "-c", command], cwd=place, env=variables, capture_output=True, text=True, timeout=SECONDS)
+        printed += f"$ {command}\n{done.stdout}"
+    assert printed == shown

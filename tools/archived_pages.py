@@ -7,7 +7,9 @@ import textwrap
 ROOT = os.path.dirname(os.path.dirname(os.path.realpath(__file__)))
 
 # The folders of the repository of which the archive has the files, and pages of the packages. Tests are left out.
-SHIPPED_FOLDERS = ("docs", "docs/schemas", "examples", "examples/frameworks", "examples/service", "examples/tutorial")
+SHIPPED_FOLDERS = (
+    "docs", "docs/schemas", "examples", "examples/frameworks", "examples/gateway", "examples/service", "examples/tutorial",
+)  # fmt: skip
 PICTURES = "docs/pictures"
 SHIPPED_FILES = (
     "README.md", "CHANGELOG.md", "SECURITY.md", "python/README.md", "node/README.md", "node/client.d.ts",
@@ -17,8 +19,8 @@ SHIPPED_FILES = (
 # What the pages name and the repository alone has.
 OF_REPOSITORY = (
     ".ci/", "bench/", "bin/building.sh", "bin/crates", "bin/odb_library", "bin/odb_page", "bin/odb_program", "bin/odb_wasm", "bin/release",
-    "crates/", "examples/service/tests/", "node/bundle", "node/compile", "node/module.js", "node/test/", "page/", "ports/", "python/odb_batch/",
-    "python/tests/", "tests/", "tools/", "wasm/",
+    "crates/", "examples/service/tests/", "node/bundle", "node/compile", "node/http/", "node/library/wasm.js", "node/middleware/",
+    "node/perform/", "node/test/", "page/", "ports/", "python/odb_batch/", "python/tests/", "tests/", "tools/", "wasm/",
 )  # fmt: skip
 
 # A paragraph of README.md in the archive.

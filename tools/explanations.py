@@ -34,7 +34,7 @@ def of_node(meanings):
     return json.dumps(meanings, indent=2, ensure_ascii=False) + "\n"
 
 
-FILES = {"python/odb_batch/_explanations.py": of_python, "node/explanations.json": of_node}
+FILES = {"python/odb_batch/errors/explanations.py": of_python, "node/errors/explanations.json": of_node}
 
 
 def main():

@@ -8,7 +8,8 @@ has to be built, since that would build it in silence here. Where one calls pyth
 the package, and the library has to be built, or named by ODB_BATCH_LIBRARY. A block that begins ```rust
 or ```python begins with a comment that names a file, as `// crates/NAME/src/tests.rt` or
 `# examples/NAME.py`, and shows lines of that file: what follows the comment has to appear there word for
-word, but for an indent that all its lines have there. Without an argument it reads PAGES.
+word, but for an indent that all its lines have there. So has a block that begins ```diff, without its lines that
+begin with `-`. Without an argument it reads PAGES.
 """
 
 import contextlib
@@ -27,12 +28,13 @@ PAGES = (
     "docs/client.md",
     "docs/command-line.md",
     "docs/library.md",
+    "docs/service.md",
     "docs/testing.md",
     "docs/tutorial.md",
     "examples/README.md",
 )
 # The comments that name a file, by the kind of their block.
-NAMED = {"rust": r"// (\S+/\S+\.rt)", "python": r"# (\S+/\S+\.py)"}
+NAMED = {"rust": r"// (\S+/\S+\.rt)", "python": r"# (\S+/\S+\.py)", "diff": r"# (\S+/\S+\.py)"}
 sys.dont_write_bytecode = True
 sys.path.append(os.path.join(ROOT, "tests"))
 
@@ -71,6 +73,8 @@ def excerpts(page):
     found = []
     for kind, pattern in NAMED.items():
         for number, lines in blocks(page, kind):
+            if kind == "diff":
+                lines = [line[1:] for line in lines if not line.startswith("-")]
             named = re.fullmatch(pattern, lines[0]) if lines else None
             found.append((number, named[1] if named else None, lines[1:]))
     return found

@@ -61,7 +61,7 @@ PLACES = [
     Place(HEADER, r"#define ODB_VERSION_MINOR (\d+)", "{1}"),
     Place(HEADER, r"#define ODB_VERSION_PATCH (\d+)", "{2}"),
     Place("python/pyproject.toml", r'^version = "(.*)"$'),
-    Place("python/odb_batch/_library.py", r"^MAJOR, MINOR = (\d+, \d+)$", "{0}, {1}"),
+    Place("python/odb_batch/_native/library.py", r"^MAJOR, MINOR = (\d+, \d+)$", "{0}, {1}"),
     Place("node/package.json", r'^  "version": "(.*)",$'),
     Place("tests/cases/help.txt", r"^out odb_batch (\d\S*)$"),
     Place("README.md", r"odb_batch-(\d+\.\d+\.\d+)"),

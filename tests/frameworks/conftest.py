@@ -25,14 +25,14 @@ SMALL = ("flask_sqlite", "flask_sqlalchemy", "django_app", "fastapi_app")
 
 @pytest.fixture(scope="session")
 def serve(library):
-    """Serves an application; `command` takes the place of how it is served, and variables are those of its
-    environment.
+    """Serves an application; `command` takes the place of how it is served, `place` that of its folder, and variables
+    are those of its environment.
     """
     folder, started, number = folder_for_databases(), [], itertools.count()
 
-    def start(name, command=None, **variables):
+    def start(name, command=None, place=None, **variables):
         skip_without(*APPS[name][0])
-        place = os.path.join(HERE, "apps") if name.startswith("odd_") else os.path.join(EXAMPLES, "frameworks")
+        place = place or (os.path.join(HERE, "apps") if name.startswith("odd_") else os.path.join(EXAMPLES, "frameworks"))
         books = os.path.join(folder, f"{next(number)}.sqlite")
         log = os.path.join(folder, f"{name}.log")
         found = Server(command or APPS[name][1], place, log, **{"BOOKS": books, **variables})

@@ -10,7 +10,7 @@ import ctypes
 import json
 import sys
 
-from odb_batch import _library as library
+from odb_batch._native import library
 
 ROOM = 4_000_000
 
@@ -28,7 +28,7 @@ def answer(name, documents, numbers, requests):
     if place:
         status, text = library.call("odb_run_response", (), place, ROOM)
         assert status == library.DONE, name
-        library.close_run(handle)
+        library.LIBRARY.odb_run_close(handle)
     return text.decode()
 
 

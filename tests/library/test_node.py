@@ -69,3 +69,11 @@ def test_its_types(program, tmp_path):
     alone = ["--typeRoots", tmp_path]  # no types of other packages
     source = os.path.join(ROOT, "node", "test", program)
     run("tsc", "--noEmit", "--strict", "--target", "es2020", "--module", "commonjs", *alone, source)
+
+
+@pytest.mark.slow
+def test_its_code_has_what_its_types_declare():
+    """Checks all code of node/ and page/ by tsc, too."""
+    if shutil.which("tsc") is None:
+        pytest.skip("node-typescript is not installed")
+    run("tsc", "--project", os.path.join(ROOT, "node", "test", "tsconfig.json"))

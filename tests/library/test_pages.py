@@ -56,7 +56,7 @@ def test_c(source, wanted, library, environment, tmp_path):
 @pytest.mark.needs("rustc")
 @pytest.mark.parametrize("is_live", [False, True], ids=PROGRAMS)
 def test_rust(is_live, library, environment, tmp_path):
-    program = text_of("examples", "live_run.rs") if is_live else block("rust")
+    program = text_of("examples", "live_run.rs" if is_live else "check.rs")
     lay_out(tmp_path, page_rs=program + text_of("tests", "library", "pages", "live.rs" if is_live else "check.rs"))
     run("rustc", "--edition=2021", "-Dwarnings", "-L", library, "page.rs", cwd=tmp_path)
     run("./page", wanted=ANSWERED if is_live else ONE, env=environment, cwd=tmp_path)
@@ -64,7 +64,7 @@ def test_rust(is_live, library, environment, tmp_path):
 
 def test_go(library, environment, tmp_path):
     skip_before("go", "version", r"go(\d+)\.(\d+)", 1, 20)
-    lay_out(tmp_path, f"{EXAMPLES}/live_run.go", go_mod="module page\n\ngo 1.20\n", page_go=block("go"))
+    lay_out(tmp_path, f"{EXAMPLES}/live_run.go", f"{EXAMPLES}/check.go", go_mod="module page\n\ngo 1.20\n")
     lay_out(tmp_path / "main", f"{PAGES}/main.go")
     flags = {"CGO_CFLAGS": f"-I{ROOT}/include", "CGO_LDFLAGS": f"-L{library}"}
     run("go", "run", "./main", wanted=ONE + ANSWERED, cwd=tmp_path, env={**environment, **flags})
@@ -72,14 +72,14 @@ def test_go(library, environment, tmp_path):
 
 def test_java(environment, tmp_path):
     skip_before("javac", "-version", r"(\d+)", 22)
-    lay_out(tmp_path, f"{EXAMPLES}/OdbRun.java", f"{PAGES}/Page.java", Odb_java=block("java"))
+    lay_out(tmp_path, f"{EXAMPLES}/OdbRun.java", f"{EXAMPLES}/Odb.java", f"{PAGES}/Page.java")
     run("javac", "Odb.java", "OdbRun.java", "Page.java", cwd=tmp_path)
     run("java", "--enable-native-access=ALL-UNNAMED", "Page", wanted=ONE + ANSWERED, cwd=tmp_path, env=environment)
 
 
 @pytest.mark.needs("dotnet")
 def test_csharp(environment, tmp_path):
-    lay_out(tmp_path, f"{EXAMPLES}/OdbRun.cs", f"{PAGES}/Page.cs", f"{PAGES}/page.csproj", Odb_cs=block("csharp"))
+    lay_out(tmp_path, f"{EXAMPLES}/OdbRun.cs", f"{EXAMPLES}/Odb.cs", f"{PAGES}/Page.cs", f"{PAGES}/page.csproj")
     run("dotnet", "run", wanted=ONE + ANSWERED, cwd=tmp_path, env=environment)
 
 

@@ -1,9 +1,12 @@
 """The package for Python: its examples, its types, and a copy that pip installs; its own tests are in python/tests."""
 
+import ast
 import doctest
 import importlib
+import os
 import re
 import shutil
+import subprocess
 import sys
 import zipfile
 
@@ -15,7 +18,8 @@ from support.program import ROOT, SHARED
 
 
 MODULES = (
-    "", "._commands", "._groups", "._messages", "._perform", "._perform_async", "._runs", ".client", ".testing", ".wsgi",
+    "", ".client", ".commands", ".documents.requests", ".driver.groups", ".driver.tasks", ".driver.threads", ".errors.faults",
+    ".http.messages", ".runs", ".testing", ".wsgi",
 )  # fmt: skip
 
 
@@ -33,10 +37,10 @@ def test_its_extras_are_all_that_it_needs(tmp_path, monkeypatch):
     head = metadata.partition("\n\n")[0]
     needed = re.findall("(?m)^Requires-Dist: (.*)$", head)
     extras = {
-        "django": "Django>=3.2", "fastapi": "fastapi", "flask": "Flask", "gateway": "aiohttp>=3.13.3",
+        "django": "Django>=3.2", "fastapi": "fastapi", "flask": "Flask", "gateway": "aiohttp>=3.13.3 prometheus-client>=0.16",
         "httpx": "httpx", "postgresql": "asyncpg>=0.27", "requests": "requests", "testing": "hypothesis",
     }  # fmt: skip
-    assert needed == [f'{name}; extra == "{extra}"' for extra, name in extras.items()]
+    assert needed == [f'{name}; extra == "{extra}"' for extra, names in extras.items() for name in names.split()]
     assert re.findall("(?m)^Provides-Extra: (.*)$", head) == list(extras)
 
 
@@ -44,6 +48,39 @@ def test_its_extras_are_all_that_it_needs(tmp_path, monkeypatch):
 @pytest.mark.needs("mypy")
 def test_its_types(tmp_path):
     print(run("mypy", f"--cache-dir={tmp_path}", cwd=ROOT))
+
+
+@pytest.mark.slow
+@pytest.mark.needs("flake8")
+def test_its_style():
+    if "flake8-builtins" not in run("flake8", "--version"):
+        pytest.skip("python3-flake8-builtins is not installed")
+    run("flake8", "python/odb_batch", cwd=ROOT)
+
+
+@pytest.mark.slow
+@pytest.mark.needs("pylint")
+def test_its_names_and_that_all_is_used():
+    run("pylint", "--score=n", "python/odb_batch", cwd=ROOT, env={**os.environ, "PYLINTHOME": os.devnull})
+
+
+def without_imports(path):
+    """A module as a tree: it is all one from where it imports the names of types."""
+    tree = ast.parse(path.read_text(encoding="utf-8"))
+    tree.body = [it for it in tree.body if not isinstance(it, ast.ImportFrom)]
+    return ast.dump(tree)
+
+
+@pytest.mark.slow
+@pytest.mark.needs("pyupgrade")
+def test_it_is_written_for_python_39(tmp_path):
+    """pyupgrade changes nothing but imports."""
+    copy, left_out = tmp_path / "odb_batch", ("libodb_batch*", "__pycache__", "gateway", "journals")
+    shutil.copytree(f"{ROOT}/python/odb_batch", copy, ignore=shutil.ignore_patterns(*left_out))
+    modules = sorted(copy.rglob("*.py"))
+    before = [without_imports(it) for it in modules]
+    subprocess.run(["pyupgrade", "--py39-plus", *modules], capture_output=True)
+    assert [it.name for it, text in zip(modules, before) if without_imports(it) != text] == []
 
 
 @pytest.mark.slow

@@ -73,8 +73,8 @@ def as_module(text, name):
 @IN_BROWSERS
 def test_a_browser_answers_the_same(browser, wanted, portable, wasm, calls, tmp_path):
     files = {
-        "/module.mjs": as_module(read(portable, "module.js"), "libraryOf"),
-        "/bytes.mjs": as_module(read(portable, "bytes.js"), "Bytes"),
+        "/module.mjs": as_module(read(portable, "library", "wasm.js"), "openModule"),
+        "/bytes.mjs": as_module(read(portable, "library", "buffer.js"), "Bytes"),
         "/answers.mjs": read(HERE, "answers.mjs"),
         "/calls": calls.read_bytes(),
         **{f"/{name}": read(wasm, name) for name in (MODULE, MODULE32)},
@@ -83,10 +83,10 @@ def test_a_browser_answers_the_same(browser, wanted, portable, wasm, calls, tmp_
         for name in (MODULE, MODULE32):
             found = page.value(f"""
                 globalThis.Buffer = (await import('/bytes.mjs')).Bytes
-                const [{{ libraryOf }}, {{ linesOf }}] = [await import('/module.mjs'), await import('/answers.mjs')]
+                const [{{ openModule }}, {{ linesOf }}] = [await import('/module.mjs'), await import('/answers.mjs')]
                 const get = async (path) => new Uint8Array(await (await fetch(path)).arrayBuffer())
                 const module = await WebAssembly.compile(await get('/{name}'))
-                return linesOf(libraryOf(module, crypto), await get('/calls'), {RUNS})""")
+                return linesOf(openModule(module, crypto), await get('/calls'), {RUNS})""")
             assert found == wanted, name
 
 

@@ -36,7 +36,7 @@ def text_of(command, result):
         return "".join([f"ok {len(result)} responses\n", *lines]).encode()
     if command != "replay":
         return result + b"\n"
-    steps = [f"start {it.id}\n" if len(it) == 1 else f"report {it.id} {it.status}\n" for it in result.steps]
+    steps = [f"report {it.id} {it.status}\n" if hasattr(it, "status") else f"start {it.id}\n" for it in result.steps]
     return "".join([*steps, *(f"undo {id}\n" for id in result.undone)]).encode() + result.response + b"\n"
 
 

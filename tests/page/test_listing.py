@@ -15,10 +15,10 @@ const exports = {
   call: () => [1, Buffer.from(lines)],
   where: (document, place, numbers) => { numbers.set([1, 1, Number(offset)]); return 0 },
 }
-require.cache[require.resolve(root + '/node/library.js')] = { id: 'stub', loaded: true, exports }
-const { verdictOf } = require(root + '/page/verdict.js')
+require.cache[require.resolve(root + '/node/library/index.js')] = { id: 'stub', loaded: true, exports }
+const { judge } = require(root + '/page/verdict.js')
 const { Places } = require(root + '/page/places.js')
-const { faults, text: first } = verdictOf('check', [Buffer.from(text)], new Places(text))
+const { faults, text: first } = judge('check', [Buffer.from(text)], new Places(text))
 if (first !== lines.trimEnd()) console.error(first)
 console.log(JSON.stringify(faults.map(({ code, id, line, column, part }) => [code, id ?? null, line, column, text.slice(part.start, part.end)])))"""
 

@@ -133,7 +133,7 @@ def test_the_scanner_finds_the_elements(program, tmp_path):
         for (const { text, place } of JSON.parse(require('fs').readFileSync(process.argv[2]))) {
           const [, at] = /^.requests.(\\d+)$/.exec(place) ?? []
           if (at === undefined) continue
-          const { start, end } = new Places(text).of({ code: 'F10', place }).whole
+          const { start, end } = new Places(text).locate({ code: 'F10', place }).whole
           if (!isDeepStrictEqual(JSON.parse(text.slice(start, end)), JSON.parse(text).requests[at])) console.log('place', text)
         }"""
     done = subprocess.run(["node", "-e", script, ROOT, tmp_path / "cases.json"], capture_output=True, text=True)

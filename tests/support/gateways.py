@@ -1,8 +1,10 @@
 """Gateways and services behind them: in this process, in a loop that runs in a thread; and gateways as processes."""
 
 import asyncio
+import importlib.util
 import json
 import os
+import re
 import subprocess
 import sys
 import threading
@@ -14,7 +16,7 @@ from aiohttp import web
 from yarl import URL
 
 from .commands import with_package
-from .servers import SECONDS, Asked
+from .servers import SECONDS, Asked, skip_without
 
 BIG = 300_000
 OF_CONNECTION = ("connection", "content-length", "date", "keep-alive", "server", "transfer-encoding")
@@ -178,6 +180,10 @@ class Raw:
         writer.close()
 
 
+def has_metrics():
+    return importlib.util.find_spec("prometheus_client") is not None
+
+
 class Front(Asked):
     """A gateway in this process, by the words of its command line."""
 
@@ -185,13 +191,15 @@ class Front(Asked):
         from odb_batch.gateway._application import Gateway
         from odb_batch.gateway._options import options_of
 
-        self.gateway = Gateway(options_of([*words, "--log", "none"]))
+        self.gateway = Gateway(options_of([*(["--metrics", "/metrics"] if has_metrics() else []), *words]))
         self.port = loop.serve(self.gateway.application())
         self.runner = loop.runners[-1]
         self.url = f"http://127.0.0.1:{self.port}/odata/"
 
     def metrics(self):
-        return self.gateway._metrics.text()
+        """What Prometheus reads, with whole numbers as such."""
+        skip_without("prometheus_client")
+        return re.sub(r"(?m)\.0$", "", self.gateway._metrics.page()[1].decode())
 
     def gone(self):
         """Whether no client is there any more."""
@@ -230,8 +238,8 @@ class Running(Asked):
         # Without a buffer, in which lines would be that come with the first one.
         self.process = subprocess.Popen(command, env=with_package(), stderr=subprocess.PIPE, bufsize=0)
         line = self.process.stderr.readline().decode()
-        assert line.startswith("listening on "), line
-        self.port = int(line.rpartition(":")[2])
+        assert "listening" in line, line
+        self.port = int(re.search(r".*:(\d+)", line)[1])
         self.url = f"http://127.0.0.1:{self.port}/odata/"
 
     def stop(self, number):

@@ -5,5 +5,5 @@ import { createRequire } from 'node:module'
 import { linesOf } from './answers.mjs'
 
 const [folder, calls, runs] = process.argv.slice(2)
-const library = createRequire(import.meta.url)(`${folder}/library.js`)
+const library = createRequire(import.meta.url)(`${folder}/library/index.js`)
 console.log(linesOf(library, readFileSync(calls), Number(runs)).join('\n'))

@@ -7,7 +7,7 @@ import { webcrypto } from 'node:crypto'
 import { instances } from './answers.mjs'
 
 const [folder, whole, smallMemory, smallStack, stackBytes] = process.argv.slice(2)
-const { libraryOf } = createRequire(import.meta.url)(`${folder}/module.js`)
+const { openModule } = createRequire(import.meta.url)(`${folder}/library/wasm.js`)
 
 const STACK_END = 2 ** 20 // where the stack begins that the module has by itself; it grows down to 0
 const FILL = 0xa5
@@ -30,7 +30,7 @@ const moduleOf = (path) => new WebAssembly.Module(readFileSync(path))
 const open = (library, batch) => library.open(batch, Buffer.from('{"events":[]}'), 0, 1)
 
 function afterGreatBatches() {
-  const library = libraryOf(moduleOf(whole), webcrypto)
+  const library = openModule(moduleOf(whole), webcrypto)
   const check = (batch) => library.call(0, batch, NONE, 0, 1, 0, 0, 0)[0]
   const [, , run] = open(library, FEW)
   const before = instances.length
@@ -41,7 +41,7 @@ function afterGreatBatches() {
 }
 
 function withLittleMemory() {
-  const library = libraryOf(moduleOf(smallMemory), webcrypto)
+  const library = openModule(moduleOf(smallMemory), webcrypto)
   const check = (batch) => library.call(0, batch, NONE, 0, 1, 0, 0, 0)[0]
   const [, , run] = open(library, FEW)
   const report = (body) => library.report(run, 0, 200, NONE, body)
@@ -59,7 +59,7 @@ function withLittleMemory() {
 }
 
 function withLittleStack() {
-  const library = libraryOf(moduleOf(smallStack), webcrypto)
+  const library = openModule(moduleOf(smallStack), webcrypto)
   const check = (batch) => library.call(0, batch, NONE, 0, 1, 0, 0, 0)[0]
   const [, , run] = open(library, FEW)
   show('a flat batch', () => check(FEW))
