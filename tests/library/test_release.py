@@ -23,7 +23,8 @@ import pytest
 import declarations
 from support import targets
 from support.commands import run
-from support.embedding import IN_NODE, IN_PYTHON, ONE, STRICT, block, check_in, text_of
+from support.embedding import IN_NODE, IN_PYTHON, ONE, STRICT, block, check_in
+from support.markdown import blocks, text_of
 from support.program import ROOT
 
 VERSION = text_of("VERSION").strip()
@@ -458,7 +459,7 @@ def test_the_package_for_node(unpacked, node):
 def test_the_page_of_the_package_for_node(unpacked, node):
     """Each program of the page prints what it shows."""
     text = (node / "node_modules/odb-batch/README.md").read_text(encoding="utf-8")
-    programs, shown = (re.findall(rf"```{kind}\n(.*?)```", text, re.DOTALL) for kind in ("js", "text"))
+    programs, shown = (blocks(text, kind) for kind in ("js", "text"))
     assert len(programs) == len(shown) > 0
     for program, wanted in zip(programs, shown):
         unpacked.run("node", unpacked.write("node/readme.js", program), wanted=wanted, cwd=node)
