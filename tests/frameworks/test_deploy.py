@@ -10,6 +10,7 @@ import sys
 import pytest
 
 from support.commands import with_package
+from support.kubernetes import DEPLOYMENT, faults
 from support.markdown import blocks, text_of
 from support.nginx import nginx
 from support.program import EXAMPLES
@@ -212,12 +213,42 @@ def test_the_gateway_takes_the_words_of_its_unit():
     assert int(re.search("TimeoutStopSec=(.*)", unit)[1]) > options.grace + 5
 
 
-def test_the_gateway_takes_the_words_of_its_image():
+# The Containerfile is not built, which takes a minute and a network; tests/library/test_release.py has the wheel that
+# it copies.
+
+
+def instructions():
+    """The instructions of the image, each with its words."""
     lines = example("Containerfile").replace("\\\n", "").splitlines()
-    found = dict(line.split(maxsplit=1) for line in lines if not line.startswith("#"))
+    return [line.split(maxsplit=1) for line in lines if not line.startswith("#")]
+
+
+def test_the_gateway_takes_the_words_of_its_image():
+    found = dict(instructions())
     options = gateway_options([*json.loads(found["ENTRYPOINT"]), "--upstream", "http://books:8080/odata/"])
     assert (options.listen.host, str(options.listen.port)) == ("", found["EXPOSE"])
-    assert set(found) == {"FROM", "RUN", "COPY", "USER", "EXPOSE", "ENTRYPOINT"}
+    assert [name for name, _ in instructions()] == ["FROM", "RUN", "COPY", "RUN", "USER", "EXPOSE", "ENTRYPOINT"]
+
+
+def packages_of_image():
+    """The packages of Debian that the image installs."""
+    (words,) = [words for name, words in instructions() if name == "RUN" and words.startswith("apt-get update ")]
+    install = re.search("apt-get install (.*?)&&", words)[1].split()
+    return [word for word in install if not word.startswith("--")]
+
+
+@pytest.mark.needs("apt-cache")
+def test_debian_has_the_packages_of_the_image():
+    is_known = lambda name: subprocess.run(["apt-cache", "show", name], capture_output=True).returncode == 0
+    if not is_known("nginx") or not is_known("python3-pip"):
+        pytest.skip("the lists of apt are not installed")
+    assert [name for name in packages_of_image() if not is_known(name)] == []
+
+
+def test_the_image_has_what_the_options_of_the_gateway_need():
+    found = re.findall(r'(?m)^(?:gateway|postgresql) = \[(.*)\]$', text_of("python", "pyproject.toml"))
+    needed = {re.match(r'"([\w-]+)', it)[1].replace("_", "-") for line in found for it in line.split(", ")}
+    assert {f"python3-{it}" for it in needed} | {"python3-pip"} == set(packages_of_image())
 
 
 def test_kubernetes_waits_as_long_as_gunicorn():
@@ -225,6 +256,7 @@ def test_kubernetes_waits_as_long_as_gunicorn():
     import yaml
 
     found = yaml.safe_load(code("yaml")[0])
+    assert faults(found, DEPLOYMENT) == []
     names = {}
     exec(code("python")[0], names)
     pod = found["spec"]["template"]

@@ -19,6 +19,7 @@ import tempfile
 import pytest
 
 from support.commands import with_package
+from support.kubernetes import POD, faults
 from support.markdown import blocks, text_of
 from support.nginx import nginx
 from support.program import ROOT
@@ -176,7 +177,11 @@ def test_the_codes_of_the_page_are_those_of_the_gateway():
 def test_the_probes_of_the_page_are_answered(upstream, running):
     from odb_batch.gateway._options import options_of
 
+    skip_without("yaml")
+    import yaml
+
     (text,) = code("yaml")
+    assert faults(yaml.safe_load(text), POD) == []
     words = re.search(r"command: \[python3, -m, odb_batch, gateway, (.*)\]", text)[1].replace('"', "").split(", ")
     assert options_of(words).listen == ("", 8090)
     it = running("--upstream", upstream().url)

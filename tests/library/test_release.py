@@ -308,6 +308,11 @@ def test_paths_in_pages(unpacked):
             assert is_there, f"{page} names {path}, which is not in the archive"
 
 
+def test_the_image_of_the_gateway_takes_the_package(unpacked):
+    (source,) = re.findall(r"(?m)^COPY (\S+) ", text_of("examples", "gateway", "Containerfile"))
+    assert [it.name for it in (unpacked.top / "python").glob(source)] == [unpacked.package("python").name]
+
+
 def test_the_packages_say_that_there_is_no_licence(unpacked):
     with zipfile.ZipFile(unpacked.package("python")) as package:
         (metadata,) = [package.read(it).decode() for it in package.namelist() if it.endswith("/METADATA")]
