@@ -44,8 +44,8 @@ def gate(tmp_path):
 
 
 def test_the_second_command_of_readme(gate):
-    last = re.search(r"\.ci/run\n```\n\n(?:.+\n)*?.*last\s+line is `([^`]+)`", text_of("README.md"))[1]
-    assert gate(0) == (0, last)
+    below = text_of("README.md").partition(f"\n{COMMAND}\n```\n\n")[2].partition("\n\n")[0]
+    assert gate(0) == (0, re.search(r"last\s+line\s+is\s+`([^`]+)`", below)[1])
 
 
 def test_the_gate_names_what_has_failed(gate):

@@ -188,7 +188,7 @@ def printed(command, environment):
 def last_line(page, block):
     """What the paragraph below a block says that its last line is; or nothing."""
     below = "\n".join(page.splitlines()[block.line + len(block.lines) :])
-    named = re.search(r"last\s+line is `([^`]+)`", below.strip().partition("\n\n")[0])
+    named = re.search(r"last\s+line\s+is\s+`([^`]+)`", below.strip().partition("\n\n")[0])
     return named and named[1]
 
 
