@@ -29,6 +29,7 @@ PAGES = (
     "README.md",
     "docs/client.md",
     "docs/command-line.md",
+    "docs/conformance.md",
     "docs/deploy.md",
     "docs/gateway.md",
     "docs/library.md",
@@ -40,9 +41,15 @@ PAGES = (
 )
 DEPLOY, GATEWAY = "tests/frameworks/test_deploy.py::test_", "tests/gateway/test_page.py::test_"
 SCALE, SERVICE = "tests/test_scale.py::test_", "examples/service/tests/test_pages.py::test_"
+CONFORMANCE = "python/tests/conformance/test_page.py::test_the_commands_print_what_the_page_shows"
 # The blocks that tests run or check: of each page how they begin, and the test.
 TESTED = {
     "README.md": {".ci/run": "tests/test_gate.py::test_the_second_command_of_readme"},
+    "docs/conformance.md": {
+        "$ python3 -m odb_batch conformance http://localhost:8080/library/": CONFORMANCE,
+        "$ python3 -m odb_batch conformance http://localhost:8080/library/ --set Books": CONFORMANCE,
+        "import pytest": "python/tests/conformance/test_judge.py::test_the_tests_of_a_service",
+    },
     "docs/deploy.md": {
         "# /opt/orders/gunicorn.conf.py": f"{DEPLOY}gunicorn_takes_its_configuration",
         "uvicorn --host": f"{DEPLOY}uvicorn_behind_nginx",
@@ -126,7 +133,7 @@ def untested(path, blocks):
         elif block.kind in ("console", "sh", *NAMED):
             rest.append(block)
         else:
-            fault = f"nothing runs or checks a block of {block.kind or 'no kind'}"
+            fault = "nothing runs or checks this block: TESTED of tools/readme.py names no test"
         if fault:
             faults.append((block.line, fault))
     return rest, faults + [(1, f"there is no block that begins with {start}") for start in tests]

@@ -144,6 +144,30 @@ def test_each_worker_has_a_port_for_its_metrics(upstream, several):
     assert sum(counts) == 8
 
 
+# A child that is no worker has ended before the only worker does.
+INHERITED = """
+import os, subprocess, sys, time
+from odb_batch.gateway._workers import Workers
+
+other = subprocess.Popen(["true"]).pid
+
+def work(worker):
+    while os.path.exists(f"/proc/{other}"):
+        time.sleep(0.01)
+    return 3
+
+sys.exit(Workers(1, work).run())
+"""
+
+
+def test_a_process_that_is_inherited_is_no_worker(aiohttp):
+    """The first process of a container is the parent of those whose own parent has ended."""
+    if not os.path.exists("/proc/net/tcp"):
+        pytest.skip("/proc is not installed")
+    done = subprocess.run([sys.executable, "-c", INHERITED], env=with_package(), stderr=subprocess.PIPE, timeout=SECONDS)
+    assert (done.returncode, done.stderr) == (3, b"")
+
+
 @pytest.mark.parametrize("words, status, line", [
     (["--journal", "/no", "--one-client"], 3, "error: /no: No such file or directory"),
     (["--metrics", "/metrics"], 2, "python3 -m odb_batch gateway: error: --workers needs --metrics PORT: each worker has a port of its "
