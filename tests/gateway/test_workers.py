@@ -50,7 +50,7 @@ def several(running):
 def test_a_gateway_that_has_ended_is_not_waited_for(several):
     with socket.create_server(("127.0.0.1", 0)) as used:
         metrics = str(used.getsockname()[1])
-        with pytest.raises(pytest.fail.Exception, match="status 3: .*in use"):
+        with pytest.raises((AssertionError, pytest.fail.Exception), match="already in use"):
             several("--upstream", "http://127.0.0.1:1/", "--metrics", metrics)
 
 
@@ -146,10 +146,12 @@ def test_each_worker_has_a_port_for_its_metrics(upstream, several):
 
 # A child that is no worker has ended before the only worker does.
 INHERITED = """
-import os, subprocess, sys, time
+import os, sys, time
 from odb_batch.gateway._workers import Workers
 
-other = subprocess.Popen(["true"]).pid
+other = os.fork()
+if not other:
+    os._exit(0)
 
 def work(worker):
     while os.path.exists(f"/proc/{other}"):
