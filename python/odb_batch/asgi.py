@@ -21,7 +21,7 @@ from .http.batch_request import BatchRequest, batch_folder
 from .http.budget import BodyBudget, BodyReader, memory_budget
 from .http.headers import require_once
 from .http.messages import LOG, Answer, PreparedRequest, Refusal, header_dict
-from .http.options import require_limit, require_seconds, root_path
+from .http.options import allowed_names, require_limit, require_seconds, root_path
 from .http.responses import batch_response, error_response, length_refusal, wire_message
 
 __all__ = ["BatchMiddleware"]
@@ -98,7 +98,7 @@ class BatchMiddleware:
         self.transaction = None if transaction is None else _asynchronous(transaction)
         self.timeout, self.deadline = require_seconds("timeout", timeout), require_seconds("deadline", deadline)
         self.at_once, self.limit, self.max_size, self.budget = at_once, limit, max_size, memory_budget(memory, max_size)
-        self.allowed, self.root = tuple(allowed), root_path(root, path)
+        self.allowed, self.root = allowed_names(allowed), root_path(root, path)
         # Places belong to one loop, and tests may run the application in several.
         self._places: "weakref.WeakKeyDictionary[asyncio.AbstractEventLoop, Places]" = weakref.WeakKeyDictionary()
 
