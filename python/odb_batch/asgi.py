@@ -348,8 +348,7 @@ class _Exchange:
     def answer(self) -> Answer:
         """Returns the answer; raises Refusal if it is too long, and RuntimeError if the application has not completed
         it."""
-        body = self._reading.body()
-        if not self._begun or not self.is_complete:
+        if self._reading.refusal is None and not (self._begun and self.is_complete):
             raise RuntimeError("the application has not completed its answer")
         headers = [(name.decode("latin-1"), value.decode("latin-1")) for name, value in self._begun.get("headers", ())]
-        return Answer(self._begun["status"], header_dict(headers), body)
+        return Answer(self._begun.get("status", 500), header_dict(headers), self._reading.body())
