@@ -47,6 +47,7 @@ class TestAnswersThatDoNotEnd:
                 return await plain(send)
             try:
                 await (asyncio.ensure_future(flood(send, catch)) if is_in_task else flood(send, catch))
+                ended.append("by nobody")
             finally:
                 ended.append(scope["path"])
 
