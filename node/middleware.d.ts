@@ -17,8 +17,9 @@ export interface BatchOptions extends SharedPerformOptions {
   root?: string
   /**
    * Names of headers that requests may have, beside those of OData and of conditional requests, and `traceparent`, `tracestate`,
-   * `X-Request-ID`, `X-Correlation-ID`, `client-request-id`, `X-CSRF-Token`, `X-Requested-With` and `sap-*`. Others are answered
-   * 400, which the log says once for each name, of at most 100.
+   * `X-Request-ID`, `X-Correlation-ID`, `client-request-id`, `X-CSRF-Token`, `X-Requested-With` and `sap-*`. Dropped are
+   * `Accept-Encoding`, `Connection`, `Content-Length`, `Host`, and, unless they are allowed, `Cache-Control`, `Date`, `Pragma` and
+   * `User-Agent`. Others are answered 400, which the log says once for each name, of at most 100.
    */
   allowed?: readonly string[]
   /**

@@ -22,9 +22,10 @@ const OF_CLIENTS = [
   'client-request-id', 'traceparent', 'tracestate', 'x-correlation-id', 'x-csrf-token', 'x-request-id', 'x-requested-with',
 ]
 const PREFIX_OF_CLIENTS = 'sap-'
-const IGNORED = new Set([
-  'accept-encoding', 'cache-control', 'connection', 'content-length', 'date', 'host', 'pragma', 'user-agent',
-])
+// What clients set on each request by themselves: of a request of a batch it is dropped. The first are of a connection, which such
+// a request has not; the others may be allowed.
+const OF_CONNECTION = ['accept-encoding', 'connection', 'content-length', 'host']
+const USUALLY_DROPPED = ['cache-control', 'date', 'pragma', 'user-agent']
 // How many names the log says at most, since clients choose them.
 const MOST_NAMES = 100
 
@@ -37,12 +38,17 @@ function inheritHeaders(headers) {
 /** Which headers requests of batches may have for themselves. */
 class HeaderPolicy {
   #allowed
+  #dropped
   #log
   #refused = new Set()
 
-  /** `allowed` has further names. A name that is refused is logged once. */
+  /** `allowed` has further names; throws if no request may have one. A name that is refused is logged once. */
   constructor(allowed, log) {
-    this.#allowed = new Set([...ALLOWED, ...OF_CLIENTS, ...allowed.map((name) => name.toLowerCase())])
+    const added = allowed.map((name) => name.toLowerCase())
+    const wrong = added.find((name) => OF_CONNECTION.includes(name))
+    if (wrong !== undefined) throw new TypeError(`allowed: no request of a batch may have the header ${wrong}`)
+    this.#allowed = new Set([...ALLOWED, ...OF_CLIENTS, ...added])
+    this.#dropped = new Set([...OF_CONNECTION, ...USUALLY_DROPPED.filter((name) => !added.includes(name))])
     this.#log = log
   }
 
@@ -50,7 +56,7 @@ class HeaderPolicy {
   apply(id, headers, preferences) {
     const found = {}
     for (const [name, value] of Object.entries(headers)) {
-      if (IGNORED.has(name)) continue
+      if (this.#dropped.has(name)) continue
       this.#require(id, name, value)
       found[name] = name === 'prefer' ? [value, ...preferences].join(', ') : value
     }

@@ -21,7 +21,7 @@ from .http.batch_request import BatchRequest, batch_folder
 from .http.budget import BodyBudget, BodyReader, memory_budget
 from .http.headers import require_once
 from .http.messages import LOG, Answer, PreparedRequest, Refusal, header_dict
-from .http.options import require_limit, require_seconds, root_path
+from .http.options import allowed_names, require_limit, require_seconds, root_path
 from .http.responses import batch_response, error_response, length_refusal, wire_message
 
 __all__ = ["BatchMiddleware"]
@@ -98,7 +98,7 @@ class BatchMiddleware:
         self.transaction = None if transaction is None else _asynchronous(transaction)
         self.timeout, self.deadline = require_seconds("timeout", timeout), require_seconds("deadline", deadline)
         self.at_once, self.limit, self.max_size, self.budget = at_once, limit, max_size, memory_budget(memory, max_size)
-        self.allowed, self.root = tuple(allowed), root_path(root, path)
+        self.allowed, self.root = allowed_names(allowed), root_path(root, path)
         # Places belong to one loop, and tests may run the application in several.
         self._places: "weakref.WeakKeyDictionary[asyncio.AbstractEventLoop, Places]" = weakref.WeakKeyDictionary()
 
@@ -348,8 +348,7 @@ class _Exchange:
     def answer(self) -> Answer:
         """Returns the answer; raises Refusal if it is too long, and RuntimeError if the application has not completed
         it."""
-        body = self._reading.body()
-        if not self._begun or not self.is_complete:
+        if self._reading.refusal is None and not (self._begun and self.is_complete):
             raise RuntimeError("the application has not completed its answer")
         headers = [(name.decode("latin-1"), value.decode("latin-1")) for name, value in self._begun.get("headers", ())]
-        return Answer(self._begun["status"], header_dict(headers), body)
+        return Answer(self._begun.get("status", 500), header_dict(headers), self._reading.body())

@@ -21,7 +21,7 @@ from .http.batch_request import BatchRequest, batch_folder
 from .http.budget import BodyBudget, BodyReader, memory_budget
 from .http.headers import require_once
 from .http.messages import Answer, PreparedRequest, Refusal, header_dict
-from .http.options import require_limit, require_seconds, root_path
+from .http.options import allowed_names, require_limit, require_seconds, root_path
 from .http.responses import batch_response, error_response, length_refusal, wire_message
 
 __all__ = ["BatchMiddleware"]
@@ -106,7 +106,7 @@ class BatchMiddleware:
         self.app, self.path, self.transaction, self.width, self.stop = app, path, transaction, width, stop
         self.timeout, self.deadline = require_seconds("timeout", timeout), require_seconds("deadline", deadline)
         self.limit, self.max_size, self.budget, self.inspect = limit, max_size, memory_budget(memory, max_size), inspect
-        self.allowed, self.root = tuple(allowed), root_path(root, path)
+        self.allowed, self.root = allowed_names(allowed), root_path(root, path)
         self.pool = ThreadPoolExecutor(width, "batch") if width != 1 else None
 
     def __call__(self, environ: _Environ, start_response: Callable[..., Any]) -> Iterable[bytes]:

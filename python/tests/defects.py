@@ -32,7 +32,7 @@ DEFECTS = {
         "asgi", "await self._completed.wait()\n", "pass\n", WSGI_ASGI, "receive_blocks",
     ),
     "a-success-without-its-commit": ("asgi", " or exchange.is_success", "", WSGI_ASGI, "after_a_success"),
-    "a-cut-answer-is-one": ("asgi", "if not self._begun or not self.is_complete:", "if not self._begun:", WSGI_ASGI, "answers_half"),
+    "a-cut-answer-is-one": ("asgi", "not (self._begun and self.is_complete)", "not self._begun", WSGI_ASGI, "answers_half"),
     "an-answer-ends-a-request": (
         "asgi", "await self._middleware.app(scope, exchange.receive, exchange.send)",
         "asyncio.ensure_future(self._middleware.app(scope, exchange.receive, exchange.send))\n"

@@ -266,6 +266,23 @@ def test_headers_that_an_option_allows(upstream, front, caplog):
     assert {(response["status"], code_of(response)) for response in found.values()} == {(400, "HeaderNotAllowed")}
 
 
+OF_CONNECTION = ["Accept-Encoding", "Connection", "Content-Length", "Host"]
+USUALLY_DROPPED = ["Cache-Control", "Date", "Pragma", "User-Agent"]
+
+
+def test_headers_that_clients_set_by_themselves_are_dropped_unless_an_option_allows_them(upstream, front):
+    service = upstream()
+    asked = [{"url": "x"}, {"url": "x", "headers": dict.fromkeys([*OF_CONNECTION, *USUALLY_DROPPED], "7")}]
+    headers = {**CONTINUE, "User-Agent": "of the batch"}
+    assert front("--upstream", service.url).statuses(*asked, headers=headers) == [200, 200]
+    plain, dropped = (seen.headers for seen in service.seen)
+    assert dropped == plain
+    allowed = [word for name in USUALLY_DROPPED for word in ("--allow", name)]
+    assert front("--upstream", service.url, *allowed).statuses(asked[1]) == [200]
+    own = {name.lower(): "7" for name in USUALLY_DROPPED}
+    assert service.seen[2].headers == {**plain, **own, "x-forwarded-host": service.seen[2].headers["x-forwarded-host"]}
+
+
 def test_a_header_of_a_request_is_sent_in_utf_8(loop, front):
     """So an ETag of a service that writes UTF-8 comes back to it as it was."""
     from support.gateways import Raw

@@ -84,6 +84,7 @@ def test_a_path_is_normalized_but_for_what_has_a_meaning():
         ["--metrics", "/health"], ["--metrics", "/health/ready"], ["--upstream", "http://b/"], ["--metrics", "x"], ["--health", "health"], ["--groups", "some"], ["--log", "all"], ["--keep", "nan"], ["--credential", "a b"], ["--no"],
         ["--max-size", "16777217"], ["--max-size", "0"], ["--deadline", "0"], ["--keep-alive", "0"], ["--keep-alive", "x"],
         ["--allow", "a b"], ["--allow", "X-Forwarded-For"], ["--allow", "Host"], ["--allow", "Cookie"],
+        ["--allow", "Content-Length"], ["--allow", "Accept-Encoding"], ["--allow", "Connection"],
         ["--allow", "X-Client", "--client-header", "X-Client"],
         ["--send", "Authorization"], ["--send", "a b=/"], ["--send", "Cookie=http://a/"], ["--send", "Cookie=/x/"],
     )),

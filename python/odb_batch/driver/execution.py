@@ -25,14 +25,16 @@ class Unit:
         ids: Its requests in order: each comes after those of the group that it needs.
         group: The name of the group, or None.
         open: The request that has started and is not reported yet, or None.
+        prepared: Its first request as it is sent, if somebody has asked for that before; or None.
         is_noted: Whether the journal has its start.
     """
 
-    __slots__ = ("ids", "group", "open", "is_noted")
+    __slots__ = ("ids", "group", "open", "prepared", "is_noted")
 
     def __init__(self, ids: tuple[str, ...], group: Optional[str], is_noted: bool = False) -> None:
         self.ids, self.group, self.is_noted = ids, group, is_noted
         self.open: Optional[str] = ids[0]
+        self.prepared: Optional[PreparedRequest] = None
 
     def __str__(self) -> str:
         return self.ids[0] if self.group is None else f"the group {self.group}"
@@ -204,8 +206,9 @@ class Execution:
         self._run.stop()
 
     def prepare(self, unit: Unit) -> PreparedRequest:
-        """Returns the open request of a unit, as it is sent; raises Refusal if it cannot be."""
-        return self._resolver.prepare(str(unit.open))
+        """Returns the first request of a unit, as it is sent; raises Refusal if it cannot be."""
+        unit.prepared = self._resolver.prepare(unit.ids[0])
+        return unit.prepared
 
     # A group that is sent as one
 
@@ -255,7 +258,8 @@ class Execution:
                 self._run.start(request_id)
                 unit.open = request_id
             try:
-                answered = yield self._resolver.prepare(request_id)
+                prepared, unit.prepared = unit.prepared, None
+                answered = yield prepared or self._resolver.prepare(request_id)
                 if isinstance(answered, BaseException):
                     answer = answer_for(answered, f"the request {request_id}")
                 else:

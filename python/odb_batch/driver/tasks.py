@@ -223,43 +223,42 @@ class _Tasks:
             self._finished.set_exception(raised)
 
     async def _perform(self, unit: Unit) -> None:
-        gate = self._options.gate
-        if gate is None:
-            if self._execution.confirm(unit):
-                await self._perform_unit(unit)
-            return
-        if isinstance(gate, Places) and gate.take():  # most have one at once
-            try:
-                if self._execution.confirm(unit):
-                    await self._perform_unit(unit)
-                return
-            finally:
-                gate.leave()
-        place, refused = await self._take_place(unit, gate)
+        gate, refused = self._gate_of(unit)
+        place = None
+        taken = gate if isinstance(gate, Places) and gate.take() else None  # most have a place at once
         try:
+            if gate is not None and taken is None:
+                place, refused = await self._take_place(unit, gate)
             if not self._execution.confirm(unit):
                 return
             if refused is not None:
                 return self._execution.refuse(unit, refused)
             await self._perform_unit(unit)
         finally:
-            if place is not None:
+            if taken is not None:
+                taken.leave()
+            elif place is not None:
                 await place.__aexit__(*sys.exc_info())
 
+    def _gate_of(self, unit: Unit) -> tuple[Optional[AsyncContextManager[Any]], Optional[Answer]]:
+        """Returns where a unit waits for its place, or what it is answered without one. One that cannot be sent has neither."""
+        gate = self._options.gate
+        if not callable(gate):
+            return gate, None
+        try:
+            outgoing = self._outgoing(unit)
+            return (None if outgoing is None else gate(outgoing)), None
+        except (asyncio.CancelledError, Exception) as error:
+            return None, answer_for(error, str(unit))
+
     async def _take_place(
-        self, unit: Unit, gate: Union[AsyncContextManager[Any], Gate]
+        self, unit: Unit, gate: AsyncContextManager[Any]
     ) -> tuple[Optional[AsyncContextManager[Any]], Optional[Answer]]:
-        """Waits for the place of a unit; returns it, or what the unit is answered without it. One that cannot be sent has
-        neither."""
+        """Waits for the place of a unit; returns it, or what the unit is answered without it."""
         task = asyncio.current_task()
         assert task is not None
+        self._waiting.add(task)
         try:
-            if callable(gate):
-                outgoing = self._outgoing(unit)
-                if outgoing is None:
-                    return None, None
-                gate = gate(outgoing)
-            self._waiting.add(task)
             await gate.__aenter__()
             return gate, None
         except asyncio.CancelledError as error:

@@ -7,6 +7,7 @@ from urllib.parse import urlsplit
 
 from .._native.calls import MAX_WIDTH
 from ..driver.execution import MAX_BODY_BYTES
+from ..http.headers import is_of_connection
 from ._credentials import is_own
 from ._routes import Route, normalized
 
@@ -116,7 +117,7 @@ def sent(text: str) -> Tuple[str, str]:
 def allowed(text: str) -> str:
     """Reads the name of a header that requests of a batch may have."""
     name = header(text)
-    if is_own(name) or name == "cookie":
+    if is_own(name) or is_of_connection(name) or name == "cookie":
         raise argparse.ArgumentTypeError(f"{text!r} is for proxies or the gateway to say")
     return name
 

@@ -30,10 +30,10 @@ _ALLOWED = frozenset(
     }
 )  # fmt: skip
 _ALLOWED_PREFIXES = ("sap-",)
-# What clients send with each request; in a batch it has no meaning, and is dropped.
-_IGNORED = frozenset(
-    {"accept-encoding", "cache-control", "connection", "content-length", "date", "host", "pragma", "user-agent"}
-)
+# What clients set on each request by themselves: of a request of a batch it is dropped. The first are of a connection,
+# which such a request has not; the others may be allowed.
+_OF_CONNECTION = frozenset({"accept-encoding", "connection", "content-length", "host"})
+_USUALLY_DROPPED = frozenset({"cache-control", "date", "pragma", "user-agent"})
 # The headers of which the log has a line; a client chooses names, so they are not many.
 _WARNED: set[str] = set()
 _WARNED_LOCK, _MAX_WARNED = threading.Lock(), 100
@@ -75,7 +75,8 @@ class HeaderPolicy:
     """
 
     def __init__(self, headers: Mapping[str, str], preferences: Iterable[Preference], allowed: Iterable[str]) -> None:
-        self._allowed = _ALLOWED.union(map(str.lower, allowed))
+        added = frozenset(map(str.lower, allowed))
+        self._allowed, self._dropped = _ALLOWED | added, _OF_CONNECTION | (_USUALLY_DROPPED - added)
         self._prefer = [preference.text for preference in preferences if preference.name not in _OF_BATCH]
         self.inherited = {name: value for name, value in headers.items() if _is_inherited(name)}
         if self._prefer:
@@ -99,7 +100,7 @@ class HeaderPolicy:
         """Returns what a request of the batch adds to the headers that it inherits; raises Refusal as `for_request`."""
         headers = {}
         for name, value in given.items():
-            if name in _IGNORED:
+            if name in self._dropped:
                 continue
             if name not in self._allowed and not name.startswith(_ALLOWED_PREFIXES):
                 _warn_of(name)
@@ -108,6 +109,11 @@ class HeaderPolicy:
                 raise Refusal(400, "BadHeader", f"The header {name} has a character that it may not have", name)
             headers[name] = ", ".join([value, *self._prefer]) if name == "prefer" else value
         return headers
+
+
+def is_of_connection(name: str) -> bool:
+    """Returns whether no request of a batch has a header, by its name in lower case: it is dropped even if it is allowed."""
+    return name in _OF_CONNECTION
 
 
 def _warn_of(name: str) -> None:
