@@ -14,14 +14,14 @@ from typing import Any, Awaitable, Callable, Iterable, MutableMapping, Optional
 from urllib.parse import quote, unquote, urlsplit
 
 from ._native.calls import policy_numbers
+from .driver.execution import require_limit
 from .driver.tasks import TransactionAsync, perform_async
 from .driver.waits import Places, uncancel, within
 from .errors.faults import Fault
 from .http.batch_request import BatchRequest, batch_folder
 from .http.budget import BodyBudget, BodyReader, memory_budget
-from .http.headers import require_once
 from .http.messages import LOG, Answer, PreparedRequest, Refusal, header_dict
-from .http.options import require_limit, require_seconds, root_path
+from .http.options import require_seconds, root_path
 from .http.responses import batch_response, error_response, length_refusal, wire_message
 
 __all__ = ["BatchMiddleware"]
@@ -98,7 +98,7 @@ class BatchMiddleware:
         self.transaction = None if transaction is None else _asynchronous(transaction)
         self.timeout, self.deadline = require_seconds("timeout", timeout), require_seconds("deadline", deadline)
         self.at_once, self.limit, self.max_size, self.budget = at_once, limit, max_size, memory_budget(memory, max_size)
-        self.allowed, self.root = tuple(allowed), root_path(root, path)
+        self.allowed, self.folder, self.root = tuple(allowed), batch_folder(path), root_path(root, path)
         # Places belong to one loop, and tests may run the application in several.
         self._places: "weakref.WeakKeyDictionary[asyncio.AbstractEventLoop, Places]" = weakref.WeakKeyDictionary()
 
@@ -120,14 +120,14 @@ class BatchMiddleware:
         """Performs the batch of a request; raises Fault or Refusal if it is refused as a whole."""
         headers = header_dict([(name.decode("latin-1"), value.decode("latin-1")) for name, value in scope["headers"]])
         prefix = scope.get("root_path", "")
-        folder, root = prefix + batch_folder(self.path), prefix + self.root
+        folder, root = prefix + self.folder, prefix + self.root
         scheme, host = scope.get("scheme", "http"), headers.get("host", "")
-        outer = BatchRequest(scope["method"], scheme, host, folder, root, headers, self.allowed)
-        require_once(headers)
+        outer = BatchRequest(scope["method"], scheme, host, folder, root, headers, self.allowed, is_kept=False)
         try:
             batch = await within(_READ_SECONDS, self._read(receive, room))
         except asyncio.TimeoutError:
             raise Refusal(408, "CutBody", "The batch did not come in time") from None
+        stop = self.stop
         with _Client(receive) as client:
             response = await perform_async(
                 batch,
@@ -138,7 +138,7 @@ class BatchMiddleware:
                 base=outer.base,
                 roots=outer.roots,
                 limit=self.limit,
-                stop=lambda: client.has_gone or (self.stop is not None and self.stop()),
+                stop=client.has_gone if stop is None else lambda: client.has_gone() or (stop is not None and stop()),
                 timeout=self.timeout,
                 deadline=self.deadline,
                 gate=self._gate(),
@@ -196,12 +196,12 @@ class _Client:
     """Notices that the client of a batch has gone, while the batch is performed.
 
     Attributes:
-        has_gone: Whether it has.
+        has_gone: Returns whether it has.
     """
 
     def __init__(self, receive: _Receive) -> None:
-        self.has_gone = False
-        self._receive = receive
+        self._gone, self._receive = asyncio.Event(), receive
+        self.has_gone = self._gone.is_set
 
     def __enter__(self) -> "_Client":
         self._task = asyncio.ensure_future(self._wait())
@@ -217,7 +217,7 @@ class _Client:
             LOG.warning("the server does not say whether the client of a batch has gone", exc_info=error)
             return
         if message["type"] == "http.disconnect":
-            self.has_gone = True
+            self._gone.set()
             LOG.info("the client of a batch has gone, so nothing more of it starts")
 
 
@@ -351,5 +351,6 @@ class _Exchange:
         body = self._reading.body()
         if not self._begun or not self.is_complete:
             raise RuntimeError("the application has not completed its answer")
-        headers = [(name.decode("latin-1"), value.decode("latin-1")) for name, value in self._begun.get("headers", ())]
-        return Answer(self._begun["status"], header_dict(headers), body)
+        pairs = [(name.decode("latin-1"), value.decode("latin-1")) for name, value in self._begun.get("headers", ())]
+        headers = dict(pairs)
+        return Answer(self._begun["status"], headers if len(headers) == len(pairs) else header_dict(pairs), body)

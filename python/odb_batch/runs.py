@@ -8,7 +8,7 @@ from typing import Any, Literal, Mapping, NoReturn, Optional, SupportsIndex, Uni
 
 from ._native import library
 from ._native.calls import MAX_WIDTH, Mode, policy_numbers, read_text, status_error
-from .documents.encoding import Document, Events, body_json, document_bytes, events_bytes, json_bytes
+from .documents.encoding import Document, Events, document_bytes, events_bytes, report_bytes
 from .documents.requests import Request, requests
 from .errors.faults import Fault, Refused
 from .values import Value
@@ -295,8 +295,7 @@ class Run:
         if isinstance(status, bool) or not isinstance(status, int):
             raise TypeError(f"a status is a whole number, not {status!r}")
         position = self._at[id]
-        heads = b"" if headers is None else json_bytes(dict(headers))
-        text = body_json(body)
+        heads, text = report_bytes(headers, body)
         number = min(max(status, 0), _MAX_NUMBER)
         with self._lock:
             end = self._call("odb_run_report", position, number, heads, len(heads), text, len(text))

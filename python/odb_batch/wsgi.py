@@ -15,13 +15,13 @@ from typing import Any, Callable, Iterable, Iterator, Optional
 from urllib.parse import unquote_to_bytes, urlsplit
 
 from ._native.calls import policy_numbers
+from .driver.execution import require_limit
 from .driver.threads import Transaction, perform
 from .errors.faults import Fault
 from .http.batch_request import BatchRequest, batch_folder
 from .http.budget import BodyBudget, BodyReader, memory_budget
-from .http.headers import require_once
 from .http.messages import Answer, PreparedRequest, Refusal, header_dict
-from .http.options import require_limit, require_seconds, root_path
+from .http.options import require_seconds, root_path
 from .http.responses import batch_response, error_response, length_refusal, wire_message
 
 __all__ = ["BatchMiddleware"]
@@ -106,7 +106,7 @@ class BatchMiddleware:
         self.app, self.path, self.transaction, self.width, self.stop = app, path, transaction, width, stop
         self.timeout, self.deadline = require_seconds("timeout", timeout), require_seconds("deadline", deadline)
         self.limit, self.max_size, self.budget, self.inspect = limit, max_size, memory_budget(memory, max_size), inspect
-        self.allowed, self.root = tuple(allowed), root_path(root, path)
+        self.allowed, self.folder, self.root = tuple(allowed), batch_folder(path), root_path(root, path)
         self.pool = ThreadPoolExecutor(width, "batch") if width != 1 else None
 
     def __call__(self, environ: _Environ, start_response: Callable[..., Any]) -> Iterable[bytes]:
@@ -151,10 +151,9 @@ class BatchMiddleware:
         )
         headers["content-type"] = environ.get("CONTENT_TYPE", "")
         prefix = _decoded(environ.get("SCRIPT_NAME", ""))
-        folder, root = prefix + batch_folder(self.path), prefix + self.root
+        folder, root = prefix + self.folder, prefix + self.root
         scheme, host = environ.get("wsgi.url_scheme", "http"), headers.get("host") or _server_of(environ)
-        outer = BatchRequest(environ["REQUEST_METHOD"], scheme, host, folder, root, headers, self.allowed)
-        require_once(headers)
+        outer = BatchRequest(environ["REQUEST_METHOD"], scheme, host, folder, root, headers, self.allowed, is_kept=False)
         return outer
 
     def _read(self, environ: _Environ, room: BodyBudget) -> bytes:

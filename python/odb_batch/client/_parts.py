@@ -11,7 +11,7 @@ from ..commands import PlannedRequest, check, match, plan
 from ..documents.encoding import document_bytes, json_bytes
 from ..documents.requests import Request, requests
 from ..driver.groups import SKIPPED
-from ..driver.references import ReferenceResolver, ServiceUrls
+from ..driver.references import ReferenceResolver
 from ..errors.faults import Fault
 from ..http.batches import batch_json, read_answers, request_json
 from ..http.messages import BROKEN, LOG, TIMED_OUT, TIMEOUTS, Answer, Answered, Refusal, validate_answer
@@ -84,7 +84,7 @@ class Parts:
         for unit in self._units:
             if len(unit.ids) > limit:
                 raise ValueError(f"the group {unit.group} has {len(unit.ids)} requests, and a batch may have {limit}")
-        self._resolver = ReferenceResolver(given, ServiceUrls(""))
+        self._resolver = ReferenceResolver(given)
         self.answers: dict[str, Answer] = dict.fromkeys(self._needs, SKIPPED)
         self.error: Optional[Exception] = None
         # Those to which others refer, of those that have succeeded.
@@ -193,7 +193,8 @@ class Parts:
             answer = self.answers[request_id] = answers.get(request_id, SKIPPED)
             if not answer.is_success:
                 self._sound.discard(number)
-            elif self._resolver.record(request_id, answer):
+            elif request_id in self._resolver.referred:
+                self._resolver.record(request_id, answer)
                 self._referred.append(request_id)
         if self._mode == "stop" and self._is_error(unit):
             self._is_stopped = True

@@ -19,9 +19,3 @@ def root_path(root: Optional[str], path: str) -> str:
     if root is not None and not (root.startswith("/") and root.endswith("/")):
         raise ValueError(f"the root must begin and end with /, not {root!r}")
     return batch_folder(path) if root is None else root
-
-
-def require_limit(limit: int) -> None:
-    """Raises ValueError if no batch may have as many requests."""
-    if isinstance(limit, bool) or not isinstance(limit, int) or limit < 1:
-        raise ValueError(f"limit must be a whole number above 0, not {limit!r}")
