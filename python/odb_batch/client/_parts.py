@@ -75,7 +75,7 @@ class Parts:
         if isinstance(limit, bool) or not isinstance(limit, int) or not 1 <= limit <= MAX_REQUESTS:
             raise ValueError(f"limit must be a whole number from 1 to {MAX_REQUESTS}, not {limit!r}")
         policy_numbers(mode, MAX_WIDTH)
-        given, planned = requests(document), plan(document)
+        given, planned = requests(document), plan(document).requests
         self.document, self._limit, self._mode = document, limit, mode
         self._needs = {request.id: request.needs for request in planned}
         self._groups = {request.id: request.group for request in planned}
@@ -118,8 +118,10 @@ class Parts:
                     self._out.append(self._at)
                     self._sound.add(self._at)
             self._at += 1
+        if not elements:
+            return None
         self._part = batch_json(elements)
-        return self._part if elements else None
+        return self._part
 
     def _elements(self, unit: Unit, names: set[str]) -> list[bytes]:
         """The texts of the requests of a unit; adds its names to those of the part. Dependencies on other parts, which
