@@ -6,14 +6,13 @@
 const { requireOptions } = require('../calls/options.js')
 const { Fault } = require('../errors/faults.js')
 const { Refusal, toRefusal } = require('../errors/refusals.js')
-const { BatchRequest, folder } = require('../http/batch_request.js')
+const { BatchRequest, HeaderPolicy, folder } = require('../http/batch_request.js')
 const { MOST_BYTES } = require('../http/bodies.js')
-const { HeaderPolicy } = require('../http/header_policy.js')
 const { unquoted } = require('../http/urls.js')
 const { performBatch, performSettings } = require('../perform/index.js')
-const { Stop } = require('../perform/waits.js')
+const { Stop } = require('../perform/performer.js')
 const { BodyBudget } = require('./body_budget.js')
-const { ClientConnection, readBody, requireOnce } = require('./connection.js')
+const { ClientConnection, readBody } = require('./connection.js')
 const { appCaller, isRead } = require('./dispatch.js')
 
 const OPTIONS = [
@@ -49,9 +48,8 @@ function batchSettings(options) {
 
 /** The answer to a request that carries a batch. */
 async function answerBatch(callApp, req, client, memory, { path, root, policy, inspect, maxSize, perform }) {
-  const batchRequest = new BatchRequest(req, path, policy)
-  const { mode, base } = batchRequest
-  requireOnce(req.headers)
+  const batchRequest = new BatchRequest(req, path, root, policy)
+  const { mode, base, roots } = batchRequest
   const document = await readBody(req, maxSize, memory)
   const budget = new BodyBudget(maxSize, memory)
   const call = async (request, wait) => {
@@ -64,12 +62,17 @@ async function answerBatch(callApp, req, client, memory, { path, root, policy, i
     if (answer.shortage !== undefined) perform.log(answer.shortage, `the request ${request.id}, whose answer loses its body`)
     return answer
   }
-  const send = (request, wait) => {
-    return isRead(request) && request.group === null ? client.read(wait, () => call(request, wait)) : call(request, wait)
+  const send = async (request, wait) => {
+    if (isRead(request) && request.group === null) client.reads.add(wait)
+    try {
+      return await call(request, wait)
+    } finally {
+      client.reads.delete(wait)
+    }
   }
   const stop = new Stop(perform.stop, perform.deadline)
   client.stopWith(stop)
-  const body = await performBatch(document, send, { ...perform, stop, mode, base, roots: batchRequest.roots(root) })
+  const body = await performBatch(document, send, { ...perform, stop, mode, base, roots })
   if (client.hasLeft) perform.log(new Error('the client left before the answer: what had not started was not sent'), 'the batch')
   const applied = mode === 'continue' ? { 'preference-applied': 'continue-on-error' } : {}
   return { status: 200, headers: { 'content-type': 'application/json', ...applied }, body }

@@ -7,9 +7,7 @@ const { requests: listRequests } = require('../calls/requests.js')
 const { documentBytes, kindName } = require('../documents/bytes.js')
 const { Refusal } = require('../errors/refusals.js')
 const { readAnswer } = require('../http/answers.js')
-const { Service } = require('../http/urls.js')
-const { Performer } = require('./performer.js')
-const { Stop } = require('./waits.js')
+const { Performer, Stop } = require('./performer.js')
 
 const OPTIONS = ['mode', 'width', 'transaction', 'base', 'roots', 'timeout', 'deadline', 'limit', 'stop', 'log']
 const MOST_REQUESTS = 10000
@@ -58,11 +56,10 @@ function requirePerformable(requests, { limit, transaction }) {
  * the settings is a `Stop`.
  */
 async function performBatch(batch, send, settings) {
-  const service = new Service(settings.base, settings.roots)
   const document = documentBytes(batch)
   const requests = listRequests(document)
   requirePerformable(requests, settings)
-  const performer = new Performer(document, requests, service, send, settings)
+  const performer = new Performer(document, requests, send, settings)
   try {
     await performer.perform()
     return performer.response()

@@ -1,12 +1,12 @@
 'use strict'
 
-// A batch on its way from its document to its response: each request is sent once it may start, with references resolved, and its
-// answer is reported to the run.
+// A batch on its way from its document to its response: each request is sent once it may start, with references resolved, its answer
+// is waited for, and reported to the run.
 
 const { Run } = require('../calls/run.js')
 const { Fault } = require('../errors/faults.js')
 const { Refusal, toRefusal } = require('../errors/refusals.js')
-const { MOST_BYTES, toJson, toJsonString, toWire } = require('../http/bodies.js')
+const { MOST_BYTES, toJson, toJsonString } = require('../http/bodies.js')
 const { References } = require('../http/references.js')
 const { GroupTransaction } = require('./group.js')
 
@@ -28,6 +28,88 @@ function asciiHeaders(headers) {
   return Object.fromEntries(Object.entries(headers).filter((pair) => /^[\x00-\x7f]*$/.test(pair.join(''))))
 }
 
+/** The wait for one answer. Its signal is made for who asks for it: making one takes longer than a request in memory. */
+class Wait {
+  #controller
+  /** Why the wait is over, or undefined. */
+  reason
+  /** Is called with the reason when the wait is over before an answer came. */
+  onEnd
+
+  get signal() {
+    if (this.#controller === undefined) {
+      this.#controller = new AbortController()
+      if (this.reason !== undefined) this.#controller.abort(this.reason)
+    }
+    return this.#controller.signal
+  }
+
+  end(reason) {
+    this.reason = reason
+    this.#controller?.abort(reason)
+    this.onEnd?.(reason)
+  }
+}
+
+/**
+ * Calls a function with the wait for its answer, which ends after a number of milliseconds: `onEnd` is called then. If they are
+ * infinite, there is no wait.
+ */
+async function within(milliseconds, call, onEnd) {
+  if (milliseconds === Infinity) return call()
+  const wait = new Wait()
+  let timer
+  const late = new Promise((_, reject) => {
+    timer = setTimeout(() => {
+      const reason = new DOMException('No answer came in time', 'TimeoutError')
+      onEnd()
+      reject(reason)
+      wait.end(reason)
+    }, milliseconds)
+  })
+  try {
+    return await Promise.race([call(wait), late])
+  } finally {
+    clearTimeout(timer)
+  }
+}
+
+/** When nothing more of a batch starts: once a signal is aborted, or some milliseconds after now. */
+class Stop {
+  #signal
+  #end
+
+  constructor(signal, deadline = Infinity) {
+    this.#signal = signal
+    this.#end = performance.now() + deadline
+  }
+
+  get isOver() {
+    return this.#signal?.aborted === true || this.#left <= 0
+  }
+
+  /** Has nothing more start. */
+  end() {
+    this.#end = 0
+  }
+
+  /** Whether nothing more starts that many milliseconds from now. */
+  isOverAfter(milliseconds) {
+    return this.#left <= milliseconds
+  }
+
+  /** Calls a function with the wait for its answer, which is not longer than up to the deadline, and than some milliseconds. */
+  within(timeout = Infinity, call) {
+    const left = this.#left
+    if (left > timeout) return within(timeout, call, () => {})
+    return within(left, call, () => this.end()) // the clock of timers is another one, and may be ahead
+  }
+
+  get #left() {
+    return this.#end === Infinity ? Infinity : this.#end - performance.now()
+  }
+}
+
 class Performer {
   #run
   #requests
@@ -35,13 +117,16 @@ class Performer {
   #send
   #settings
   #isStopped = false
+  // How many requests are of units that have not begun.
+  #left
 
   /** `send` is given a request, and the wait for its answer, if that has an end. */
-  constructor(batch, requests, service, send, settings) {
-    const { mode, width } = settings
-    this.#run = new Run(batch, { mode, width })
+  constructor(batch, requests, send, settings) {
+    const { mode, width, base, roots } = settings
+    this.#references = new References(requests, base, roots)
     this.#requests = new Map(requests.map((request) => [request.id, request]))
-    this.#references = new References(requests, service)
+    this.#run = new Run(batch, { mode, width })
+    this.#left = requests.length
     this.#send = send
     this.#settings = settings
   }
@@ -89,9 +174,8 @@ class Performer {
   async answer(id) {
     const { stop, timeout } = this.#settings
     try {
-      const request = this.#requests.get(id)
-      const { status, headers, body } = await stop.within(timeout, (wait) => this.#send(this.#prepare(request), wait))
-      return { status, headers, text: this.#requireFitting(request, toJson(body, headers)) }
+      const { status, headers, body } = await stop.within(timeout, (wait) => this.#send(this.#references.prepare(id), wait))
+      return { status, headers, text: this.#requireFitting(this.#requests.get(id), toJson(body, headers)) }
     } catch (error) {
       return this.#explain(error, `the request ${id}`)
     }
@@ -100,15 +184,17 @@ class Performer {
   /** Reports what a started request is answered. */
   report(id, { status, headers, text }) {
     this.#reportReadable(id, status, visibleHeaders(headers), text)
-    this.#references.keep(id, headers, text)
+    if (this.#references.referred.has(id)) this.#references.keep(id, headers, text)
     this.#isStopped ||= this.#settings.mode === 'stop' && status >= 400
   }
 
   /** The ids of the first unit that may begin, or null. Its first request is started, so that it does not begin twice. */
   #startUnit() {
     this.#heedStop()
-    const ids = this.#run.nextUnit()
-    if (ids !== null) this.#run.start(ids[0])
+    const ids = this.#left > 0 ? this.#run.nextUnit() : null
+    if (ids === null) return null
+    this.#run.start(ids[0])
+    this.#left -= ids.length
     return ids
   }
 
@@ -138,16 +224,6 @@ class Performer {
     }
     const isKnown = await group.end(reason, (error) => this.#explain(error, what))
     if (!isKnown) this.#settings.log(reason, what)
-  }
-
-  /** A request as it is to be sent, or a refusal if nothing can be sent. */
-  #prepare(request) {
-    const { id, method, group, body } = request
-    const headers = this.#references.headersOf(request)
-    const url = this.#references.url(id)
-    if (body === undefined) return { id, method, url, headers, body, group }
-    headers['content-type'] ??= 'application/json'
-    return { id, method, url, headers, body: toWire(body, headers), group }
   }
 
   /** The text of a body that is answered. If it is too long for a response a GET is refused, and any other request loses it. */
@@ -188,4 +264,4 @@ class Performer {
   }
 }
 
-module.exports = { Performer }
+module.exports = { Performer, Stop }
