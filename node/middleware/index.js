@@ -14,9 +14,11 @@ const { Stop } = require('../perform/performer.js')
 const { BodyBudget } = require('./body_budget.js')
 const { ClientConnection, readBody } = require('./connection.js')
 const { appCaller, isRead } = require('./dispatch.js')
+const { BatchObserver } = require('./observation.js')
 
 const OPTIONS = [
-  'path', 'root', 'allowed', 'inspect', 'maxSize', 'memory', 'limit', 'width', 'transaction', 'timeout', 'deadline', 'stop', 'log',
+  'path', 'root', 'allowed', 'inspect', 'onRequest', 'requestLog', 'maxSize', 'memory', 'limit', 'width', 'transaction', 'timeout',
+  'deadline', 'stop', 'log',
 ]
 const MOST_REQUESTS = 1000
 // For how long an answer is waited for, unless an option says so.
@@ -34,31 +36,38 @@ function requireBytes({ maxSize, memory }) {
 
 /** The options with their defaults, or a TypeError. */
 function batchSettings(options) {
-  const { path = '/$batch', root = folder(path), allowed = [], inspect, maxSize = MOST_BYTES, ...others } = options
+  const { path = '/$batch', root = folder(path), allowed = [], inspect, onRequest, requestLog, ...more } = options
+  const { maxSize = MOST_BYTES, ...others } = more
   const { memory = Math.max(USUAL_MEMORY, 2 * maxSize), limit = MOST_REQUESTS, timeout = MOST_MILLISECONDS, ...rest } = others
   for (const [name, value] of Object.entries({ path, root })) {
     if (!String(value).startsWith('/')) throw new TypeError(`the ${name} must begin with /, not ${String(value)}`)
   }
   if (!root.endsWith('/')) throw new TypeError(`the root must end with /, not ${root}`)
-  if (!['undefined', 'function'].includes(typeof inspect)) throw new TypeError(`inspect must be a function, not ${String(inspect)}`)
+  const hooks = { inspect, onRequest, requestLog }
+  for (const [name, hook] of Object.entries(hooks)) {
+    if (!['undefined', 'function'].includes(typeof hook)) throw new TypeError(`${name} must be a function, not ${String(hook)}`)
+  }
   requireBytes({ maxSize, memory })
   const perform = performSettings({ ...rest, limit, timeout })
-  return { path, root, policy: new HeaderPolicy(allowed, perform.log), inspect, maxSize, memory: new BodyBudget(memory), perform }
+  return { path, root, policy: new HeaderPolicy(allowed, perform.log), hooks, maxSize, memory: new BodyBudget(memory), perform }
 }
 
 /** The answer to a request that carries a batch. */
-async function answerBatch(callApp, req, client, memory, { path, root, policy, inspect, maxSize, perform }) {
+async function answerBatch(callApp, req, client, memory, { path, root, policy, hooks, maxSize, perform }) {
   const batchRequest = new BatchRequest(req, path, root, policy)
   const { mode, base, roots } = batchRequest
   const document = await readBody(req, maxSize, memory)
   const budget = new BodyBudget(maxSize, memory)
+  const observer = new BatchObserver(hooks.onRequest, hooks.requestLog, perform.log)
   const call = async (request, wait) => {
     const prepared = batchRequest.serviceRequest(request)
-    if (inspect !== undefined) {
-      await inspect({ ...request, headers: { ...prepared.headers } })
+    const seen = () => ({ ...request, headers: { ...prepared.headers } })
+    if (hooks.inspect !== undefined) {
+      await hooks.inspect(seen())
       client.requireWanted(wait)
     }
-    const answer = await callApp(req.socket, prepared, budget, wait)
+    const dispatch = () => callApp(req.socket, prepared, budget, wait)
+    const answer = await (observer.isNeeded ? observer.observe(seen(), dispatch) : dispatch())
     if (answer.shortage !== undefined) perform.log(answer.shortage, `the request ${request.id}, whose answer loses its body`)
     return answer
   }
