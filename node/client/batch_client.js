@@ -8,7 +8,7 @@ const { writeBatch } = require('../documents/batch_text.js')
 const { Refusal } = require('../errors/refusals.js')
 const { isSuccess, readAnswer } = require('../http/answers.js')
 const { foldHeaders } = require('../http/headers.js')
-const { Stop } = require('../perform/performer.js')
+const { Stop } = require('../perform/index.js')
 const { responseBytes } = require('./parts.js')
 const { Results, UNSURE, readSeconds } = require('./results.js')
 

@@ -6,7 +6,8 @@ from .._native.calls import Mode
 from ..commands import plan
 from ..documents.encoding import Document, document_bytes
 from ..documents.requests import requests
-from ._builder import Builder, naming_requests
+from ..errors.faults import Fault
+from ._builder import Builder
 from ._parts import MAX_REQUESTS, Parts
 from ._rest import rest_document
 from ._results import RequestFailed, ResultMap
@@ -88,8 +89,10 @@ class Batch(Builder):
 
         The exception by which a part was not answered is thrown into it. The value in the end is the results.
         """
-        with naming_requests():
+        try:
             parts = Parts(self.document(), limit, mode)
+        except Fault as fault:
+            raise fault.of_builder()
         while (document := parts.next()) is not None:
             try:
                 answered = read_response((yield document))

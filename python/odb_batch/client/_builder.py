@@ -247,18 +247,10 @@ class Builder:
             Fault: The batch is refused. Its text begins with the code, the id of the request and what is wrong.
             MemoryError: An allocation failed.
         """
-        with naming_requests():
+        try:
             return check(self.document())
-
-
-@contextlib.contextmanager
-def naming_requests() -> Iterator[None]:
-    """Has the text of a fault name the request, not its position."""
-    try:
-        yield
-    except Fault as fault:
-        fault._is_of_builder = True
-        raise
+        except Fault as fault:
+            raise fault.of_builder()
 
 
 def _body_text(body: Any, given: dict[str, str]) -> Optional[bytes]:

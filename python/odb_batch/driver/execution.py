@@ -25,13 +25,15 @@ class Unit:
         group: The name of the group, or None.
         open: The request that has started and is not reported yet, or None.
         is_noted: Whether the journal has its start.
+        prepared: Its first request as it is sent, if a place was asked for by it.
     """
 
-    __slots__ = ("ids", "group", "open", "is_noted")
+    __slots__ = ("ids", "group", "open", "is_noted", "prepared")
 
     def __init__(self, ids: tuple[str, ...], group: Optional[str], is_noted: bool = False) -> None:
         self.ids, self.group, self.is_noted = ids, group, is_noted
         self.open: Optional[str] = ids[0]
+        self.prepared: Optional[PreparedRequest] = None
 
     def __str__(self) -> str:
         return self.ids[0] if self.group is None else f"the group {self.group}"
@@ -215,8 +217,9 @@ class Execution:
         self._run.stop()
 
     def prepare(self, unit: Unit) -> PreparedRequest:
-        """Returns the open request of a unit, as it is sent; raises Refusal if it cannot be."""
-        return self._resolver.prepare(str(unit.open))
+        """Returns the first request of a unit, as it is sent; raises Refusal if it cannot be."""
+        unit.prepared = self._resolver.prepare(unit.ids[0])
+        return unit.prepared
 
     # A group that is sent as one
 
@@ -269,7 +272,8 @@ class Execution:
                 self._run.start(request_id)
                 unit.open = request_id
             try:
-                answered = yield self._resolver.prepare(request_id)
+                prepared, unit.prepared = unit.prepared, None
+                answered = yield prepared or self._resolver.prepare(request_id)
                 if isinstance(answered, BaseException):
                     answer = answer_for(answered, f"the request {request_id}")
                 else:

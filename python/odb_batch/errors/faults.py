@@ -70,6 +70,11 @@ class Fault(OdbError, ValueError):
         self._document, self._locate = document, locate
         return self
 
+    def of_builder(self) -> "Fault":
+        """Has its text name the request, not its position; returns the fault itself."""
+        self._is_of_builder = True
+        return self
+
     def __str__(self) -> str:
         return f"{self.code} {self.message}" if self._is_of_builder else super().__str__()
 
