@@ -5,7 +5,7 @@
 const { validateHeaderValue } = require('node:http')
 const { Refusal } = require('../errors/refusals.js')
 const { mediaType } = require('./bodies.js')
-const { unquoted } = require('./urls.js')
+const { decodePart } = require('./urls.js')
 
 const FORWARDED = /host="?([^";,\s]+)/gi
 const HOST = /^([a-z0-9._~-]+|\[[0-9a-f:.]+\])(:[0-9]{1,5})?$/i
@@ -163,7 +163,7 @@ class BatchRequest {
   /** A request of the batch as the service has it, with what it inherits; or a refusal if it may not be sent. */
   serviceRequest({ id, method, url: absolute, headers, body }) {
     const url = absolute.slice(absolute.indexOf('/', absolute.indexOf('://') + '://'.length))
-    if (unquoted(url.split('?', 1)[0]) === this.#path) throw new Refusal(400, 'NestedBatch', 'A batch has no batches')
+    if (decodePart(url.split('?', 1)[0]) === this.#path) throw new Refusal(400, 'NestedBatch', 'A batch has no batches')
     return { method, url, headers: { ...this.#inherited, ...this.#policy.apply(id, headers, this.#ofRequests) }, body }
   }
 }

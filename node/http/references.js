@@ -4,7 +4,7 @@
 
 const { Refusal } = require('../errors/refusals.js')
 const { readEntity: entityOf, toWire } = require('./bodies.js')
-const { Service, entityUrl, followed } = require('./urls.js')
+const { Service, entityUrl, followUrl } = require('./urls.js')
 
 // In these headers `$` and an id stand for the ETag that the request was answered (OData JSON Format 4.01, section 19.3).
 const OF_ETAGS = ['if-match', 'if-none-match']
@@ -129,15 +129,15 @@ class References {
   #placeOf(id) {
     const { headers, text } = this.#answers.get(id)
     const place = textAmong(headers, PLACES)
-    if (place !== undefined) return entityUrl(followed(place, this.url(id)))
+    if (place !== undefined) return entityUrl(followUrl(place, this.url(id)))
     const entity = entityOf(text)
     const own = textAmong(entity, PLACES_IN_BODY)
     if (own === undefined && this.of(id).method === 'POST') {
       throw new Refusal(424, 'NoLocation', `${id} was answered without the URL of what it has created`, { target: id })
     }
     // The URLs in a body are relative to its context, if it has one (OData JSON Format 4.01, section 4.6.1).
-    const from = own === undefined ? this.url(id) : followed(textAmong(entity, CONTEXTS) ?? '', this.url(id))
-    return entityUrl(followed(own ?? '', from))
+    const from = own === undefined ? this.url(id) : followUrl(textAmong(entity, CONTEXTS) ?? '', this.url(id))
+    return entityUrl(followUrl(own ?? '', from))
   }
 
   #tagOf(id) {

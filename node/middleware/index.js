@@ -8,7 +8,7 @@ const { Fault } = require('../errors/faults.js')
 const { Refusal, toRefusal } = require('../errors/refusals.js')
 const { BatchRequest, HeaderPolicy, folder } = require('../http/batch_request.js')
 const { MOST_BYTES } = require('../http/bodies.js')
-const { unquoted } = require('../http/urls.js')
+const { decodePart } = require('../http/urls.js')
 const { Stop, performBatch, performSettings } = require('../perform/index.js')
 const { BodyBudget } = require('./body_budget.js')
 const { ClientConnection, readBody } = require('./connection.js')
@@ -100,7 +100,7 @@ function batch(app, options = {}) {
   const { log } = settings.perform
   return function handleBatch(req, res, next = () => app(req, res)) {
     const [path] = (req.originalUrl ?? req.url).split('?', 1)
-    if (unquoted(path) !== settings.path) return next()
+    if (decodePart(path) !== settings.path) return next()
     const client = new ClientConnection(res, settings.perform.timeout)
     const memory = new BodyBudget(Infinity, settings.memory) // of this batch, to be given back as a whole
     answerBatch(callApp, req, client, memory, settings)
