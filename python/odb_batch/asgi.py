@@ -21,6 +21,7 @@ from .errors.faults import Fault
 from .http.batch_request import BatchRequest, batch_folder
 from .http.budget import BodyBudget, BodyReader, memory_budget
 from .http.messages import LOG, Answer, PreparedRequest, Refusal, header_dict
+from .http.observation import BatchObserver, OnRequest
 from .http.options import require_seconds, root_path
 from .http.responses import batch_response, error_response, length_refusal, wire_message
 
@@ -66,6 +67,8 @@ class BatchMiddleware:
         root: The path that the URL of each request has to begin with; else the folder of ``path``.
         inspect: Is called with each request before it is dispatched, with its whole URL and all its headers. A
             ``Refusal`` that it raises is the answer.
+        on_request: Is called with each request just before it is dispatched, as ``inspect``. A function that it returns is
+            called with the answer.
         stop: Is called before a unit begins, as ``event.is_set``. Once it returns true, nothing more starts.
 
     Raises:
@@ -88,13 +91,15 @@ class BatchMiddleware:
         allowed: Iterable[str] = (),
         root: Optional[str] = None,
         inspect: Optional[Callable[[PreparedRequest], None]] = None,
+        on_request: Optional[OnRequest] = None,
         stop: Optional[Callable[[], bool]] = None,
     ) -> None:
         if at_once < 1:
             raise ValueError(f"at_once must be at least 1, not {at_once!r}")
         require_limit(limit)
         policy_numbers("stop", width)  # refuses a width that no run may have
-        self.app, self.path, self.width, self.stop, self.inspect = app, path, width, stop, inspect
+        self.app, self.path, self.width, self.stop = app, path, width, stop
+        self.inspect, self.on_request = inspect, on_request
         self.transaction = None if transaction is None else _asynchronous(transaction)
         self.timeout, self.deadline = require_seconds("timeout", timeout), require_seconds("deadline", deadline)
         self.at_once, self.limit, self.max_size, self.budget = at_once, limit, max_size, memory_budget(memory, max_size)
@@ -226,6 +231,7 @@ class _Inner:
 
     def __init__(self, middleware: BatchMiddleware, scope: _Scope, outer: BatchRequest, room: BodyBudget) -> None:
         self._middleware, self._outer, self._scope, self._room = middleware, outer, scope, room
+        self._observer = BatchObserver(middleware.on_request)
         prefix = scope.get("root_path", "")
         # In newer servers the path of a scope has its root_path in front; what is dispatched is as what came.
         self._cut = "" if scope["path"] == prefix + middleware.path else prefix
@@ -239,6 +245,13 @@ class _Inner:
             raise Refusal(400, "NestedBatch", "A batch has no batches")
         if self._middleware.inspect is not None:
             self._middleware.inspect(replace(request, headers=dict(headers)))
+        if not self._observer.is_needed:
+            return await self._exchange(request, scope)
+        with self._observer.begin(replace(request, headers=dict(headers))) as observed:
+            observed.answer = await self._exchange(request, scope)
+            return observed.answer
+
+    async def _exchange(self, request: PreparedRequest, scope: _Scope) -> Answer:
         with self._room.read(request.method) as reading:
             exchange = _Exchange(request.body, reading)
             try:

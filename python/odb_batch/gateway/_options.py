@@ -6,6 +6,7 @@ from dataclasses import dataclass, field, fields
 from typing import Any, Callable, Optional, Sequence, Tuple, Union
 
 from ..http.budget import DEFAULT_MEMORY
+from ..http.observation import OnRequest
 from . import _values as values
 from ._credentials import USUAL
 from ._routes import Route
@@ -93,6 +94,9 @@ class Options:
         "a line on standard error for each batch, or also for each request",
     )  # fmt: skip
     log_format: str = _choice("text", ("text", "json"), "whether lines are words or JSON")
+    on_request: Optional[OnRequest] = _option(
+        None, "MODULE:NAME", values.hook, "a Python function that is called with each request before it is sent"
+    )
     workers: int = _option(1, "N", values.workers, "processes that share the port; each has limits of its own")
     config: str = _option("", "FILE", str, "a file in TOML that has options by their names, and tables of routes")
 

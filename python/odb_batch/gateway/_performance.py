@@ -13,7 +13,8 @@ from ..driver.groups import MemberRefused, PreparedGroup
 from ..driver.tasks import perform_async
 from ..http.batch_request import BatchRequest, batch_folder
 from ..http.budget import BodyBudget
-from ..http.messages import Answer, PreparedRequest, Refusal
+from ..http.messages import TIMED_OUT, Answer, PreparedRequest, Refusal
+from ..http.observation import notify
 from ..journals import StoreJournal
 from ._credentials import Credentials
 from ._log import LINES, log_line, trace_of
@@ -127,18 +128,19 @@ class Performance:
 
     async def _exchanged(self, route: Route, request: PreparedRequest) -> Answer:
         """Sends a request, and counts and logs it."""
-        began, status, code = time.perf_counter(), 504, ""  # 504: the deadline of the batch
+        answer, code = TIMED_OUT, ""  # at the deadline of the batch
+        on_answer = None if self._options.on_request is None else self._options.on_request(request)
+        began = time.perf_counter()
         self._counts.requests_running += 1
         try:
             answer = await self._upstreams.send(route, request, self._room, self._journal)
-            status = answer.status
             return answer
         except Refusal as refusal:
-            status, code = refusal.answer.status, code_of(refusal.answer)
+            answer, code = refusal.answer, code_of(refusal.answer)
             raise
         finally:
             self._counts.requests_running -= 1
-            seconds = time.perf_counter() - began
+            seconds, status = time.perf_counter() - began, answer.status
             self._counts.request(route.prefix, request.method, status, seconds)
             self.sent += code not in _UNSENT
             self.failed += not 200 <= status < 400
@@ -146,6 +148,8 @@ class Performance:
                 words = {"request": request.id, "method": request.method, "url": request.url.partition("?")[0]}
                 more = {"status": status, "code": code, "ms": f"{1000 * seconds:.1f}"}
                 log_line({**words, **more, "trace": trace_of(request.headers)}, logging.DEBUG)
+            if on_answer is not None:
+                notify(on_answer, answer)
 
     # A group
 

@@ -1,12 +1,14 @@
 """What the values of the gateway's options may be, each as argparse reads it."""
 
 import argparse
+import importlib
 import re
-from typing import Any, Callable, Dict, List, Mapping, NamedTuple, Tuple, Union
+from typing import Any, Callable, Dict, List, Mapping, NamedTuple, Tuple, Union, cast
 from urllib.parse import urlsplit
 
 from .._native.calls import MAX_WIDTH
 from ..driver.execution import MAX_BODY_BYTES
+from ..http.observation import OnRequest
 from ._credentials import is_own
 from ._routes import Route, normalized
 
@@ -124,6 +126,17 @@ def allowed(text: str) -> str:
 def metrics(text: str) -> Union[str, Address]:
     """Reads where metrics are answered: a path here, or an address."""
     return path(text) if text.startswith("/") else address(text)
+
+
+def hook(text: str) -> OnRequest:
+    """Reads the name of a function in a module."""
+    module, _, name = text.partition(":")
+    try:
+        found = getattr(importlib.import_module(module), name)
+    except Exception as error:
+        raise argparse.ArgumentTypeError(f"{text!r}: {type(error).__name__}: {error}") from None
+    _require(callable(found), text, "MODULE:NAME of a function, such as tracing:on_request")
+    return cast(OnRequest, found)
 
 
 def _whole(most: int) -> Callable[[str], int]:

@@ -13,9 +13,10 @@
 
 from .batch_request import BatchRequest, HeaderPolicy, Preference, batch_folder, forwarded_hosts, preferences
 from .budget import BodyBudget, BodyReader, MemoryBudget
+from .observation import OnRequest
 from .responses import batch_response, error_response, length_refusal, wire_message
 
 __all__ = [
-    "BatchRequest", "BodyBudget", "BodyReader", "HeaderPolicy", "MemoryBudget", "Preference", "batch_folder", "batch_response",
-    "error_response", "forwarded_hosts", "length_refusal", "preferences", "wire_message",
+    "BatchRequest", "BodyBudget", "BodyReader", "HeaderPolicy", "MemoryBudget", "OnRequest", "Preference", "batch_folder",
+    "batch_response", "error_response", "forwarded_hosts", "length_refusal", "preferences", "wire_message",
 ]  # fmt: skip

@@ -125,9 +125,15 @@ TIMED_OUT = Refusal(504, "Timeout", "No answer came in time").answer
 
 def answer_for(error: BaseException, what: str) -> Answer:
     """Returns the answer that stands for an exception, and logs that; a Refusal has its own."""
+    if not isinstance(error, Refusal):
+        LOG.error("%s failed", what, exc_info=error)
+    return exception_answer(error)
+
+
+def exception_answer(error: Optional[BaseException]) -> Answer:
+    """Returns the answer that stands for an exception."""
     if isinstance(error, Refusal):
         return error.answer
-    LOG.error("%s failed", what, exc_info=error)
     if isinstance(error, TIMEOUTS):
         return TIMED_OUT
     return BROKEN if isinstance(error, ConnectionError) else FAILED
