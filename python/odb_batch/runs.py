@@ -249,10 +249,7 @@ class Run:
             KeyError: No request of the batch has this id.
             ValueError: The run is closed.
         """
-        position = self._at[id]
-        with self._lock:
-            status = self._call("odb_run_start", position)
-        _settle("odb_run_start", status, id)
+        self._begin("odb_run_start", id)
 
     def start_unit(self, id: str) -> None:
         """Starts all members of a request's unit together: its group, or the request alone if it has none.
@@ -267,10 +264,14 @@ class Run:
             KeyError: No request of the batch has this id.
             ValueError: The run is closed.
         """
-        position = self._at[id]
+        self._begin("odb_run_start_unit", id)
+
+    def _begin(self, name: str, request_id: str) -> None:
+        """Calls a function that starts a request or its unit."""
+        position = self._at[request_id]
         with self._lock:
-            status = self._call("odb_run_start_unit", position)
-        _settle("odb_run_start_unit", status, id)
+            status = self._call(name, position)
+        _settle(name, status, request_id)
 
     def report(self, id: str, status: int, headers: Optional[Mapping[str, str]] = None, body: Any = None) -> None:
         """Reports what a running request was answered.

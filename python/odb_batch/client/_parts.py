@@ -2,7 +2,7 @@
 
 import contextlib
 import re
-from dataclasses import replace
+from dataclasses import dataclass, field, replace
 from typing import Any, Iterable, Mapping, Optional
 from urllib.parse import unquote
 
@@ -11,7 +11,7 @@ from ..commands import PlannedRequest, check, match, plan
 from ..documents.encoding import document_bytes, json_bytes
 from ..documents.requests import Request, requests
 from ..driver.groups import SKIPPED
-from ..driver.references import ReferenceResolver
+from ..driver.references import CONDITIONS, ReferenceResolver
 from ..errors.faults import Fault
 from ..http.batches import batch_json, read_answers, request_json
 from ..http.messages import BROKEN, LOG, TIMED_OUT, TIMEOUTS, Answer, Answered, Refusal, validate_answer
@@ -21,6 +21,7 @@ from ._transports import is_named_timeout
 MAX_REQUESTS = 10_000
 
 
+@dataclass
 class Unit:
     """An atomicity group of a batch, or a request without one.
 
@@ -30,12 +31,9 @@ class Unit:
         needs: The numbers of the units that its requests depend on, without its own.
     """
 
-    __slots__ = ("group", "ids", "needs")
-
-    def __init__(self, group: Optional[str]) -> None:
-        self.group = group
-        self.ids: list[str] = []
-        self.needs: set[int] = set()
+    group: Optional[str]
+    ids: list[str] = field(default_factory=list)
+    needs: set[int] = field(default_factory=set)
 
 
 def units_of(plan: Iterable[PlannedRequest]) -> list[Unit]:
@@ -96,9 +94,16 @@ class Parts:
         self._part = b""
         self._out: list[int] = []
         self._is_stopped = False
+        # Then it is sent as it is. A condition may refer to what is not answered yet, so that its request is not sent.
+        conditions = (request.headers.get(name, "") for request in given for name in CONDITIONS)
+        self._is_one_part = len(given) <= limit and not any(value.startswith("$") for value in conditions)
 
     def next(self) -> Optional[bytes]:
         """Returns the next part; None if nothing more is to be sent."""
+        if self._is_one_part and self._at == 0:
+            self._part, self._out, self._at = self.document, [*range(len(self._units))], len(self._units)
+            self._sound.update(self._out)
+            return self._part if self._out else None
         elements: list[bytes] = []
         names: set[str] = set()
         self._out = []
