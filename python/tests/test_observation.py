@@ -89,5 +89,3 @@ def test_what_a_hook_raises_after_a_request_changes_nothing(over, caplog):
 
     found = batch(over("/odata/$batch", on_request=lambda request: fail), {"method": "post", "url": "a"})
     assert found["r0"]["status"] == 200 and "the hook after a request failed" in caplog.text
-
-

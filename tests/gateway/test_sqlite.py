@@ -11,7 +11,7 @@ import pytest
 from odb_batch import Report, Start
 from odb_batch.journals import Journals, SqliteStore
 from odb_batch.journals import _sqlite
-from odb_batch.journals._lines import digest
+from odb_batch.journals._encoding import digest
 from support.journals import EVENTS, FIRST, events_of, opened, soon, written
 from support.servers import SECONDS
 
