@@ -83,7 +83,7 @@ def test_a_text_whose_pieces_were_removed_is_not_kept(tmp_path, monkeypatch):
     append = SqliteStore._append
 
     def removing(store, parts):
-        with store._commit() as execute:
+        with store._transaction() as execute:
             execute("DELETE FROM piece")
         return append(store, parts)
 
