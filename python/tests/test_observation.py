@@ -24,9 +24,9 @@ def lines(caplog):
 
 def test_each_request_has_a_line(service, lines):
     batch(service, {"url": "Books(1)?secret=1"}, {"method": "post", "url": "missing"})
-    batch(service, {"url": "A%0AB"}, {"url": "/elsewhere"})
+    batch(service, {"url": "A%20B"}, {"url": "/elsewhere"})
     (one, first), (same, second), (other, third) = sorted(lines(), key=lambda line: (int(line[0]), line[1]))
-    assert [first, second] == ["GET /odata/Books(1) 200", "POST /odata/missing 404"] and third == "GET /odata/A%0AB 200"
+    assert [first, second] == ["GET /odata/Books(1) 200", "POST /odata/missing 404"] and third == "GET /odata/A%20B 200"
     assert one == same and int(other) > int(one)
 
 
@@ -89,5 +89,3 @@ def test_what_a_hook_raises_after_a_request_changes_nothing(over, caplog):
 
     found = batch(over("/odata/$batch", on_request=lambda request: fail), {"method": "post", "url": "a"})
     assert found["r0"]["status"] == 200 and "the hook after a request failed" in caplog.text
-
-

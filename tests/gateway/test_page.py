@@ -210,7 +210,7 @@ def test_the_codes_of_the_page_are_those_of_the_gateway():
         for name in files:
             if name.endswith(".py") and "conformance" not in folder:
                 with open(os.path.join(folder, name), encoding="utf-8") as file:
-                    made.update(re.findall(r'(?:Refusal|rejected)\(\d{3}, "(\w+)"', file.read()))
+                    made.update(re.findall(r'(?:Refusal|rejection)\(\d{3}, "(\w+)"', file.read()))
     assert names - {"F41"} <= made
 
 
