@@ -4,7 +4,7 @@
 
 const { IncomingMessage, ServerResponse } = require('node:http')
 const { Duplex } = require('node:stream')
-const { finalStatus, readAnswer } = require('../http/answers.js')
+const { finalStatus, readAnswer } = require('../http/messages.js')
 
 // What a handler may ask of the connection of a client.
 const OF_CONNECTION = ['authorized', 'encrypted', 'localAddress', 'localPort', 'remoteAddress', 'remoteFamily', 'remotePort']

@@ -523,7 +523,7 @@ test('refuses options that have none of their values', () => {
   assert.throws(() => mounted({}), TypeError)
   const paths = [{ path: 'odata' }, { root: '/odata' }, { root: 'odata/' }]
   const numbers = [{ maxSize: -1 }, { memory: 7.5 }, { memory: 7, maxSize: 8 }, { timeout: 0 }, { deadline: -1 }, { limit: -1 }]
-  const wrong = [...paths, ...numbers, { maxsize: 7 }, { mode: 'stop' }, { allowed: ['Host'] }, { transaction: 7 }, { inspect: 7 }]
+  const wrong = [...paths, ...numbers, { maxsize: 7 }, { mode: 'stop' }, { allowed: ['Host'] }, { transaction: 7 }, { inspect: 7 }, { onRequest: 7 }]
   for (const options of wrong) {
     assert.throws(() => mounted(handler, options), TypeError)
   }

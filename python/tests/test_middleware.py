@@ -11,7 +11,7 @@ from urllib.parse import unquote, urlsplit
 import pytest
 
 from odb_batch import Refusal, asgi, wsgi
-from odb_batch.http import headers as policy
+from odb_batch.http import batch_request as policy
 from support.applications import CONTINUE, JSON, OverAsgi, OverWsgi, batch
 
 

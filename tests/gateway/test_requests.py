@@ -191,12 +191,12 @@ def test_no_request_is_sent_twice_by_a_library(upstream, loop, method):
 
     from odb_batch.gateway._metrics import Counts
     from odb_batch.gateway._options import options_of
-    from odb_batch.gateway._upstreams import Upstreams
+    from odb_batch.gateway._upstream import UpstreamClient
 
     service = upstream(lambda seen: web.Response(status=307, headers={"Location": "/again"}))
 
     async def send():
-        upstreams = Upstreams(options_of(["--upstream", service.url]), Counts())
+        upstreams = UpstreamClient(options_of(["--upstream", service.url]), Counts())
         await upstreams.open()
         try:
             await upstreams.session(method).request(method, service.url + "/x")

@@ -2,8 +2,7 @@
 
 from typing import Iterable, Optional
 
-from .batch_request import batch_folder
-from .headers import is_of_connection
+from .batch_request import batch_folder, is_of_connection
 
 
 def require_seconds(name: str, seconds: Optional[float]) -> Optional[float]:
@@ -20,12 +19,6 @@ def root_path(root: Optional[str], path: str) -> str:
     if root is not None and not (root.startswith("/") and root.endswith("/")):
         raise ValueError(f"the root must begin and end with /, not {root!r}")
     return batch_folder(path) if root is None else root
-
-
-def require_limit(limit: int) -> None:
-    """Raises ValueError if no batch may have as many requests."""
-    if isinstance(limit, bool) or not isinstance(limit, int) or limit < 1:
-        raise ValueError(f"limit must be a whole number above 0, not {limit!r}")
 
 
 def allowed_names(names: Iterable[str]) -> tuple[str, ...]:
