@@ -12,10 +12,10 @@ import sys
 
 import pytest
 
+from support.markdown import blocks, text_of
 from support.program import ROOT
 
 SECONDS = 120
-PAGE = os.path.join(ROOT, "docs", "scale.md")
 PART, SMALL_PART = '"64MiB"', '"2KiB"'
 BATCH = '{"requests":[{"id":"1","method":"get","url":"A"}]}'
 PAIR = f'[{BATCH},{{"responses":[{{"id":"1","status":200}}]}}]'.encode()
@@ -34,14 +34,9 @@ LINES = (
 EARLY = ('"REAL" "$@"; exit 4', 'head -n 2 | "REAL" "$@"; exit 3', "kill -9 $$")
 
 
-def page():
-    with open(PAGE, encoding="utf-8") as file:
-        return file.read()
-
-
-def block(word):
-    """The one block of the page that has a word in it."""
-    (found,) = [it for it in re.findall(r"```\w+\n(.*?)```", page(), re.DOTALL) if word in it]
+def block(kind, word):
+    """The one block of the page that is of a kind and has a word in it."""
+    (found,) = [it for it in blocks(text_of("docs", "scale.md"), kind) if word in it]
     return found
 
 
@@ -67,11 +62,11 @@ def written(folder):
 
 
 def by_one(folder):
-    return run(folder, "sh", "-c", block("$ odb_batch match --strict --lines").removeprefix("$ "))
+    return run(folder, "sh", "-c", block("console", "$ odb_batch match --strict --lines").removeprefix("$ "))
 
 
 def by_parallel(folder):
-    return run(folder, "sh", "-c", block("parallel --pipe-part"))
+    return run(folder, "sh", "-c", block("sh", "parallel --pipe-part"))
 
 
 def by_dask(folder):
@@ -119,7 +114,7 @@ def test_way(program, tmp_path, way, status):
 
 def test_audit(program, tmp_path):
     """What the page shows of an audit is what it prints."""
-    shown = block("$ python3 examples/audit.py")
+    shown = block("console", "$ python3 examples/audit.py")
     place = fresh(tmp_path / "audit", f'exec "{program}" "$@"')
     os.symlink(os.path.join(ROOT, "examples"), place / "examples")
     refused = PAIR.replace(b'{"id":"1","status":200}', b"")

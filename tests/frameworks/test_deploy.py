@@ -4,16 +4,17 @@ import json
 import os
 import re
 import shlex
-import socket
 import subprocess
 import sys
 
 import pytest
 
 from support.commands import with_package
+from support.kubernetes import DEPLOYMENT, faults
+from support.markdown import blocks, text_of
 from support.nginx import nginx
-from support.program import EXAMPLES, ROOT
-from support.servers import Server, skip_without
+from support.program import EXAMPLES
+from support.servers import Server, free_port, skip_without
 
 # What the page calls orders: it answers anything below /odata/Books.
 ORDERS = """\
@@ -46,25 +47,16 @@ def book(key):
 """
 LINE = 'app.wsgi_app = BatchMiddleware(app.wsgi_app, "/odata/$batch", transaction=transaction)\n'
 CONFIG = "gunicorn.conf.py"
+PAGE = text_of("docs", "deploy.md")
 
 
-def page():
-    with open(os.path.join(ROOT, "docs", "deploy.md"), encoding="utf-8") as file:
-        return file.read()
-
-
-def blocks(kind):
-    return re.findall(f"```{kind}\n(.*?)```", page(), re.DOTALL)
-
-
-def free_port():
-    with socket.socket() as listening:
-        listening.bind(("127.0.0.1", 0))
-        return listening.getsockname()[1]
+def code(kind):
+    """The blocks of the page of one kind."""
+    return blocks(PAGE, kind)
 
 
 def test_each_kind_of_block_has_its_test():
-    kinds = re.findall("(?m)^```(\\w+)$", page())
+    kinds = re.findall("(?m)^```(\\w+)$", PAGE)
     assert sorted(kinds) == ["ini", "nginx", "nginx", "python", "python", "sh", "yaml"]
 
 
@@ -75,7 +67,7 @@ def orders(tmp_path, library):
 
     def write(line):
         (tmp_path / "orders.py").write_text(ORDERS + line)
-        (tmp_path / CONFIG).write_text(blocks("python")[0])
+        (tmp_path / CONFIG).write_text(code("python")[0])
         return tmp_path
 
     return write
@@ -102,14 +94,14 @@ def by_gunicorn():
 
 def by_uvicorn(*more):
     """The command of the page, over a socket, for the service of examples/frameworks."""
-    words = shlex.split(blocks("sh")[0])
+    words = shlex.split(code("sh")[0])
     assert words[:5] == ["uvicorn", "--host", "127.0.0.1", "--port", "8000"] and words[-1] == "orders:app"
     return ["uvicorn", "--fd", "{fd}", *words[5:-1], *more, "fastapi_app:app"]
 
 
 def in_front(server, port, prefixed=False):
     """The server of nginx that the page shows, before a service; with the prefix of the page its location is another."""
-    text, other = blocks("nginx")
+    text, other = code("nginx")
     if prefixed:
         text, count = re.subn(r" *location .*\n *proxy_pass .*\n", other, text)
         assert count == 1
@@ -141,7 +133,7 @@ def test_a_service_behind_gunicorn_and_nginx(orders, served, tmp_path):
 
 @pytest.mark.needs("nginx")
 def test_a_prefix_before_gunicorn(orders, served, tmp_path):
-    server, port = served(by_gunicorn(), orders(blocks("python")[1])), free_port()
+    server, port = served(by_gunicorn(), orders(code("python")[1])), free_port()
     with nginx(in_front(server, port, prefixed=True), tmp_path, port) as front:
         asked(front, "/shop")
         found = front.batch(
@@ -193,7 +185,7 @@ def verified(unit, program, folder):
 
 @pytest.mark.needs("systemd-analyze")
 def test_systemd_takes_the_unit_of_a_service(tmp_path):
-    verified(blocks("ini")[0], "/opt/orders/venv/bin/gunicorn", tmp_path)
+    verified(code("ini")[0], "/opt/orders/venv/bin/gunicorn", tmp_path)
 
 
 @pytest.mark.needs("systemd-analyze")
@@ -221,21 +213,52 @@ def test_the_gateway_takes_the_words_of_its_unit():
     assert int(re.search("TimeoutStopSec=(.*)", unit)[1]) > options.grace + 5
 
 
-def test_the_gateway_takes_the_words_of_its_image():
+# The Containerfile is not built, which takes a minute and a network; tests/library/test_release.py has the wheel that
+# it copies.
+
+
+def instructions():
+    """The instructions of the image, each with its words."""
     lines = example("Containerfile").replace("\\\n", "").splitlines()
-    found = dict(line.split(maxsplit=1) for line in lines if not line.startswith("#"))
+    return [line.split(maxsplit=1) for line in lines if not line.startswith("#")]
+
+
+def test_the_gateway_takes_the_words_of_its_image():
+    found = dict(instructions())
     options = gateway_options([*json.loads(found["ENTRYPOINT"]), "--upstream", "http://books:8080/odata/"])
     assert (options.listen.host, str(options.listen.port)) == ("", found["EXPOSE"])
-    assert set(found) == {"FROM", "RUN", "COPY", "USER", "EXPOSE", "ENTRYPOINT"}
+    assert [name for name, _ in instructions()] == ["FROM", "RUN", "COPY", "RUN", "USER", "EXPOSE", "ENTRYPOINT"]
+
+
+def packages_of_image():
+    """The packages of Debian that the image installs."""
+    (words,) = [words for name, words in instructions() if name == "RUN" and words.startswith("apt-get update ")]
+    install = re.search("apt-get install (.*?)&&", words)[1].split()
+    return [word for word in install if not word.startswith("--")]
+
+
+@pytest.mark.needs("apt-cache")
+def test_debian_has_the_packages_of_the_image():
+    is_known = lambda name: subprocess.run(["apt-cache", "show", name], capture_output=True).returncode == 0
+    if not is_known("nginx") or not is_known("python3-pip"):
+        pytest.skip("the lists of apt are not installed")
+    assert [name for name in packages_of_image() if not is_known(name)] == []
+
+
+def test_the_image_has_what_the_options_of_the_gateway_need():
+    found = re.findall(r'(?m)^(?:gateway|postgresql) = \[(.*)\]$', text_of("python", "pyproject.toml"))
+    needed = {re.match(r'"([\w-]+)', it)[1].replace("_", "-") for line in found for it in line.split(", ")}
+    assert {f"python3-{it}" for it in needed} | {"python3-pip"} == set(packages_of_image())
 
 
 def test_kubernetes_waits_as_long_as_gunicorn():
     skip_without("yaml")
     import yaml
 
-    found = yaml.safe_load(blocks("yaml")[0])
+    found = yaml.safe_load(code("yaml")[0])
+    assert faults(found, DEPLOYMENT) == []
     names = {}
-    exec(blocks("python")[0], names)
+    exec(code("python")[0], names)
     pod = found["spec"]["template"]
     (container,) = pod["spec"]["containers"]
     assert (found["apiVersion"], found["kind"]) == ("apps/v1", "Deployment")
@@ -247,8 +270,8 @@ def test_kubernetes_waits_as_long_as_gunicorn():
 
 def test_each_limit_is_wider_than_the_one_behind_it():
     """The deadline, what gunicorn, systemd and Kubernetes wait for, and what nginx waits for."""
-    deadline = int(re.search(r"`deadline`.*none \| (\d+):", page())[1])
-    graceful = int(re.search(r"graceful_timeout = (\d+)", page())[1])
-    stop = {int(it) for it in re.findall(r"(?:TimeoutStopSec=|terminationGracePeriodSeconds: )(\d+)", page())}
-    read = int(re.search(r"proxy_read_timeout (\d+)s;", page())[1])
+    deadline = int(re.search(r"`deadline`.*none \| (\d+):", PAGE)[1])
+    graceful = int(re.search(r"graceful_timeout = (\d+)", PAGE)[1])
+    stop = {int(it) for it in re.findall(r"(?:TimeoutStopSec=|terminationGracePeriodSeconds: )(\d+)", PAGE)}
+    read = int(re.search(r"proxy_read_timeout (\d+)s;", PAGE)[1])
     assert len(stop) == 1 and deadline < graceful < stop.pop() < read

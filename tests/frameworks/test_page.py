@@ -7,7 +7,8 @@ import re
 
 import pytest
 
-from support.program import EXAMPLES, ROOT
+from support.markdown import blocks, text_of
+from support.program import EXAMPLES
 
 FOLDER = os.path.join(EXAMPLES, "frameworks")
 # A writer waits no longer than this for a lock.
@@ -29,10 +30,9 @@ def create(book: Book, db=Depends(opened)):
 
 def changes():
     """The views that the page changes: by their files, the lines before and after."""
-    with open(os.path.join(ROOT, "docs", "service.md"), encoding="utf-8") as file:
-        blocks = re.findall("```diff\n # examples/frameworks/(\\w+).py\n(.*?)```", file.read(), re.DOTALL)
+    named = [re.fullmatch(r"(?s) # examples/frameworks/(\w+)\.py\n(.*)", it) for it in blocks(text_of("docs", "service.md"), "diff")]
     sides = lambda text, mark: "".join(it[1:] for it in text.splitlines(keepends=True) if it[0] in (" ", mark))
-    return {name: (sides(text, "-"), sides(text, "+")) for name, text in blocks}
+    return {it[1]: (sides(it[2], "-"), sides(it[2], "+")) for it in named}
 
 
 @pytest.fixture

@@ -6,13 +6,12 @@ import gzip
 import json
 import random
 import re
-import socket
 import subprocess
 import zlib
 
 import pytest
 
-from support.servers import CONTINUE, SECONDS
+from support.servers import CONTINUE, SECONDS, free_port
 
 BODY = b'{"a":9.990}'
 
@@ -143,12 +142,6 @@ def test_a_decoder_makes_little_at_once():
 # Reasons
 
 
-def closed():
-    with socket.socket() as it:
-        it.bind(("127.0.0.1", 0))
-        return f"http://127.0.0.1:{it.getsockname()[1]}"
-
-
 def lines_with(text, word):
     return [line for line in text.splitlines() if word in line]
 
@@ -159,7 +152,7 @@ def lines_with(text, word):
 ])  # fmt: skip
 def test_the_log_says_why_there_is_no_answer(upstream, running, kind, code, reason):
     service = upstream()
-    urls = {"refused": closed(), "dns": "http://name.invalid", "tls": service.url.replace("http:", "https:")}
+    urls = {"refused": f"http://127.0.0.1:{free_port()}", "dns": "http://name.invalid", "tls": service.url.replace("http:", "https:")}
     it = running("--upstream", urls.get(kind, service.url), "--timeout", "2" if kind == "hang" else "15")
     asked = [{"method": "post", "url": "x" if kind in urls else kind}] * 3
     assert set(it.statuses(*asked)) <= {502, 503, 504}

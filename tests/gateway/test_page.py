@@ -12,7 +12,6 @@ import os
 import re
 import shlex
 import signal
-import socket
 import subprocess
 import sys
 import tempfile
@@ -20,16 +19,14 @@ import tempfile
 import pytest
 
 from support.commands import with_package
+from support.kubernetes import POD, faults
+from support.markdown import blocks, text_of
 from support.nginx import nginx
 from support.program import ROOT
-from support.servers import CONTINUE, SECONDS, repeatable, skip_without
+from support.servers import CONTINUE, SECONDS, free_port, repeatable, skip_without
 
-PAGE = os.path.join(ROOT, "docs", "gateway.md")
-
-
-def page():
-    with open(PAGE, encoding="utf-8") as file:
-        return file.read()
+PATH = os.path.join("docs", "gateway.md")
+PAGE = text_of(PATH)
 
 
 def example(name):
@@ -37,22 +34,17 @@ def example(name):
         return file.read()
 
 
-def blocks(kind):
-    return re.findall(f"```{kind}\n(.*?)```", page(), re.DOTALL)
-
-
-def free_port():
-    with socket.socket() as listening:
-        listening.bind(("127.0.0.1", 0))
-        return str(listening.getsockname()[1])
+def code(kind):
+    """The blocks of the page of one kind."""
+    return blocks(PAGE, kind)
 
 
 @contextlib.contextmanager
 def started(*more):
     """The service and the gateway by the commands of the page, and the ports that stand for those of the page."""
-    ports, running = {"8080": free_port(), "8090": free_port()}, []
+    ports, running = {it: str(free_port()) for it in ("8080", "8090")}, []
     with contextlib.ExitStack() as ends:
-        for line, options in zip(blocks("sh")[0].splitlines(), ((), more)):
+        for line, options in zip(code("sh")[0].splitlines(), ((), more)):
             assert line.startswith("PYTHONPATH=python python3 ")
             words = [sys.executable, *shlex.split(replaced(line, ports))[2:], *options]
             process = subprocess.Popen(words, cwd=ROOT, env=with_package(), stderr=subprocess.PIPE, text=True)
@@ -87,13 +79,13 @@ def page_as_printed():
             with started(*next(options)) as ports:
                 return f"```console\n{printed(found[1], ports)}```"
 
-        return re.sub("```console\n(.*?)```", block, page(), flags=re.DOTALL)
+        return re.sub("```console\n(.*?)```", block, PAGE, flags=re.DOTALL)
 
 
 @pytest.mark.needs("curl")
 def test_the_commands_print_what_the_page_shows(aiohttp):
-    assert len(blocks("console")) == 2
-    assert page() == page_as_printed()
+    assert len(code("console")) == 2
+    assert PAGE == page_as_printed()
 
 
 @pytest.fixture
@@ -146,7 +138,7 @@ def grouped(seen):
 def test_the_options_of_the_page_are_those_of_the_help():
     from odb_batch.gateway._options import parser
 
-    section = re.search(r"(?s)\n## Options\n\n(.*?)\n\n", page())[1]
+    section = re.search(r"(?s)\n## Options\n\n(.*?)\n\n", PAGE)[1]
     shown = dict(re.findall(r"`(--[\w-]+) ?([^`]*)`", section))
     known = {it.option_strings[0]: it.default for it in parser()._actions if it.option_strings[0] != "-h"}
     assert sorted(shown) == sorted([*known, "--help"])
@@ -163,7 +155,7 @@ def test_the_options_of_the_page_are_those_of_the_help():
 def test_the_file_of_the_page_is_read(tmp_path):
     from odb_batch.gateway._options import options_of
 
-    (text,) = blocks("toml")
+    (text,) = code("toml")
     (tmp_path / "gateway.toml").write_text(text)
     found = options_of(["--config", str(tmp_path / "gateway.toml")])
     assert [(it.prefix, it.timeout, it.connections) for it in found.routes] == [("/odata/Orders", 5, 20), ("/odata/", None, None)]
@@ -203,7 +195,7 @@ def test_the_hook_of_the_page_makes_spans(upstream, front, tmp_path, monkeypatch
 
 
 def test_the_codes_of_the_page_are_those_of_the_gateway():
-    shown = re.findall(r"\d{3} `(\w+)`(?:, `(\w+)`)?", page())
+    shown = re.findall(r"\d{3} `(\w+)`(?:, `(\w+)`)?", PAGE)
     names = {name for found in shown for name in found if name}
     made = set()
     for folder, _, files in os.walk(os.path.join(ROOT, "python", "odb_batch")):
@@ -217,7 +209,11 @@ def test_the_codes_of_the_page_are_those_of_the_gateway():
 def test_the_probes_of_the_page_are_answered(upstream, running):
     from odb_batch.gateway._options import options_of
 
-    (text,) = blocks("yaml")
+    skip_without("yaml")
+    import yaml
+
+    (text,) = code("yaml")
+    assert faults(yaml.safe_load(text), POD) == []
     words = re.search(r"command: \[python3, -m, odb_batch, gateway, (.*)\]", text)[1].replace('"', "").split(", ")
     assert options_of(words).listen == ("", 8090)
     it = running("--upstream", upstream().url)
@@ -232,12 +228,12 @@ def test_the_metrics_of_the_page_are_those_of_the_gateway(upstream, running, tmp
     it = running("--upstream", upstream().url, "--journal", str(tmp_path), "--one-client", "--metrics", "/metrics")
     found = set(re.findall("(?m)^# TYPE (odb_gateway_\\w+)", it.ask("GET", "/metrics")[2].decode()))
     found = {name for name in found if not name.endswith("_created")}
-    shown = re.findall(r"`(odb_gateway_\w+)`", page())
+    shown = re.findall(r"`(odb_gateway_\w+)`", PAGE)
     assert sorted(shown) == sorted([*found, "odb_gateway_journal_lease_seconds"])
 
 
 def test_the_lines_of_the_log_have_the_words_of_the_page(upstream, running, tmp_path):
-    table = re.search(r"(?s)\| line \| its fields \|\n.*?\n\n", page())[0]
+    table = re.search(r"(?s)\| line \| its fields \|\n.*?\n\n", PAGE)[0]
     rows = [re.sub(r"\(.*?\)", "", row.split("|")[2]) for row in table.strip().splitlines()[2:]]
     shown = {words[0]: words for words in (re.findall("`([^`]+)`", row) for row in rows)}
     down = f"http://127.0.0.1:{free_port()}/down/"
@@ -246,7 +242,7 @@ def test_the_lines_of_the_log_have_the_words_of_the_page(upstream, running, tmp_
     it.ask("POST", "/down/$batch", json.dumps({"requests": [{"id": "a", "method": "get", "url": "x"}]}))
     _, text = it.stop(signal.SIGTERM)
     lines = [re.findall(r"(\w+)=\S", line) for line in text.splitlines() if line[:1].isdigit()]
-    of_all = set(re.findall("`([^`]+)`", re.search(r"(?s)\nEach line that is about a batch (.*?)\.", page())[1]))
+    of_all = set(re.findall("`([^`]+)`", re.search(r"(?s)\nEach line that is about a batch (.*?)\.", PAGE)[1]))
     assert {words[0] for words in lines} == set(shown)
     assert [words for words in lines if set(words) - of_all - set(shown[words[0]])] == []
 
@@ -255,7 +251,7 @@ def test_the_lines_of_the_log_have_the_words_of_the_page(upstream, running, tmp_
 def test_nginx_sends_batches_to_the_gateway(upstream, running, tmp_path):
     service = upstream()
     it, port = running("--upstream", service.url), free_port()
-    server = blocks("nginx")[0].replace("8090", str(it.port))
+    server = code("nginx")[0].replace("8090", str(it.port))
     other = f"location / {{ proxy_pass {service.url}; }}"
     with nginx(f"server {{ listen 127.0.0.1:{port}; {server} {other} }}", tmp_path, port) as front:
         found = front.batch(
@@ -317,5 +313,5 @@ def test_nginx_asks_another_gateway(two_gateways, tmp_path):
 
 if __name__ == "__main__" and sys.argv[1:] == ["--write"]:
     text = page_as_printed()
-    with open(PAGE, "w", encoding="utf-8") as file:
+    with open(os.path.join(ROOT, PATH), "w", encoding="utf-8") as file:
         file.write(text)

@@ -17,7 +17,7 @@ import pytest
 
 from support.commands import with_package
 from support.journals import count_at
-from support.servers import CONTINUE, FIRST_SENT, JSON, SECONDS, Asked, repeatable, skip_without, until
+from support.servers import CONTINUE, FIRST_SENT, JSON, SECONDS, Asked, free_port, repeatable, skip_without, until
 
 
 def refused(words, before="pass"):
@@ -156,8 +156,7 @@ def test_what_is_not_http_is_not_in_the_log(upstream, running):
 
 def test_metrics_at_a_port_of_their_own(upstream, running):
     skip_without("prometheus_client")
-    with socket.create_server(("127.0.0.1", 0)) as free:
-        port = free.getsockname()[1]
+    port = free_port()
     it = running("--upstream", upstream().url, "--metrics", str(port))
     it.statuses({"url": "x"})
     assert it.ask("GET", "/metrics")[0] == 404

@@ -13,7 +13,7 @@ from concurrent.futures import ThreadPoolExecutor
 import pytest
 
 from support.commands import with_package
-from support.servers import CONTINUE, SECONDS, Asked, repeatable, skip_without, until
+from support.servers import CONTINUE, SECONDS, Asked, free_ports, repeatable, skip_without, until
 
 ONE = json.dumps({"requests": [{"id": "a", "method": "post", "url": "A", "body": 1}]})
 
@@ -32,16 +32,26 @@ def is_ready(it, count=2):
 
 @pytest.fixture
 def several(running):
-    """Starts a gateway with two workers."""
+    """Starts a gateway with two workers, and waits until both listen; fails if it has ended."""
     if not os.path.exists("/proc/net/tcp"):
         pytest.skip("/proc is not installed")
 
     def start(*words):
         it = running(*words, "--workers", "2")
-        until(lambda: is_ready(it))
+        until(lambda: is_ready(it) or it.process.poll() is not None)
+        if it.process.returncode is not None:
+            status, text = it.stop(0)
+            pytest.fail(f"the gateway has ended with status {status}: {text}")
         return it
 
     return start
+
+
+def test_a_gateway_that_has_ended_is_not_waited_for(several):
+    with socket.create_server(("127.0.0.1", 0)) as used:
+        metrics = str(used.getsockname()[1])
+        with pytest.raises((AssertionError, pytest.fail.Exception), match="already in use"):
+            several("--upstream", "http://127.0.0.1:1/", "--metrics", metrics)
 
 
 def test_workers_share_a_port_and_end_together(upstream, several):
@@ -121,18 +131,43 @@ def test_workers_end_with_the_first_process(upstream, several):
 
 def test_each_worker_has_a_port_for_its_metrics(upstream, several):
     skip_without("prometheus_client")
-    with socket.create_server(("127.0.0.1", 0)) as free:
-        port = free.getsockname()[1]
-    it = several("--upstream", upstream().url, "--metrics", str(port))
+    ports = free_ports(2)
+    it = several("--upstream", upstream().url, "--metrics", str(ports[0]))
     for _ in range(8):
         it.statuses({"url": "x"})
     counts = []
-    for number in (0, 1):
+    for port in ports:
         other = Asked()
-        other.port = port + number
+        other.port = port
         text = other.ask("GET", "/metrics")[2].decode()
         counts.append(sum(map(float, re.findall(r'(?m)^odb_gateway_batches_total{status="200"} (\S+)$', text))))
     assert sum(counts) == 8
+
+
+# A child that is no worker has ended before the only worker does.
+INHERITED = """
+import os, sys, time
+from odb_batch.gateway._workers import Workers
+
+other = os.fork()
+if not other:
+    os._exit(0)
+
+def work(worker):
+    while os.path.exists(f"/proc/{other}"):
+        time.sleep(0.01)
+    return 3
+
+sys.exit(Workers(1, work).run())
+"""
+
+
+def test_a_process_that_is_inherited_is_no_worker(aiohttp):
+    """The first process of a container is the parent of those whose own parent has ended."""
+    if not os.path.exists("/proc/net/tcp"):
+        pytest.skip("/proc is not installed")
+    done = subprocess.run([sys.executable, "-c", INHERITED], env=with_package(), stderr=subprocess.PIPE, timeout=SECONDS)
+    assert (done.returncode, done.stderr) == (3, b"")
 
 
 @pytest.mark.parametrize("words, status, line", [

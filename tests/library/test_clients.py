@@ -10,7 +10,7 @@ import sys
 import pytest
 
 from support.commands import run
-from support.embedding import text_of
+from support.markdown import text_of
 from support.program import EXAMPLES
 from support.servers import Server, skip_without, with_gunicorn
 

@@ -12,7 +12,8 @@ import sys
 import pytest
 
 from support.commands import run
-from support.embedding import ANSWERED, IN_NODE, IN_PYTHON, ONE, STRICT, block, text_of
+from support.embedding import ANSWERED, IN_NODE, IN_PYTHON, ONE, STRICT, block
+from support.markdown import text_of
 from support.program import EXAMPLES, ROOT
 
 PAGES = f"{ROOT}/tests/library/pages"

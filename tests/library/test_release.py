@@ -23,7 +23,8 @@ import pytest
 import declarations
 from support import targets
 from support.commands import run
-from support.embedding import IN_NODE, IN_PYTHON, ONE, STRICT, block, check_in, text_of
+from support.embedding import IN_NODE, IN_PYTHON, ONE, STRICT, block, check_in
+from support.markdown import blocks, text_of
 from support.program import ROOT
 
 VERSION = text_of("VERSION").strip()
@@ -307,6 +308,11 @@ def test_paths_in_pages(unpacked):
             assert is_there, f"{page} names {path}, which is not in the archive"
 
 
+def test_the_image_of_the_gateway_takes_the_package(unpacked):
+    (source,) = re.findall(r"(?m)^COPY (\S+) ", text_of("examples", "gateway", "Containerfile"))
+    assert [it.name for it in (unpacked.top / "python").glob(source)] == [unpacked.package("python").name]
+
+
 def test_the_packages_say_that_there_is_no_licence(unpacked):
     with zipfile.ZipFile(unpacked.package("python")) as package:
         (metadata,) = [package.read(it).decode() for it in package.namelist() if it.endswith("/METADATA")]
@@ -458,7 +464,7 @@ def test_the_package_for_node(unpacked, node):
 def test_the_page_of_the_package_for_node(unpacked, node):
     """Each program of the page prints what it shows."""
     text = (node / "node_modules/odb-batch/README.md").read_text(encoding="utf-8")
-    programs, shown = (re.findall(rf"```{kind}\n(.*?)```", text, re.DOTALL) for kind in ("js", "text"))
+    programs, shown = (blocks(text, kind) for kind in ("js", "text"))
     assert len(programs) == len(shown) > 0
     for program, wanted in zip(programs, shown):
         unpacked.run("node", unpacked.write("node/readme.js", program), wanted=wanted, cwd=node)

@@ -6,12 +6,11 @@ import os
 import pwd
 import secrets
 import shutil
-import socket
 import subprocess
 
 import pytest
 
-from .servers import SECONDS, folder_for_databases
+from .servers import SECONDS, folder_for_databases, free_port
 
 CONFIGURATION = """
 listen_addresses = '127.0.0.1'
@@ -57,8 +56,7 @@ class Postgresql:
 
     def __init__(self, more="", folder=None):
         self.folder, self._programs = folder or folder_for_databases(), programs()
-        with socket.create_server(("127.0.0.1", 0)) as free:
-            self.port = free.getsockname()[1]
+        self.port = free_port()
         if not os.getuid():
             shutil.chown(self.folder, "postgres", "postgres")
         self.data = os.path.join(self.folder, "data")

@@ -1,9 +1,6 @@
 """The programs of docs/embedding.md and examples/, and what they print."""
 
-import os
-import re
-
-from .program import ROOT
+from .markdown import blocks, text_of
 
 STRICT = ["-Wall", "-Wextra", "-Werror", "-pedantic"]
 
@@ -16,15 +13,9 @@ IN_PYTHON = "Counts(requests=1, groups=0)\n['a']\n"
 IN_NODE = "{ requests: 1, groups: 0 } [ 'a' ]\n"
 
 
-def text_of(*names):
-    """The text of a file of the repository."""
-    with open(os.path.join(ROOT, *names), encoding="utf-8") as file:
-        return file.read()
-
-
 def block(language, at=0):
     """The program of docs/embedding.md in a language; a later one if there are several."""
-    return re.findall(rf"```{language}\n(.*?)```", text_of("docs", "embedding.md"), re.DOTALL)[at]
+    return blocks(text_of("docs", "embedding.md"), language)[at]
 
 
 def check_in(name):

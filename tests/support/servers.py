@@ -2,11 +2,13 @@
 HTTP.
 """
 
+import contextlib
 import email.utils
 import http.client
 import importlib.util
 import json
 import os
+import random
 import signal
 import socket
 import subprocess
@@ -43,6 +45,28 @@ def until(condition):
     while not condition():
         assert time.monotonic() < end, f"nothing came within {SECONDS} seconds"
         time.sleep(0.01)
+
+
+# Ports that the kernel gives to no client, so that none is taken before a test uses it.
+PORTS = range(20000, 32768)
+
+
+def free_ports(count):
+    """Returns adjacent ports of the loopback that are free, for a process that binds them later."""
+    draw = random.SystemRandom()
+    for _ in range(1000):
+        first = draw.randrange(PORTS.start, PORTS.stop - count + 1)
+        found = range(first, first + count)
+        with contextlib.ExitStack() as bound, contextlib.suppress(OSError):
+            for port in found:
+                bound.enter_context(socket.create_server(("127.0.0.1", port)))
+            return list(found)
+    raise AssertionError(f"no {count} adjacent ports are free")
+
+
+def free_port():
+    """Returns a port of the loopback that is free, for a process that binds it later."""
+    return free_ports(1)[0]
 
 
 def skip_without(*modules):

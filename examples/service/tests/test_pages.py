@@ -1,32 +1,18 @@
 """What docs/service.md shows of the example: its commands, run."""
 
 import json
-import os
-import re
 import shlex
-import socket
 import subprocess
 
 import pytest
 
 from common import ROOT, SECONDS
 from support.commands import with_package
+from support.markdown import blocks, text_of
+from support.servers import free_port
 
-
-def page(*names):
-    with open(os.path.join(ROOT, *names), encoding="utf-8") as file:
-        return file.read()
-
-
-def free_port():
-    with socket.socket() as listening:
-        listening.bind(("127.0.0.1", 0))
-        return str(listening.getsockname()[1])
-
-
-def commands_of_page():
-    """The commands by which a clone starts the service and asks it."""
-    return re.search("```sh\n(bin/odb_library .*?)```", page("docs", "service.md"), re.DOTALL)[1].splitlines()
+# The commands by which a clone starts the service and asks it, and the one by which gunicorn serves it.
+BY_HAND, BY_GUNICORN = (it.splitlines() for it in blocks(text_of("docs", "service.md"), "sh"))
 
 
 def answers(words, until, ask, **variables):
@@ -53,18 +39,18 @@ GOOD = {"book": 200, "mark": 204, "loan": 201, "list": 200}
 
 @pytest.mark.needs("curl")
 def test_the_commands_of_the_page_answer_the_batch():
-    build, start, ask = commands_of_page()
+    build, start, ask = BY_HAND
     assert build == "bin/odb_library python/odb_batch"  # the library of the tests is in another folder
     assert start.startswith("PYTHONPATH=python ")
-    port = free_port()
+    port = str(free_port())
     words = [*shlex.split(start)[1:], "--port", port]
     assert answers(words, "listening", ask.replace("localhost:8080", f"127.0.0.1:{port}")) == GOOD
 
 
 @pytest.mark.needs("curl", "gunicorn")
 def test_gunicorn_by_the_command_of_the_page_answers_the_batch(tmp_path):
-    start = re.search("```sh\nPYTHONPATH=python (gunicorn .*?)\n```", page("docs", "service.md"))[1]
-    port = free_port()
-    words = [*start.split(), "--bind", f"127.0.0.1:{port}", "--workers", "1"]
-    ask = commands_of_page()[2].replace("localhost:8080", f"127.0.0.1:{port}")
+    (start,), port = BY_GUNICORN, free_port()
+    assert start.startswith("PYTHONPATH=python gunicorn ")
+    words = [*start.split()[1:], "--bind", f"127.0.0.1:{port}", "--workers", "1"]
+    ask = BY_HAND[2].replace("localhost:8080", f"127.0.0.1:{port}")
     assert answers(words, " answers", ask, LIBRARY=str(tmp_path / "library.sqlite")) == GOOD

@@ -53,6 +53,8 @@ class Workers:
         status = 0
         while self._running:
             process, how = os.wait()
+            if process not in self._running:  # as the first process of a container it inherits those of others
+                continue
             number, orders = self._running.pop(process)
             os.close(orders)
             ended = os.waitstatus_to_exitcode(how)

@@ -13,6 +13,7 @@ from app import make_app
 from odb_batch.client import AsyncBatchClient, Batch, BatchClient, RequestFailed, batch_headers
 from odb_batch.conformance import serving
 from odb_batch.testing import Scripted
+from support.servers import free_port
 
 
 def by_requests(url):
@@ -185,9 +186,7 @@ def test_a_timeout_of_the_client_of_http(posting):
 def test_a_service_that_is_not_there(posting):
     batch = Batch()
     batch.get("A")
-    with socket.create_server(("127.0.0.1", 0)) as server:
-        port = server.getsockname()[1]
-    assert posting(f"http://127.0.0.1:{port}/")(batch)["1"].status == 502
+    assert posting(f"http://127.0.0.1:{free_port()}/")(batch)["1"].status == 502
 
 
 @contextlib.contextmanager
@@ -323,9 +322,7 @@ def test_a_client_that_has_no_connection(patient):
     """Nothing was sent, so all may be sent again."""
     batch = Batch()
     batch.post("B", {})
-    with socket.create_server(("127.0.0.1", 0)) as server:
-        port = server.getsockname()[1]
-    results = patient(f"http://127.0.0.1:{port}/", attempts=2)(batch)
+    results = patient(f"http://127.0.0.1:{free_port()}/", attempts=2)(batch)
     assert [it.status for it in results.left] == [503] and results.error.__cause__ is not None
 
 
