@@ -1,11 +1,12 @@
 #!/usr/bin/env python3
-"""How many batches a second a gateway answers without a journal, with SQLite and with PostgreSQL: `journals.py [FOLDER] [--two]`.
+"""How many batches a second a gateway answers without a journal, with SQLite and with PostgreSQL: `journals.py [FOLDER] [--two] [--short]`.
 
 FOLDER is what `bin/odb_library` has written, `dist/library` unless it is given. A gateway for each kind stands before one
 service that answers at once. 1, 8 and 64 clients send batches of five POSTs, side by side (flat: two syncs) or each after
 the one before (chain: six); the kinds take turns. Shown are medians over the turns, and as a share of those of the first
-kind in the same turn. SQLite is on the disk of the temporary folder, PostgreSQL too, with its usual `fsync`. With `--two` the
-clients ask two gateways by turns, over one PostgreSQL. It takes three minutes; no turn begins after four.
+kind in the same turn, beside the share that a quiet machine has to have. SQLite is on the disk of the temporary folder,
+PostgreSQL too, with its usual `fsync`. With `--two` the clients ask two gateways by turns, over one PostgreSQL. It takes three
+minutes; no turn begins after four. With `--short` it is one short turn, which shows that it runs.
 """
 
 import asyncio
@@ -22,7 +23,7 @@ import tempfile
 import time
 
 ROOT = os.path.dirname(os.path.dirname(os.path.abspath(__file__)))
-NAMES = [it for it in sys.argv[1:] if it != "--two"]
+NAMES = [word for word in sys.argv[1:] if word not in ("--two", "--short")]
 LIBRARY = os.path.abspath(NAMES[0] if NAMES else os.path.join(ROOT, "dist", "library"))
 os.environ["ODB_BATCH_LIBRARY"] = os.path.join(LIBRARY, "libodb_batch.so.0")
 sys.path.insert(0, os.path.join(ROOT, "tests"))
@@ -32,6 +33,13 @@ from support.commands import with_package  # noqa: E402
 from support.servers import FIRST_SENT  # noqa: E402
 
 CLIENTS, TURNS, SECONDS, MOST_SECONDS = (1, 8, 64), 5, 2.0, 240.0
+if "--short" in sys.argv:
+    TURNS, SECONDS = 1, 0.2
+# The shares of a prototype on a quiet machine, by 1, 8 and 64 clients; a tenth less is enough.
+PROTOTYPE = {
+    ("flat", "SQLite"): (0.61, 0.66, 0.68), ("flat", "PostgreSQL"): (0.49, 0.73, 0.71),
+    ("chain", "SQLite"): (0.44, 0.47, 0.66), ("chain", "PostgreSQL"): (0.26, 0.57, 0.66),
+}  # fmt: skip
 BODY = b'{"@context":"/odata/$metadata#Orders/$entity","Id":1,"Customer":"a customer","Price":9.990}'
 ANSWER = (
     b"HTTP/1.1 201 Created\r\nContent-Type: application/json\r\nLocation: /odata/Orders(1)\r\n"
@@ -88,7 +96,7 @@ async def rate(gateways, clients, shape, is_kept):
     """How many batches a second some clients get answers to, the processor time of the gateways for one, the median and the
     99th of a hundred waits, in ms."""
     text, waits, port = batch(shape), [], itertools.cycle(port for _, port in gateways)
-    before = sum(processor(it) for it, _ in gateways)
+    before = sum(processor(process) for process, _ in gateways)
     opened = [await asyncio.open_connection("127.0.0.1", next(port), limit=2**24) for _ in range(clients)]
 
     async def client(streams):
@@ -103,7 +111,7 @@ async def rate(gateways, clients, shape, is_kept):
     end = began + SECONDS
     await asyncio.gather(*map(client, opened))
     took = time.perf_counter() - began
-    used = sum(processor(it) for it, _ in gateways) - before
+    used = sum(processor(process) for process, _ in gateways) - before
     waits.sort()
     return len(waits) / took, used / len(waits), 1000 * waits[len(waits) // 2], 1000 * waits[int(len(waits) * 0.99)]
 
@@ -141,14 +149,16 @@ async def measure(places):
 def show(found, kinds):
     turns = len(found["flat", CLIENTS[0], kinds[0]])
     print(f"medians of {turns} turns, load {os.getloadavg()[0]:.1f}; ms: how long half of the batches took, and 99 of 100")
-    print(f"{'':28}batches/s  share  processor ms  share  half  99 %")
+    print(f"{'':28}batches/s  share  at least  processor ms  share  half  99 %")
     for shape, clients in itertools.product(("flat", "chain"), CLIENTS):
         for kind in kinds:
             rows, bases = found[shape, clients, kind], found[shape, clients, kinds[0]]
             rates, used, half, most = (statistics.median(row[k] for row in rows) for k in range(4))
             share, more = (statistics.median(row[k] / base[k] for row, base in zip(rows, bases)) for k in range(2))
             name = f"{shape:5}{clients:4} client{'s' if clients > 1 else ' '}  {kind}"
-            print(f"{name:28}{rates:9.1f}{share:7.2f}{used:14.1f}{more:7.2f}{half:6.0f}{most:6.0f}", flush=True)
+            studied = PROTOTYPE.get((shape, kind))
+            least = f"{0.9 * studied[CLIENTS.index(clients)]:.2f}" if studied else ""
+            print(f"{name:28}{rates:9.1f}{share:7.2f}{least:>10}{used:14.1f}{more:7.2f}{half:6.0f}{most:6.0f}", flush=True)
 
 
 def main():

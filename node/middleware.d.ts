@@ -1,6 +1,6 @@
 // The entry `odb-batch/middleware`.
 
-import type { PreparedRequest, SharedPerformOptions } from './perform'
+import type { Answer, PreparedRequest, SharedPerformOptions } from './perform'
 
 /** A handler of `node:http`, as an app of Express is one, or what `app.callback()` of Koa returns. */
 export type Handler = (request: any, response: any) => unknown
@@ -17,8 +17,9 @@ export interface BatchOptions extends SharedPerformOptions {
   root?: string
   /**
    * Names of headers that requests may have, beside those of OData and of conditional requests, and `traceparent`, `tracestate`,
-   * `X-Request-ID`, `X-Correlation-ID`, `client-request-id`, `X-CSRF-Token`, `X-Requested-With` and `sap-*`. Others are answered
-   * 400, which the log says once for each name, of at most 100.
+   * `X-Request-ID`, `X-Correlation-ID`, `client-request-id`, `X-CSRF-Token`, `X-Requested-With` and `sap-*`. Dropped are
+   * `Accept-Encoding`, `Connection`, `Content-Length`, `Host`, and, unless they are allowed, `Cache-Control`, `Date`, `Pragma` and
+   * `User-Agent`. Others are answered 400, which the log says once for each name, of at most 100.
    */
   allowed?: readonly string[]
   /**
@@ -26,6 +27,13 @@ export interface BatchOptions extends SharedPerformOptions {
    * answer then. What it changes has no effect.
    */
   inspect?: (request: Omit<PreparedRequest, 'signal'>) => void | PromiseLike<void>
+  /**
+   * Is called like `inspect`, just before a request is dispatched. A function that it returns is called with the answer, for a span
+   * or a log of your own.
+   */
+  onRequest?: (request: Omit<PreparedRequest, 'signal'>) => void | ((answer: Answer) => void)
+  /** Takes a line for each request of a batch, such as `batch 7: GET /odata/Books 200 1.3 ms`; there is none by default. */
+  requestLog?: (line: string) => void
   /**
    * How many bytes a batch may have, and its answers together; 16,777,216 is the default. An answer takes its bytes as it is
    * written. If they are too many, a GET is ended at once and answered 507; another request keeps its status and loses its body.

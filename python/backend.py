@@ -38,7 +38,7 @@ def _extras():
 def _files():
     """The files of the package, by their paths in a wheel."""
     places = (os.path.join(folder, name) for folder, _, names in os.walk(PACKAGE) for name in names)
-    found = sorted(it for it in places if it.endswith(".py") or os.path.basename(it) in ("py.typed", PAGE, *LIBRARIES))
+    found = sorted(it for it in places if it.endswith((".py", ".json")) or os.path.basename(it) in ("py.typed", PAGE, *LIBRARIES))
     return {os.path.relpath(it, HERE).replace(os.sep, "/"): it for it in found}
 
 

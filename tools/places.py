@@ -139,7 +139,7 @@ PLACES = {
     "section of docs/faults.md": at("page", r"^### {code} {name}, "),
     "rule of docs/batches.md": at("rules", r"\[[^\]]*\b{code}\b[^\]]*\]"),
     "text of explain": at("explained", r'r#"{code} {name} '),
-    "text for Python": binding("python/odb_batch/errors/explanations.py"),
+    "text for Python": binding("python/odb_batch/errors/explanations.json"),
     "text for Node": binding("node/errors/explanations.json"),
     "plain name": at("plain", r'\b{code}="{name}"'),
     "plain rule": at("plain", r'"{code}"'),

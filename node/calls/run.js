@@ -2,7 +2,7 @@
 
 // Live runs. index.d.ts says what each call takes and returns.
 
-const { bodyBytes, documentBytes, eventBytes, headerBytes } = require('../documents/bytes.js')
+const { documentBytes, eventBytes, reportBytes } = require('../documents/bytes.js')
 const { DONE, Fault, REFUSED, Refused, callError, errorWithCode } = require('../errors/faults.js')
 const library = require('../library/index.js')
 const { run } = require('./commands.js')
@@ -154,7 +154,7 @@ class Run {
   report(id, status, headers, body) {
     if (!Number.isInteger(status)) throw new TypeError(`a status must be a whole number, not ${String(status)}`)
     const position = this.#position(id)
-    const [head, text] = [headerBytes(headers), bodyBytes(body)]
+    const [head, text] = reportBytes(headers, body)
     const end = library.report(this.#open, position, Math.min(Math.max(status, 0), MOST), head, text)
     if (end === DONE) this.#size += head.length + text.length
     if (end === REFUSED) throw findFault(head, text)

@@ -10,10 +10,10 @@ const { bodyBytes, documentBytes } = require('../documents/bytes.js')
 const { readResponses } = require('../documents/responses.js')
 const { Fault } = require('../errors/faults.js')
 const { Refusal, badGateway, toRefusal } = require('../errors/refusals.js')
-const { isSuccess } = require('../http/answers.js')
+const { isSuccess } = require('../http/messages.js')
 const { skipMark } = require('../http/bodies.js')
 const { References } = require('../http/references.js')
-const { Service, firstSegment } = require('../http/urls.js')
+const { firstSegment } = require('../http/urls.js')
 
 // How many requests a batch may have.
 const MOST = 10000
@@ -111,7 +111,7 @@ class Parts {
     this.document = document
     this.#needs = new Map(planned.map(({ id, needs }) => [id, needs]))
     this.#groups = new Map(planned.map(({ id, group }) => [id, group]))
-    this.#references = new References(requests(document), new Service())
+    this.#references = new References(requests(document))
     this.answers = new Map(planned.map(({ id }) => [id, SKIPPED]))
   }
 
@@ -210,8 +210,8 @@ class Parts {
     for (const id of ids) {
       const answer = answers.get(id) ?? SKIPPED
       this.answers.set(id, answer)
-      if (isSuccess(answer)) this.#references.keep(id, answer.headers, answer.body)
-      else this.#sound.delete(number)
+      if (!isSuccess(answer)) this.#sound.delete(number)
+      else if (this.#references.referred.has(id)) this.#references.keep(id, answer.headers, answer.body)
     }
     const isSkipped = [...needs].some((unit) => !this.#sound.has(unit))
     this.#isStopped ||= this.#mode === 'stop' && isError(ids.map((id) => this.answers.get(id)), isSkipped)

@@ -3,7 +3,7 @@
 // What the requests of a batch were answered. client.d.ts says what each member is.
 
 const { plan, rest } = require('../calls/commands.js')
-const { isSuccess } = require('../http/answers.js')
+const { isSuccess } = require('../http/messages.js')
 
 // Numbers of seconds above it are read as it (RFC 9111, section 1.2.2).
 const MOST_SECONDS = 2 ** 31

@@ -90,9 +90,9 @@ function bodyBytes(body) {
   return body === undefined || body === null ? NOTHING : asBytes(body) ?? writeJson(body)
 }
 
-/** The JSON of headers in a report; nothing if there are none. */
-function headerBytes(headers) {
-  return bodyBytes(toHeaderObject(headers))
+/** The JSON of the headers and the body of a report; nothing of what it does not have. */
+function reportBytes(headers, body) {
+  return [bodyBytes(toHeaderObject(headers)), bodyBytes(body)]
 }
 
 /** The element of a document of events. */
@@ -110,4 +110,4 @@ function eventBytes(events) {
   return Array.isArray(events) ? writeJson({ events: events.map(eventElement) }) : documentBytes(events)
 }
 
-module.exports = { asBytes, bodyBytes, documentBytes, eventBytes, headerBytes, kindName, toHeaderObject, writeJson }
+module.exports = { asBytes, bodyBytes, documentBytes, eventBytes, kindName, reportBytes, toHeaderObject, writeJson }

@@ -4,7 +4,7 @@
 
 const { Refusal } = require('../errors/refusals.js')
 const { isJson, mediaType, toWire } = require('../http/bodies.js')
-const { foldHeaders } = require('../http/headers.js')
+const { foldHeaders } = require('../http/messages.js')
 const { elementsAt, membersAt, skipSpace } = require('./json_scanner.js')
 
 /** The headers of a response; what is not a text or a number is left out, since no rule asks for them. */

@@ -2,7 +2,7 @@
 
 // What is answered in place of an answer: refusals, and those that stand for an exception.
 
-const { foldHeaders } = require('../http/headers.js')
+const { foldHeaders } = require('../http/messages.js')
 
 const MOST_STATUS = 599
 const BAD_GATEWAY = 502

@@ -1,16 +1,39 @@
 'use strict'
 
-// The HTTP request that carries a batch: its mode, its base, and the headers that its requests have.
+// The HTTP request that carries a batch: its mode, its base and its roots, and the headers that its requests have.
 
+const { validateHeaderValue } = require('node:http')
 const { Refusal } = require('../errors/refusals.js')
 const { mediaType } = require('./bodies.js')
-const { inheritHeaders } = require('./header_policy.js')
-const { unquoted } = require('./urls.js')
+const { decodePart } = require('./urls.js')
 
 const FORWARDED = /host="?([^";,\s]+)/gi
 const HOST = /^([a-z0-9._~-]+|\[[0-9a-f:.]+\])(:[0-9]{1,5})?$/i
 const PREFERENCES = /(?:[^,"]|"[^"]*"?)+/g
 const OF_BATCH = new Set(['callback', 'continue-on-error', 'respond-async', 'wait'])
+const NOT_INHERITED = new Set([
+  'accept', 'accept-encoding', 'connection', 'digest', 'expect', 'http2-settings', 'idempotency-key', 'keep-alive', 'prefer',
+  'proxy-connection', 'range', 'signature', 'signature-input', 'te', 'trailer', 'transfer-encoding', 'upgrade', 'x-http-method',
+  'x-http-method-override', 'x-method-override',
+])
+const PREFIXES_NOT_INHERITED = ['content-', 'if-', 'repeatability-']
+// Others could be those by which a proxy tells the service who the client is.
+const ALLOWED = [
+  'accept', 'accept-charset', 'accept-language', 'content-language', 'content-type', 'idempotency-key', 'if-match',
+  'if-modified-since', 'if-none-match', 'if-unmodified-since', 'isolation', 'odata-isolation', 'odata-maxversion',
+  'odata-version', 'prefer', 'repeatability-first-sent', 'repeatability-request-id',
+]
+// What usual clients give each request, and what is traced.
+const OF_CLIENTS = [
+  'client-request-id', 'traceparent', 'tracestate', 'x-correlation-id', 'x-csrf-token', 'x-request-id', 'x-requested-with',
+]
+const PREFIX_OF_CLIENTS = 'sap-'
+// What clients set on each request by themselves: of a request of a batch it is dropped. The first are of a connection, which such
+// a request has not; the others may be allowed.
+const OF_CONNECTION = ['accept-encoding', 'connection', 'content-length', 'host']
+const USUALLY_DROPPED = ['cache-control', 'date', 'pragma', 'user-agent']
+// How many names the log says at most, since clients choose them.
+const MOST_NAMES = 100
 
 /** The path of a URL without its last segment. */
 function folder(path) {
@@ -47,62 +70,108 @@ function readPreferences({ prefer = '' }) {
   })
 }
 
-class BatchRequest {
-  #policy
-  #preferences
-  // Those that are not about the batch.
-  #ofRequests
-  #inherited
+/** The headers that the requests of a batch have from the request that carries it. */
+function inheritHeaders(headers) {
+  const isInherited = (name) => !NOT_INHERITED.has(name) && !PREFIXES_NOT_INHERITED.some((prefix) => name.startsWith(prefix))
+  return Object.fromEntries(Object.entries(headers).filter(([name]) => isInherited(name)))
+}
 
-  /** `path` is that of the batch, and `policy` says which headers its requests may have for themselves. */
-  constructor(req, path, policy) {
-    this.req = req
-    this.path = path
-    this.#policy = policy
-    this.#preferences = readPreferences(req.headers)
-    this.#ofRequests = this.#preferences.filter(({ name }) => !OF_BATCH.has(name)).map(({ text }) => text)
-    this.#inherited = inheritHeaders(req.headers)
-    if (this.#ofRequests.length > 0) this.#inherited.prefer = this.#ofRequests.join(', ')
+/** Which headers requests of batches may have for themselves. */
+class HeaderPolicy {
+  #allowed
+  #dropped
+  #log
+  #refused = new Set()
+
+  /** `allowed` has further names; throws if no request may have one. A name that is refused is logged once. */
+  constructor(allowed, log) {
+    const added = allowed.map((name) => name.toLowerCase())
+    const wrong = added.find((name) => OF_CONNECTION.includes(name))
+    if (wrong !== undefined) throw new TypeError(`allowed: no request of a batch may have the header ${wrong}`)
+    this.#allowed = new Set([...ALLOWED, ...OF_CLIENTS, ...added])
+    this.#dropped = new Set([...OF_CONNECTION, ...USUALLY_DROPPED.filter((name) => !added.includes(name))])
+    this.#log = log
   }
 
-  /** The mode, as the preference continue-on-error says (OData Protocol 4.01, section 8.2.8.3); or a refusal of the request. */
-  get mode() {
-    const { method, headers } = this.req
+  /** The headers of a request with an id; or a refusal. `preferences` are those of the batch that hold for it. */
+  apply(id, headers, preferences) {
+    const found = {}
+    for (const [name, value] of Object.entries(headers)) {
+      if (this.#dropped.has(name)) continue
+      this.#require(id, name, value)
+      found[name] = name === 'prefer' ? [value, ...preferences].join(', ') : value
+    }
+    return found
+  }
+
+  #require(id, name, value) {
+    const target = { target: name }
+    if (!this.#allowed.has(name) && !name.startsWith(PREFIX_OF_CLIENTS)) {
+      const refusal = new Refusal(400, 'HeaderNotAllowed', `A request of a batch may not have the header ${name}`, target)
+      this.#note(id, name, refusal)
+      throw refusal
+    }
+    try {
+      validateHeaderValue(name, value)
+    } catch {
+      throw new Refusal(400, 'BadHeader', `The header ${name} has a character that no header may have`, target)
+    }
+  }
+
+  #note(id, name, refusal) {
+    if (this.#refused.has(name) || this.#refused.size === MOST_NAMES) return
+    this.#refused.add(name)
+    this.#log(refusal, `the request ${id} (the option allowed adds headers, and this is said once)`)
+  }
+}
+
+class BatchRequest {
+  #policy
+  // The preferences that are not about the batch.
+  #ofRequests
+  #inherited
+  #path
+  /** The mode, as the preference continue-on-error says (OData Protocol 4.01, section 8.2.8.3). */
+  mode
+  /** The URL that those of the requests are relative to. */
+  base
+  /**
+   * What the URL of each request begins with. A client and the app may write it with the scheme and the host that a proxy in front
+   * has; a request is answered here, whatever they are.
+   */
+  roots
+
+  /**
+   * `path` is that of the batch, `root` that with which those of its requests begin, and `policy` says which headers they may have for
+   * themselves. Throws the refusal of a request that carries no batch.
+   */
+  constructor({ method, headers, socket, protocol = socket.encrypted ? 'https' : 'http' }, path, root, policy) {
     if (method !== 'POST') {
       throw new Refusal(405, 'NotAllowed', `${method} does not apply to a batch`, { headers: { allow: 'POST' } })
     }
     if (mediaType(headers) !== 'application/json') {
       throw new Refusal(415, 'BadMediaType', 'A batch is in application/json', { headers: { accept: 'application/json' } })
     }
-    const value = this.#preferences.find(({ name }) => name === 'continue-on-error')?.value
-    return value === '' || value === 'true' ? 'continue' : 'stop'
-  }
-
-  /** The URL that those of the requests are relative to. */
-  get base() {
-    const { socket, protocol = socket.encrypted ? 'https' : 'http' } = this.req
-    return absoluteUrl(protocol, this.#host, folder(this.path))
-  }
-
-  get #host() {
-    return this.req.headers.host ?? 'localhost'
-  }
-
-  /**
-   * What the URL of each request begins with, by a path. A client and the app may write it with the scheme and the host that a
-   * proxy in front has; a request is answered here, whatever they are.
-   */
-  roots(path) {
-    const hosts = [...new Set([this.#host, ...forwardedHosts(this.req.headers)])]
-    return hosts.flatMap((host) => ['http', 'https'].map((scheme) => absoluteUrl(scheme, host, path)))
+    const preferences = readPreferences(headers)
+    const value = preferences.find(({ name }) => name === 'continue-on-error')?.value
+    this.mode = value === '' || value === 'true' ? 'continue' : 'stop'
+    const { host = 'localhost' } = headers
+    this.base = absoluteUrl(protocol, host, folder(path))
+    const hosts = [...new Set([host, ...forwardedHosts(headers)])]
+    this.roots = hosts.flatMap((name) => ['http', 'https'].map((scheme) => absoluteUrl(scheme, name, root)))
+    this.#path = path
+    this.#policy = policy
+    this.#ofRequests = preferences.filter(({ name }) => !OF_BATCH.has(name)).map(({ text }) => text)
+    this.#inherited = inheritHeaders(headers)
+    if (this.#ofRequests.length > 0) this.#inherited.prefer = this.#ofRequests.join(', ')
   }
 
   /** A request of the batch as the service has it, with what it inherits; or a refusal if it may not be sent. */
   serviceRequest({ id, method, url: absolute, headers, body }) {
     const url = absolute.slice(absolute.indexOf('/', absolute.indexOf('://') + '://'.length))
-    if (unquoted(url.split('?', 1)[0]) === this.path) throw new Refusal(400, 'NestedBatch', 'A batch has no batches')
+    if (decodePart(url.split('?', 1)[0]) === this.#path) throw new Refusal(400, 'NestedBatch', 'A batch has no batches')
     return { method, url, headers: { ...this.#inherited, ...this.#policy.apply(id, headers, this.#ofRequests) }, body }
   }
 }
 
-module.exports = { BatchRequest, folder }
+module.exports = { BatchRequest, HeaderPolicy, folder }

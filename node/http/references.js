@@ -3,8 +3,8 @@
 // What the requests of a batch refer to: URLs and ETags that other requests were answered.
 
 const { Refusal } = require('../errors/refusals.js')
-const { readEntity: entityOf } = require('./bodies.js')
-const { entityUrl, followed } = require('./urls.js')
+const { readEntity: entityOf, toWire } = require('./bodies.js')
+const { Service, entityUrl, followUrl } = require('./urls.js')
 
 // In these headers `$` and an id stand for the ETag that the request was answered (OData JSON Format 4.01, section 19.3).
 const OF_ETAGS = ['if-match', 'if-none-match']
@@ -47,16 +47,17 @@ function foundBy(call) {
 class References {
   #requests
   #service
-  // The ids of the requests that others refer to; of these, functions that return their URLs, and what they were answered.
-  #named
+  /** The ids of the requests that others refer to. */
+  referred
+  // Of these, functions that return their URLs, and what they were answered.
   #urls = new Map()
   #answers = new Map()
 
-  /** `service` says where requests may lead. */
-  constructor(requests, service) {
+  /** `base` and `roots` say where requests may lead; see `Service`. */
+  constructor(requests, base, roots) {
+    this.#service = new Service(base, roots)
     this.#requests = new Map(requests.map((request) => [request.id, request]))
-    this.#named = new Set(requests.flatMap(({ reference, headers }) => [reference, ...this.#tagged(headers).map(([, id]) => id)]))
-    this.#service = service
+    this.referred = new Set(requests.flatMap(({ reference, headers }) => [reference, ...this.#tagged(headers).map(([, id]) => id)]))
   }
 
   /** The request with an id, as it is in the batch. */
@@ -64,9 +65,8 @@ class References {
     return this.#requests.get(id)
   }
 
-  /** Keeps what a request was answered, if others refer to it: its headers, and the JSON of its body. */
+  /** Keeps what a request was answered to which others refer: its headers, and the JSON of its body. */
   keep(id, headers, text) {
-    if (!this.#named.has(id)) return
     this.#answers.set(id, { headers, text })
     this.#urlOf(id)
   }
@@ -78,13 +78,23 @@ class References {
     return { ...(location !== undefined && { location }), ...(etag !== undefined && { etag }) }
   }
 
+  /** A request as it is to be sent, or a refusal if nothing can be sent. */
+  prepare(id) {
+    const request = this.#requests.get(id)
+    const { method, group, body } = request
+    const [headers, url] = [this.#headersOf(request), this.url(id)]
+    if (body === undefined) return { id, method, url, headers, body, group }
+    headers['content-type'] ??= 'application/json'
+    return { id, method, url, headers, body: toWire(body, headers), group }
+  }
+
   /** The URL to which a request is sent, or a refusal. */
   url(id) {
     return this.#urlOf(id)()
   }
 
   /** The headers of a request with ETags in place of references, but for those to the ids that are kept; or a refusal. */
-  headersOf({ headers }, kept = NONE) {
+  #headersOf({ headers }, kept = NONE) {
     const found = { ...headers }
     for (const [name, id] of this.#tagged(headers)) if (!kept.has(id)) found[name] = this.#tagOf(id)
     return found
@@ -93,7 +103,7 @@ class References {
   /** A request as it is in a batch with the requests of these ids: references to others are replaced; or a refusal. */
   member(id, ids) {
     const request = this.of(id)
-    const headers = this.headersOf(request, ids)
+    const headers = this.#headersOf(request, ids)
     return { ...request, headers, url: ids.has(request.reference) ? request.url : this.url(id) }
   }
 
@@ -105,7 +115,7 @@ class References {
     const made = outcomeOf(() => {
       return reference === null ? this.#service.target(url, url) : this.#service.target(this.#placeOf(reference) + rest)
     })
-    if (this.#named.has(id)) this.#urls.set(id, made)
+    if (this.referred.has(id)) this.#urls.set(id, made)
     return made
   }
 
@@ -119,15 +129,15 @@ class References {
   #placeOf(id) {
     const { headers, text } = this.#answers.get(id)
     const place = textAmong(headers, PLACES)
-    if (place !== undefined) return entityUrl(followed(place, this.url(id)))
+    if (place !== undefined) return entityUrl(followUrl(place, this.url(id)))
     const entity = entityOf(text)
     const own = textAmong(entity, PLACES_IN_BODY)
     if (own === undefined && this.of(id).method === 'POST') {
       throw new Refusal(424, 'NoLocation', `${id} was answered without the URL of what it has created`, { target: id })
     }
     // The URLs in a body are relative to its context, if it has one (OData JSON Format 4.01, section 4.6.1).
-    const from = own === undefined ? this.url(id) : followed(textAmong(entity, CONTEXTS) ?? '', this.url(id))
-    return entityUrl(followed(own ?? '', from))
+    const from = own === undefined ? this.url(id) : followUrl(textAmong(entity, CONTEXTS) ?? '', this.url(id))
+    return entityUrl(followUrl(own ?? '', from))
   }
 
   #tagOf(id) {

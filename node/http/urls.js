@@ -11,7 +11,7 @@ const CONTROL = /[\0-\x1f\x7f-\x9f\u2028\u2029]/
 const LONE_SURROGATE = /\p{Surrogate}/u
 
 /** The characters of a part of a URL; a `%` that no two hexadecimal digits follow is kept. */
-function unquoted(part) {
+function decodePart(part) {
   if (!part.includes('%')) return part
   const bytes = part.replace(/%([0-9a-f]{2})/gi, (_, digits) => String.fromCharCode(parseInt(digits, 16)))
   return Buffer.from(bytes, 'latin1').toString()
@@ -19,11 +19,11 @@ function unquoted(part) {
 
 /** The first segment of a URL: `$book` of `$book/Loans`, and of `%24book`. */
 function firstSegment(url) {
-  return unquoted(url.split(/[/?#]/, 1)[0])
+  return decodePart(url.split(/[/?#]/, 1)[0])
 }
 
 /** A URL that is relative to another one, which is absolute. */
-function joined(url, base) {
+function joinUrl(url, base) {
   try {
     return new URL(url, base)
   } catch {
@@ -40,12 +40,12 @@ function isAbsolute(url) {
 }
 
 /** A URL that is relative to another one, which may be relative, too. */
-function followed(url, from) {
+function followUrl(url, from) {
   if (isAbsolute(url)) return url
-  if (isAbsolute(from)) return joined(url, from).href
+  if (isAbsolute(from)) return joinUrl(url, from).href
   if (url.startsWith('/')) return url
   const slash = from.startsWith('/') ? '/' : ''
-  return slash + joined(url, NOWHERE + from.slice(slash.length)).href.slice(NOWHERE.length)
+  return slash + joinUrl(url, NOWHERE + from.slice(slash.length)).href.slice(NOWHERE.length)
 }
 
 /** The URL of a resource, to which more segments may be appended: without a query, a fragment and slashes at its end. */
@@ -90,7 +90,7 @@ class Service {
   target(url, given = '') {
     if (LONE_SURROGATE.test(url)) throw unreadable()
     if (this.#base === undefined && this.#roots.length === 0) return url
-    const found = joined(url, this.#base)
+    const found = joinUrl(url, this.#base)
     found.hash = ''
     const isInside = this.#roots.length === 0 || (!CONTROL.test(url) && this.#roots.some((root) => isBelow(found, root)))
     if (!isInside) throw this.#outside(given)
@@ -98,7 +98,7 @@ class Service {
   }
 
   #outside(given) {
-    const isElsewhere = /^\/(?!\/)/.test(given) && !unquoted(given).startsWith(unquoted(this.#roots[0].pathname))
+    const isElsewhere = /^\/(?!\/)/.test(given) && !decodePart(given).startsWith(decodePart(this.#roots[0].pathname))
     const hint = isElsewhere ? ': drop the / that it begins with' : ''
     return new Refusal(404, 'NotFound', `The URL leads out of the service${hint}`)
   }
@@ -106,9 +106,9 @@ class Service {
 
 /** Whether a URL is below another one, also if its path is decoded twice, as behind a proxy that decodes it. */
 function isBelow(url, root) {
-  const path = unquoted(url.pathname)
+  const path = decodePart(url.pathname)
   const isSame = ['protocol', 'username', 'password', 'host'].every((part) => url[part] === root[part])
-  return isSame && path.startsWith(unquoted(root.pathname)) && isClean(path) && isClean(unquoted(path))
+  return isSame && path.startsWith(decodePart(root.pathname)) && isClean(path) && isClean(decodePart(path))
 }
 
 /** Whether a path has no segment that leads up, and no control character. */
@@ -117,4 +117,4 @@ function isClean(path) {
   return !CONTROL.test(path) && path.split(/[\\/]/).every((segment) => segment.split(';', 1)[0] !== '..')
 }
 
-module.exports = { Service, entityUrl, firstSegment, followed, unquoted }
+module.exports = { Service, entityUrl, firstSegment, followUrl, decodePart }

@@ -13,10 +13,11 @@ class ClientConnection {
   #res
   #patience
   #stop
-  #reads = new Set()
   #isAnswered = false
   #isClosed
   hasLeft
+  /** The waits for answers to requests that only read, which end once the client has left. */
+  reads = new Set()
 
   constructor(res, patience) {
     this.#res = res
@@ -35,16 +36,6 @@ class ClientConnection {
   requireWanted({ reason }) {
     if (reason !== undefined) throw reason
     if (this.#stop.isOver) throw new Refusal(424, 'Stopped', 'The batch had stopped before the request was sent')
-  }
-
-  /** Calls a function that waits for the answer to a request that only reads. */
-  async read(wait, call) {
-    this.#reads.add(wait)
-    try {
-      return await call()
-    } finally {
-      this.#reads.delete(wait)
-    }
   }
 
   answer({ status, headers, body }) {
@@ -67,7 +58,7 @@ class ClientConnection {
     if (this.#isAnswered) return
     this.hasLeft = true
     this.#stop?.end()
-    for (const wait of this.#reads) wait.end(new Refusal(503, 'Left', 'The client has left'))
+    for (const wait of this.reads) wait.end(new Refusal(503, 'Left', 'The client has left'))
   }
 }
 
@@ -121,6 +112,7 @@ function readBytes(req, maxSize, budget) {
 
 /** The bytes of a batch, as a request carries it, or as a parser in front has left it. */
 async function readBody(req, maxSize, budget) {
+  requireOnce(req.headers)
   if (Buffer.isBuffer(req.body) || typeof req.body === 'string') {
     if (budget.take(req.body.length)) return req.body
     throw busyRefusal()
@@ -131,4 +123,4 @@ async function readBody(req, maxSize, budget) {
   return readBytes(req, maxSize, budget)
 }
 
-module.exports = { ClientConnection, readBody, requireOnce }
+module.exports = { ClientConnection, readBody }

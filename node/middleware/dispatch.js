@@ -4,7 +4,7 @@
 
 const { IncomingMessage, ServerResponse } = require('node:http')
 const { Duplex } = require('node:stream')
-const { finalStatus, readAnswer } = require('../http/answers.js')
+const { finalStatus, readAnswer } = require('../http/messages.js')
 
 // What a handler may ask of the connection of a client.
 const OF_CONNECTION = ['authorized', 'encrypted', 'localAddress', 'localPort', 'remoteAddress', 'remoteFamily', 'remotePort']
@@ -26,7 +26,7 @@ class MemorySocket extends Duplex {
   #begin = 0
   #head
   #taken = 0
-  #isAnswered = false
+  #isKept = false
 
   /** Why there was no room for the body, or undefined. */
   shortage
@@ -60,20 +60,24 @@ class MemorySocket extends Duplex {
   }
 
   _destroy(error, done) {
-    if (!this.#isAnswered) this.#giveBack()
+    if (!this.#isKept) this.#giveBack()
     done(error)
   }
 
-  /** The final answer, whose body stays in the budget; undefined if there is no whole head. */
+  /** The final answer; undefined if there is no whole head. */
   answer() {
     if (this.#head === undefined) return undefined
     const written = Buffer.concat(this.#parts)
     const { status, headers } = parseHead(written.toString('latin1', this.#begin, this.#head - END_OF_HEAD.length))
     const rest = written.subarray(this.#head)
     const body = /\bchunked$/i.test(headers['transfer-encoding']) ? joinChunks(rest) : rest
-    this.#isAnswered = true
-    if (body.length < this.#taken) this.#budget.giveBack(this.#taken - body.length)
     return { status, headers, body }
+  }
+
+  /** Has the body of the answer stay in the budget. Else all that is taken is given back at the end of the connection. */
+  keep(body) {
+    this.#isKept = true
+    if (body.length < this.#taken) this.#budget.giveBack(this.#taken - body.length)
   }
 
   /** Finds the end of the final head. A response writes each head at once. */
@@ -212,6 +216,7 @@ function readWritten(socket, request) {
   if (hasBody && announced !== undefined && Number(announced) !== body.length) {
     throw brokenConnection(`the handler announced ${announced} bytes, and wrote ${body.length}`)
   }
+  socket.keep(body)
   return { status, headers, body }
 }
 
@@ -250,15 +255,18 @@ function dispatcher(handler) {
       socket.destroy()
     }
     new Promise((done) => done(handler(req, res))).catch((error) => {
-      if (!res.writableEnded) reject(error)
+      if (res.writableEnded) return
+      reject(error)
+      socket.destroy()
     })
   })
 }
 
 /** Has an app answer requests by its own call for that, as Fastify has one. */
 function injector(app) {
-  return async ({ remoteAddress }, { method, url, headers, body }, budget) => {
+  return async ({ remoteAddress }, { method, url, headers, body }, budget, wait) => {
     const injected = await app.inject({ method, url, headers, payload: body, remoteAddress })
+    if (wait.reason !== undefined) throw wait.reason // nobody waits for it any more
     const { statusCode: status, rawPayload } = injected
     const answer = await readAnswer({ status, headers: injected.headers, body: rawPayload })
     return budget.take(rawPayload.length) ? answer : dropBody({ method }, answer, budget.shortage(rawPayload.length))

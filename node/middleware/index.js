@@ -6,18 +6,18 @@
 const { requireOptions } = require('../calls/options.js')
 const { Fault } = require('../errors/faults.js')
 const { Refusal, toRefusal } = require('../errors/refusals.js')
-const { BatchRequest, folder } = require('../http/batch_request.js')
+const { BatchRequest, HeaderPolicy, folder } = require('../http/batch_request.js')
 const { MOST_BYTES } = require('../http/bodies.js')
-const { HeaderPolicy } = require('../http/header_policy.js')
-const { unquoted } = require('../http/urls.js')
-const { performBatch, performSettings } = require('../perform/index.js')
-const { Stop } = require('../perform/waits.js')
+const { decodePart } = require('../http/urls.js')
+const { Stop, performBatch, performSettings } = require('../perform/index.js')
 const { BodyBudget } = require('./body_budget.js')
-const { ClientConnection, readBody, requireOnce } = require('./connection.js')
+const { ClientConnection, readBody } = require('./connection.js')
 const { appCaller, isRead } = require('./dispatch.js')
+const { BatchObserver } = require('./observation.js')
 
 const OPTIONS = [
-  'path', 'root', 'allowed', 'inspect', 'maxSize', 'memory', 'limit', 'width', 'transaction', 'timeout', 'deadline', 'stop', 'log',
+  'path', 'root', 'allowed', 'inspect', 'onRequest', 'requestLog', 'maxSize', 'memory', 'limit', 'width', 'transaction', 'timeout',
+  'deadline', 'stop', 'log',
 ]
 const MOST_REQUESTS = 1000
 // For how long an answer is waited for, unless an option says so.
@@ -35,41 +35,52 @@ function requireBytes({ maxSize, memory }) {
 
 /** The options with their defaults, or a TypeError. */
 function batchSettings(options) {
-  const { path = '/$batch', root = folder(path), allowed = [], inspect, maxSize = MOST_BYTES, ...others } = options
+  const { path = '/$batch', root = folder(path), allowed = [], inspect, onRequest, requestLog, ...more } = options
+  const { maxSize = MOST_BYTES, ...others } = more
   const { memory = Math.max(USUAL_MEMORY, 2 * maxSize), limit = MOST_REQUESTS, timeout = MOST_MILLISECONDS, ...rest } = others
   for (const [name, value] of Object.entries({ path, root })) {
     if (!String(value).startsWith('/')) throw new TypeError(`the ${name} must begin with /, not ${String(value)}`)
   }
   if (!root.endsWith('/')) throw new TypeError(`the root must end with /, not ${root}`)
-  if (!['undefined', 'function'].includes(typeof inspect)) throw new TypeError(`inspect must be a function, not ${String(inspect)}`)
+  const hooks = { inspect, onRequest, requestLog }
+  for (const [name, hook] of Object.entries(hooks)) {
+    if (!['undefined', 'function'].includes(typeof hook)) throw new TypeError(`${name} must be a function, not ${String(hook)}`)
+  }
   requireBytes({ maxSize, memory })
   const perform = performSettings({ ...rest, limit, timeout })
-  return { path, root, policy: new HeaderPolicy(allowed, perform.log), inspect, maxSize, memory: new BodyBudget(memory), perform }
+  return { path, root, policy: new HeaderPolicy(allowed, perform.log), hooks, maxSize, memory: new BodyBudget(memory), perform }
 }
 
 /** The answer to a request that carries a batch. */
-async function answerBatch(callApp, req, client, memory, { path, root, policy, inspect, maxSize, perform }) {
-  const batchRequest = new BatchRequest(req, path, policy)
-  const { mode, base } = batchRequest
-  requireOnce(req.headers)
+async function answerBatch(callApp, req, client, memory, { path, root, policy, hooks, maxSize, perform }) {
+  const batchRequest = new BatchRequest(req, path, root, policy)
+  const { mode, base, roots } = batchRequest
   const document = await readBody(req, maxSize, memory)
   const budget = new BodyBudget(maxSize, memory)
+  const observer = new BatchObserver(hooks.onRequest, hooks.requestLog, perform.log)
   const call = async (request, wait) => {
     const prepared = batchRequest.serviceRequest(request)
-    if (inspect !== undefined) {
-      await inspect({ ...request, headers: { ...prepared.headers } })
+    const seen = () => ({ ...request, headers: { ...prepared.headers } })
+    if (hooks.inspect !== undefined) {
+      await hooks.inspect(seen())
       client.requireWanted(wait)
     }
-    const answer = await callApp(req.socket, prepared, budget, wait)
+    const dispatch = () => callApp(req.socket, prepared, budget, wait)
+    const answer = await (observer.isNeeded ? observer.observe(seen(), dispatch) : dispatch())
     if (answer.shortage !== undefined) perform.log(answer.shortage, `the request ${request.id}, whose answer loses its body`)
     return answer
   }
-  const send = (request, wait) => {
-    return isRead(request) && request.group === null ? client.read(wait, () => call(request, wait)) : call(request, wait)
+  const send = async (request, wait) => {
+    if (isRead(request) && request.group === null) client.reads.add(wait)
+    try {
+      return await call(request, wait)
+    } finally {
+      client.reads.delete(wait)
+    }
   }
   const stop = new Stop(perform.stop, perform.deadline)
   client.stopWith(stop)
-  const body = await performBatch(document, send, { ...perform, stop, mode, base, roots: batchRequest.roots(root) })
+  const body = await performBatch(document, send, { ...perform, stop, mode, base, roots })
   if (client.hasLeft) perform.log(new Error('the client left before the answer: what had not started was not sent'), 'the batch')
   const applied = mode === 'continue' ? { 'preference-applied': 'continue-on-error' } : {}
   return { status: 200, headers: { 'content-type': 'application/json', ...applied }, body }
@@ -89,7 +100,7 @@ function batch(app, options = {}) {
   const { log } = settings.perform
   return function handleBatch(req, res, next = () => app(req, res)) {
     const [path] = (req.originalUrl ?? req.url).split('?', 1)
-    if (unquoted(path) !== settings.path) return next()
+    if (decodePart(path) !== settings.path) return next()
     const client = new ClientConnection(res, settings.perform.timeout)
     const memory = new BodyBudget(Infinity, settings.memory) // of this batch, to be given back as a whole
     answerBatch(callApp, req, client, memory, settings)

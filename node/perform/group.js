@@ -5,7 +5,7 @@
 
 const { Refused } = require('../errors/faults.js')
 const { GroupFailed, Refusal } = require('../errors/refusals.js')
-const { isSuccess } = require('../http/answers.js')
+const { isSuccess } = require('../http/messages.js')
 
 class GroupTransaction {
   #performer

@@ -1,20 +1,28 @@
 'use strict'
 
-// Performs batches: hands each request that may be sent to a function. index.d.ts says what `perform` takes and returns.
+// Performs batches: hands each request that may be sent to a function, waits for its answer, and reports that to the run. index.d.ts
+// says what `perform` takes and returns.
 
 const { optionNumbers, requireOptions } = require('../calls/options.js')
 const { requests: listRequests } = require('../calls/requests.js')
+const { Run } = require('../calls/run.js')
 const { documentBytes, kindName } = require('../documents/bytes.js')
-const { Refusal } = require('../errors/refusals.js')
-const { readAnswer } = require('../http/answers.js')
-const { Service } = require('../http/urls.js')
-const { Performer } = require('./performer.js')
-const { Stop } = require('./waits.js')
+const { Fault } = require('../errors/faults.js')
+const { Refusal, toRefusal } = require('../errors/refusals.js')
+const { readAnswer } = require('../http/messages.js')
+const { MOST_BYTES, toJson, toJsonString } = require('../http/bodies.js')
+const { References } = require('../http/references.js')
+const { GroupTransaction } = require('./group.js')
 
 const OPTIONS = ['mode', 'width', 'transaction', 'base', 'roots', 'timeout', 'deadline', 'limit', 'stop', 'log']
 const MOST_REQUESTS = 10000
 const MOST_MILLISECONDS = 2 ** 31 - 1
 const TRANSACTION = '(group, body) => knex.transaction((trx) => storage.run(trx, body))'
+// Of an answer these speak of its connection alone.
+const OF_CONNECTION = new Set([
+  'connection', 'content-encoding', 'content-length', 'date', 'keep-alive', 'proxy-authenticate', 'server', 'set-cookie', 'te',
+  'trailer', 'transfer-encoding', 'upgrade',
+])
 
 function logError(error, what) {
   console.error(`odb-batch: ${what}:`, error)
@@ -45,6 +53,254 @@ function performSettings(options) {
   return { mode: 'continue', width: 1, log: logError, ...rest, limit, timeout, deadline, transaction }
 }
 
+/** The headers that a response shows. */
+function visibleHeaders(headers) {
+  const found = { __proto__: null }
+  for (const name in headers) if (!OF_CONNECTION.has(name)) found[name] = headers[name]
+  return found
+}
+
+/** Headers of an answer that the library takes whatever they hold. */
+function asciiHeaders(headers) {
+  return Object.fromEntries(Object.entries(headers).filter((pair) => /^[\x00-\x7f]*$/.test(pair.join(''))))
+}
+
+/** The wait for one answer. Its signal is made for who asks for it: making one takes longer than a request in memory. */
+class Wait {
+  #controller
+  /** Why the wait is over, or undefined. */
+  reason
+  /** Is called with the reason when the wait is over before an answer came. */
+  onEnd
+
+  get signal() {
+    if (this.#controller === undefined) {
+      this.#controller = new AbortController()
+      if (this.reason !== undefined) this.#controller.abort(this.reason)
+    }
+    return this.#controller.signal
+  }
+
+  end(reason) {
+    this.reason = reason
+    this.#controller?.abort(reason)
+    this.onEnd?.(reason)
+  }
+}
+
+/**
+ * Calls a function with the wait for its answer, which ends after a number of milliseconds: `onEnd` is called then. If they are
+ * infinite, there is no wait.
+ */
+async function within(milliseconds, call, onEnd) {
+  if (milliseconds === Infinity) return call()
+  const wait = new Wait()
+  let timer
+  const late = new Promise((_, reject) => {
+    timer = setTimeout(() => {
+      const reason = new DOMException('No answer came in time', 'TimeoutError')
+      onEnd()
+      reject(reason)
+      wait.end(reason)
+    }, milliseconds)
+  })
+  try {
+    return await Promise.race([call(wait), late])
+  } finally {
+    clearTimeout(timer)
+  }
+}
+
+/** When nothing more of a batch starts: once a signal is aborted, or some milliseconds after now. */
+class Stop {
+  #signal
+  #end
+
+  constructor(signal, deadline = Infinity) {
+    this.#signal = signal
+    this.#end = performance.now() + deadline
+  }
+
+  get isOver() {
+    return this.#signal?.aborted === true || this.#left <= 0
+  }
+
+  /** Has nothing more start. */
+  end() {
+    this.#end = 0
+  }
+
+  /** Whether nothing more starts that many milliseconds from now. */
+  isOverAfter(milliseconds) {
+    return this.#left <= milliseconds
+  }
+
+  /** Calls a function with the wait for its answer, which is not longer than up to the deadline, and than some milliseconds. */
+  within(timeout = Infinity, call) {
+    const left = this.#left
+    if (left > timeout) return within(timeout, call, () => {})
+    return within(left, call, () => this.end()) // the clock of timers is another one, and may be ahead
+  }
+
+  get #left() {
+    return this.#end === Infinity ? Infinity : this.#end - performance.now()
+  }
+}
+
+class Performer {
+  #run
+  #requests
+  #references
+  #send
+  #settings
+  #isStopped = false
+  // How many requests are of units that have not begun.
+  #left
+
+  /** `send` is given a request, and the wait for its answer, if that has an end. */
+  constructor(batch, requests, send, settings) {
+    const { mode, width, base, roots } = settings
+    this.#references = new References(requests, base, roots)
+    this.#requests = new Map(requests.map((request) => [request.id, request]))
+    this.#run = new Run(batch, { mode, width })
+    this.#left = requests.length
+    this.#send = send
+    this.#settings = settings
+  }
+
+  /** Performs one unit after another, as many at once as the width allows. */
+  perform() {
+    return new Promise((resolve, reject) => {
+      let performing = 0
+      const fill = () => {
+        for (let ids; performing < this.#settings.width && (ids = this.#startUnit()) !== null; ) {
+          performing++
+          this.#performUnit(ids).then(() => {
+            performing--
+            fill()
+          }).catch(reject)
+        }
+        if (performing === 0) resolve()
+      }
+      fill()
+    })
+  }
+
+  /** The response document of the finished run. */
+  response() {
+    return this.#run.response()
+  }
+
+  close() {
+    this.#run.close()
+  }
+
+  /** Whether nothing starts any more. */
+  get isStopped() {
+    this.#heedStop()
+    return this.#isStopped
+  }
+
+  /** Starts a request of a group: call it before it is sent. */
+  start(id) {
+    this.#heedStop()
+    this.#run.start(id)
+  }
+
+  /** Sends a request, and returns its answer with its body as it is in a response. An exception is an answer, too. */
+  async answer(id) {
+    const { stop, timeout } = this.#settings
+    try {
+      const { status, headers, body } = await stop.within(timeout, (wait) => this.#send(this.#references.prepare(id), wait))
+      return { status, headers, text: this.#requireFitting(this.#requests.get(id), toJson(body, headers)) }
+    } catch (error) {
+      return this.#explain(error, `the request ${id}`)
+    }
+  }
+
+  /** Reports what a started request is answered. */
+  report(id, { status, headers, text }) {
+    this.#reportReadable(id, status, visibleHeaders(headers), text)
+    if (this.#references.referred.has(id)) this.#references.keep(id, headers, text)
+    this.#isStopped ||= this.#settings.mode === 'stop' && status >= 400
+  }
+
+  /** The ids of the first unit that may begin, or null. Its first request is started, so that it does not begin twice. */
+  #startUnit() {
+    this.#heedStop()
+    const ids = this.#left > 0 ? this.#run.nextUnit() : null
+    if (ids === null) return null
+    this.#run.start(ids[0])
+    this.#left -= ids.length
+    return ids
+  }
+
+  /** Stops once that is over. It is asked, since a signal that many batches share would warn of their listeners. */
+  #heedStop() {
+    if (this.#isStopped || !this.#settings.stop.isOver) return
+    this.#isStopped = true
+    this.#run.stop()
+  }
+
+  /** Performs a unit, whose first request has started. */
+  async #performUnit(ids) {
+    const [first] = ids
+    const { group } = this.#requests.get(first)
+    if (group === null) this.report(first, await this.answer(first))
+    else await this.#performGroup(group, new GroupTransaction(this, group, ids))
+  }
+
+  async #performGroup(name, group) {
+    const what = `the transaction of ${name}`
+    let reason
+    try {
+      await this.#settings.transaction(name, () => group.perform())
+      reason = group.shortcoming
+    } catch (error) {
+      reason = error ?? new Error(`${what} was rejected without a reason`)
+    }
+    const isKnown = await group.end(reason, (error) => this.#explain(error, what))
+    if (!isKnown) this.#settings.log(reason, what)
+  }
+
+  /** The text of a body that is answered. If it is too long for a response a GET is refused, and any other request loses it. */
+  #requireFitting({ method }, text) {
+    if (text === undefined || text.length <= MOST_BYTES) return text
+    if (method === 'GET') throw new Refusal(507, 'TooLong', 'The answer is too long for a batch')
+    return undefined
+  }
+
+  /** What is answered in place of an exception, which is logged unless it is a refusal. */
+  #explain(error, what) {
+    if (!(error instanceof Refusal)) this.#settings.log(error, what)
+    const { status, headers, body } = toRefusal(error).answer
+    return { status, headers, text: toJson(body, headers) }
+  }
+
+  /**
+   * Reports a body as JSON. What the run cannot read is left out as little as may be: a body that is not JSON, though its answer
+   * claims it, is a string, unless that is too long; of headers that are not Unicode those in ASCII stay.
+   */
+  #reportReadable(id, status, headers, text) {
+    if (this.#tryReport(id, status, headers, text)) return
+    const string = text && toJsonString(text, {})
+    const fitting = string?.length > MOST_BYTES ? undefined : string
+    if (this.#tryReport(id, status, headers, fitting) || this.#tryReport(id, status, asciiHeaders(headers), text)) return
+    this.#run.report(id, status, asciiHeaders(headers), fitting)
+  }
+
+  /** Reports an answer, and returns whether the run can read it. */
+  #tryReport(id, status, headers, text) {
+    try {
+      this.#run.report(id, status, headers, text)
+      return true
+    } catch (error) {
+      if (error instanceof Fault) return false
+      throw error
+    }
+  }
+}
+
 /** Refuses a batch as a whole, before anything of it is sent. */
 function requirePerformable(requests, { limit, transaction }) {
   if (requests.length > limit) throw new Refusal(413, 'BatchTooLong', `A batch may have ${limit} requests`)
@@ -58,11 +314,10 @@ function requirePerformable(requests, { limit, transaction }) {
  * the settings is a `Stop`.
  */
 async function performBatch(batch, send, settings) {
-  const service = new Service(settings.base, settings.roots)
   const document = documentBytes(batch)
   const requests = listRequests(document)
   requirePerformable(requests, settings)
-  const performer = new Performer(document, requests, service, send, settings)
+  const performer = new Performer(document, requests, send, settings)
   try {
     await performer.perform()
     return performer.response()
@@ -83,4 +338,4 @@ async function perform(batch, send, options = {}) {
   return performBatch(batch, sendPublic, { ...settings, stop: new Stop(settings.stop, settings.deadline) })
 }
 
-module.exports = { perform, performBatch, performSettings }
+module.exports = { Stop, perform, performBatch, performSettings }

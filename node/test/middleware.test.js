@@ -278,6 +278,22 @@ everywhere('passes on what usual clients give each request', {}, async ({ respon
   assert.equal(found.r1.body.headers.traceparent, 'outer')
 })
 
+const OF_CONNECTION = ['Accept-Encoding', 'Connection', 'Content-Length', 'Host']
+const USUALLY_DROPPED = ['Cache-Control', 'Date', 'Pragma', 'User-Agent']
+const ALL_SET = Object.fromEntries([...OF_CONNECTION, ...USUALLY_DROPPED].map((name) => [name, '7']))
+
+everywhere('drops headers that clients set by themselves', {}, async ({ errors, responses }) => {
+  const document = batch(['a', 'get', 'echo'], ['b', 'get', 'echo', { headers: ALL_SET }])
+  const { a, b } = await responses(document, { ...CONTINUES, 'user-agent': 'of the batch' })
+  assert.deepEqual([b, b.status, errors], [a, 200, []])
+})
+
+everywhere('passes such headers on if they are allowed', { allowed: USUALLY_DROPPED }, async ({ responses }) => {
+  const { a, b } = await responses(batch(['a', 'get', 'echo'], ['b', 'get', 'echo', { headers: ALL_SET }]))
+  const own = Object.fromEntries(USUALLY_DROPPED.map((name) => [name.toLowerCase(), '7']))
+  assert.deepEqual(b.body.headers, { ...a.body.headers, ...own })
+})
+
 everywhere('says once in the log which header is not allowed', {}, async ({ errors, responses }) => {
   const names = ['X-Tenant', 'x-tenant', 'X-Other', ...Array.from({ length: 200 }, (_, k) => `X-${k}`)]
   const document = batch(...names.map((name, k) => [`r${k}`, 'get', 'echo', { headers: { [name]: '1' } }]))
@@ -507,7 +523,7 @@ test('refuses options that have none of their values', () => {
   assert.throws(() => mounted({}), TypeError)
   const paths = [{ path: 'odata' }, { root: '/odata' }, { root: 'odata/' }]
   const numbers = [{ maxSize: -1 }, { memory: 7.5 }, { memory: 7, maxSize: 8 }, { timeout: 0 }, { deadline: -1 }, { limit: -1 }]
-  const wrong = [...paths, ...numbers, { maxsize: 7 }, { mode: 'stop' }, { transaction: 7 }, { inspect: 7 }]
+  const wrong = [...paths, ...numbers, { maxsize: 7 }, { mode: 'stop' }, { allowed: ['Host'] }, { transaction: 7 }, { inspect: 7 }, { onRequest: 7 }]
   for (const options of wrong) {
     assert.throws(() => mounted(handler, options), TypeError)
   }

@@ -1,53 +1,14 @@
 'use strict'
 
-// What ends although a handler does not: answers without an end, clients that leave, deadlines; and how much memory they may take.
+// What ends although a handler does not: answers without an end, clients that leave, deadlines.
 
 const assert = require('node:assert/strict')
-const { EventEmitter, once } = require('node:events')
-const net = require('node:net')
+const { once } = require('node:events')
 const { test } = require('node:test')
 const { batch: mounted } = require('../middleware/index.js')
 const { batch } = require('./performing.js')
-const { CONTINUES, MOUNTS, PATH, express, listening, serving } = require('./serving.js')
-
-const WAITS = 120000 // milliseconds that only a test that fails takes
-
-/** A handler whose requests a test follows: `events` emits the name in the path with the request and the response. */
-function watched() {
-  const events = new EventEmitter()
-  const begun = []
-  const handler = (req, res) => {
-    const name = /\w+$/.exec(req.url)[0]
-    begun.push(name)
-    if (!events.emit(name, req, res)) res.writeHead(204).end()
-  }
-  return { begun, events, handler }
-}
-
-/** A test before each kind of handler. */
-function everywhere(name, options, use) {
-  for (const mount of Object.keys(MOUNTS)) {
-    const skip = mount === 'express' && express() === undefined && 'express is not installed'
-    test(`${mount}: ${name}`, { skip, timeout: WAITS }, async () => {
-      const it = watched()
-      await serving(mount, it.handler, options, (service) => use({ ...it, ...service }))
-    })
-  }
-}
-
-/** Sends a batch by a connection of its own, which may announce more bytes than come, and returns that. */
-function sent(port, document, missing = 0) {
-  const text = JSON.stringify(document)
-  const socket = net.connect(port, '127.0.0.1')
-  const headers = ['Content-Type: application/json', 'Prefer: continue-on-error', `Content-Length: ${text.length + missing}`]
-  socket.write([`POST ${PATH} HTTP/1.1`, 'Host: h', ...headers, '', text].join('\r\n'))
-  return socket
-}
-
-/** Is fulfilled once something holds, which is asked at each turn of the loop. */
-async function until(holds) {
-  while (!(await holds())) await new Promise(setImmediate)
-}
+const { CONTINUES, PATH, express, listening, serving } = require('./serving.js')
+const { WAITS, everywhere, sent, until, watched } = require('./watching.js')
 
 /** Writes without an end, until the connection is closed. */
 function pour(res, isClosed) {
@@ -119,18 +80,6 @@ everywhere('waits for the bytes of a batch no longer than half a minute', {}, as
   assert.deepEqual(begun, [])
 })
 
-const LARGE = { maxSize: 16000000, memory: 16000000, timeout: 1000 }
-
-everywhere('cuts off a client that reads nothing of its answer', LARGE, async ({ events, port, post }) => {
-  events.on('long', (req, res) => res.writeHead(200, { 'Content-Type': 'text/plain' }).end(Buffer.alloc(15000000, 'x')))
-  const reached = once(events, 'long')
-  sent(port, batch(['a', 'get', 'long'])).on('error', () => {})
-  const [req] = await reached
-  await once(req.socket.outer, 'close')
-  const document = JSON.stringify(batch(['a', 'put', 'short', { body: 'x'.repeat(2000000) }]))
-  await until(async () => (await post(document)).status === 200)
-})
-
 everywhere('starts nothing more once its client has left', {}, async ({ begun, errors, events, port }) => {
   const closed = []
   const reached = once(events, 'held')
@@ -142,6 +91,24 @@ everywhere('starts nothing more once its client has left', {}, async ({ begun, e
   await until(() => errors.length > 0 && closed.length === 2)
   const left = 'the client left before the answer: what had not started was not sent'
   assert.deepEqual([begun, errors.map(([error, what]) => [error.message, what])], [['held'], [[left, 'the batch']]])
+})
+
+test('starts nothing for a client that has left while something in front has waited', { timeout: WAITS }, async () => {
+  const { begun, handler } = watched()
+  const errors = []
+  const mount = mounted(handler, { path: PATH, log: (error) => errors.push(error.message) })
+  const wait = async (req, res) => {
+    req.body = Buffer.concat(await req.toArray())
+    client.destroy()
+    await once(res, 'close')
+    mount(req, res)
+  }
+  let client
+  await listening(wait, async ({ port }) => {
+    client = sent(port, batch(['a', 'delete', 'other']))
+    await until(() => errors.length > 0)
+  })
+  assert.deepEqual([begun, errors], [[], ['the client left before the answer: what had not started was not sent']])
 })
 
 everywhere('lets a write end whose client has left', {}, async ({ begun, errors, events, port }) => {
@@ -212,24 +179,6 @@ everywhere('takes a length where there is no body', {}, async ({ events, respons
   assert.equal((await responses(batch(['a', 'get', 'sized']))).a.status, 304)
 })
 
-everywhere('has one bound of memory for all batches', { maxSize: 1000, memory: 1000 }, async ({ events, post, responses }) => {
-  const large = JSON.stringify(batch(['a', 'put', 'held', { body: 'x'.repeat(500) }]))
-  const reached = once(events, 'held')
-  const first = post(large)
-  const [, res] = await reached
-  const refused = await post(large)
-  assert.deepEqual([refused.status, refused.headers.get('retry-after')], [503, '1'])
-  assert.equal((await refused.json()).error.code, 'Busy')
-  const long = (_, other) => other.writeHead(200, { 'Content-Type': 'text/plain', Location: '/7' }).end('y'.repeat(600))
-  events.on('long', long)
-  const { a, b, c } = await responses(batch(['a', 'get', 'long'], ['b', 'post', 'long'], ['c', 'get', 'short']))
-  assert.deepEqual([a.status, a.body.error.code, a.headers['retry-after']], [503, 'Busy', '1'])
-  assert.deepEqual([b.status, b.body, b.headers.location, c.status], [200, undefined, '/7', 204])
-  res.writeHead(204).end()
-  assert.equal((await first).status, 200)
-  await until(async () => (await responses(batch(['a', 'get', 'long']))).a.status === 200)
-})
-
 test('lets a GET of a group end whose client has left', { timeout: WAITS }, async () => {
   const { events, handler } = watched()
   const ended = []
@@ -245,58 +194,6 @@ test('lets a GET of a group end whose client has left', { timeout: WAITS }, asyn
     res.writeHead(200).end()
     await until(() => ended.length > 0)
     assert.deepEqual(ended, ['committed'])
-  })
-})
-
-test('takes no memory for an answer that comes after the end of its batch', { timeout: WAITS }, async () => {
-  const late = new EventEmitter()
-  const answer = { statusCode: 200, headers: { 'content-type': 'text/plain' }, rawPayload: Buffer.alloc(600, 'x') }
-  const app = { inject: ({ url }) => (url.endsWith('late') ? once(late, 'answer').then(() => answer) : Promise.resolve(answer)) }
-  const mount = mounted(app, { path: PATH, maxSize: 1000, memory: 1000, timeout: 100, log: () => {} })
-  await listening((req, res) => mount(req, res, () => res.end()), async ({ post }) => {
-    const statusOf = async (url) => (await (await post(JSON.stringify(batch(['a', 'get', url])))).json()).responses[0].status
-    assert.equal(await statusOf('late'), 504)
-    late.emit('answer')
-    await new Promise(setImmediate)
-    assert.equal(await statusOf('soon'), 200)
-  })
-})
-
-const WITHOUT_EXPRESS = { skip: express() === undefined && 'express is not installed', timeout: WAITS }
-
-test('express: counts the bytes that a parser has left', WITHOUT_EXPRESS, async () => {
-  const { events, handler } = watched()
-  const app = express()().use(express().raw({ type: '*/*' }))
-  const options = { path: PATH, maxSize: 1000, memory: 1000 }
-  await listening(app.use(mounted(app, options)).use(handler), async ({ post }) => {
-    const large = JSON.stringify(batch(['a', 'put', 'held', { body: 'x'.repeat(500) }]))
-    const reached = once(events, 'held')
-    const first = post(large)
-    const [, res] = await reached
-    assert.equal((await post(large)).status, 503)
-    res.writeHead(204).end()
-    assert.equal((await first).status, 200)
-  })
-})
-
-test('gives back the memory of batches that are refused, cut or left', { timeout: WAITS }, async () => {
-  const { events, handler } = watched()
-  await serving('node:http', handler, { maxSize: 1000, memory: 1000 }, async ({ port, post }) => {
-    const large = batch(['a', 'put', 'short', { body: 'x'.repeat(900) }])
-    const isFree = async () => (await post(JSON.stringify(large))).status === 200
-    assert.equal((await post('x'.repeat(900))).status, 400)
-    assert.equal((await post('x'.repeat(1001))).status, 413)
-    await until(isFree)
-    const cut = sent(port, large, 7)
-    await once(cut, 'ready')
-    cut.destroy()
-    await until(isFree)
-    const reached = once(events, 'held')
-    const left = sent(port, batch(['a', 'get', 'held'], ['b', 'put', 'short', { body: 'x'.repeat(500) }]))
-    await reached
-    assert.equal(await isFree(), false)
-    left.destroy()
-    await until(isFree)
   })
 })
 

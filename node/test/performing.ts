@@ -21,8 +21,9 @@ export const responses: Promise<Bytes>[] = [byFetch, atOnce, refusing].map((send
 
 const settings: BatchOptions = { path: '/$batch', root: '/', allowed: ['X-Tenant'], maxSize: 1, memory: 2, deadline: 9, limit: 1, width: 8, timeout: 5, transaction }
 const inspecting: BatchOptions = { inspect: ({ url, headers }) => { if (url === headers['x']) throw new Refusal(403, 'Denied', 'no') } }
+const observing: BatchOptions = { onRequest: ({ url }) => ({ status }) => console.log(url, status), requestLog: console.log }
 const handler = (request: { url?: string }, response: { end(): void }) => response.end()
-export const listener: (request: { url?: string }, response: { end(): void }) => void = batch(handler, { ...settings, ...inspecting })
+export const listener: (request: { url?: string }, response: { end(): void }) => void = batch(handler, { ...settings, ...inspecting, ...observing })
 export const injected = batch({ inject: async () => ({ statusCode: 200, headers: {}, rawPayload: new Uint8Array() }) })
 
 // @ts-expect-error

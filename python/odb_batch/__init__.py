@@ -46,8 +46,9 @@ from .documents.encoding import Document, Events, Report, Start
 from .documents.requests import Request, requests
 from .driver.groups import MemberRefused, PreparedGroup
 from .driver.journal import Journal, JournalEvent, ReportUnit, StartUnit, Stop
-from .driver.tasks import Gate, SendAsync, SendGroup, TransactionAsync, perform_async
+from .driver.tasks import TransactionAsync, perform_async
 from .driver.threads import Send, Transaction, perform
+from .driver.waits import Gate, SendAsync, SendGroup
 from .errors.faults import Fault, OdbError, Refused
 from .http.messages import Answer, Answered, GroupFailed, PreparedRequest, Refusal
 from .runs import RequestState, Run

@@ -14,14 +14,15 @@ from typing import Any, Awaitable, Callable, Iterable, MutableMapping, Optional
 from urllib.parse import quote, unquote, urlsplit
 
 from ._native.calls import policy_numbers
+from .driver.execution import require_limit
 from .driver.tasks import TransactionAsync, perform_async
 from .driver.waits import Places, uncancel, within
 from .errors.faults import Fault
 from .http.batch_request import BatchRequest, batch_folder
 from .http.budget import BodyBudget, BodyReader, memory_budget
-from .http.headers import require_once
 from .http.messages import LOG, Answer, PreparedRequest, Refusal, header_dict
-from .http.options import require_limit, require_seconds, root_path
+from .http.observation import BatchObserver, OnRequest
+from .http.options import allowed_names, require_seconds, root_path
 from .http.responses import batch_response, error_response, length_refusal, wire_message
 
 __all__ = ["BatchMiddleware"]
@@ -66,6 +67,8 @@ class BatchMiddleware:
         root: The path that the URL of each request has to begin with; else the folder of ``path``.
         inspect: Is called with each request before it is dispatched, with its whole URL and all its headers. A
             ``Refusal`` that it raises is the answer.
+        on_request: Is called with each request just before it is dispatched, as ``inspect``. A function that it returns is
+            called with the answer.
         stop: Is called before a unit begins, as ``event.is_set``. Once it returns true, nothing more starts.
 
     Raises:
@@ -88,17 +91,19 @@ class BatchMiddleware:
         allowed: Iterable[str] = (),
         root: Optional[str] = None,
         inspect: Optional[Callable[[PreparedRequest], None]] = None,
+        on_request: Optional[OnRequest] = None,
         stop: Optional[Callable[[], bool]] = None,
     ) -> None:
         if at_once < 1:
             raise ValueError(f"at_once must be at least 1, not {at_once!r}")
         require_limit(limit)
         policy_numbers("stop", width)  # refuses a width that no run may have
-        self.app, self.path, self.width, self.stop, self.inspect = app, path, width, stop, inspect
+        self.app, self.path, self.width, self.stop = app, path, width, stop
+        self.inspect, self.on_request = inspect, on_request
         self.transaction = None if transaction is None else _asynchronous(transaction)
         self.timeout, self.deadline = require_seconds("timeout", timeout), require_seconds("deadline", deadline)
         self.at_once, self.limit, self.max_size, self.budget = at_once, limit, max_size, memory_budget(memory, max_size)
-        self.allowed, self.root = tuple(allowed), root_path(root, path)
+        self.allowed, self.folder, self.root = allowed_names(allowed), batch_folder(path), root_path(root, path)
         # Places belong to one loop, and tests may run the application in several.
         self._places: "weakref.WeakKeyDictionary[asyncio.AbstractEventLoop, Places]" = weakref.WeakKeyDictionary()
 
@@ -120,14 +125,14 @@ class BatchMiddleware:
         """Performs the batch of a request; raises Fault or Refusal if it is refused as a whole."""
         headers = header_dict([(name.decode("latin-1"), value.decode("latin-1")) for name, value in scope["headers"]])
         prefix = scope.get("root_path", "")
-        folder, root = prefix + batch_folder(self.path), prefix + self.root
+        folder, root = prefix + self.folder, prefix + self.root
         scheme, host = scope.get("scheme", "http"), headers.get("host", "")
-        outer = BatchRequest(scope["method"], scheme, host, folder, root, headers, self.allowed)
-        require_once(headers)
+        outer = BatchRequest(scope["method"], scheme, host, folder, root, headers, self.allowed, is_kept=False)
         try:
             batch = await within(_READ_SECONDS, self._read(receive, room))
         except asyncio.TimeoutError:
             raise Refusal(408, "CutBody", "The batch did not come in time") from None
+        stop = self.stop
         with _Client(receive) as client:
             response = await perform_async(
                 batch,
@@ -138,7 +143,7 @@ class BatchMiddleware:
                 base=outer.base,
                 roots=outer.roots,
                 limit=self.limit,
-                stop=lambda: client.has_gone or (self.stop is not None and self.stop()),
+                stop=client.has_gone if stop is None else lambda: client.has_gone() or (stop is not None and stop()),
                 timeout=self.timeout,
                 deadline=self.deadline,
                 gate=self._gate(),
@@ -196,12 +201,12 @@ class _Client:
     """Notices that the client of a batch has gone, while the batch is performed.
 
     Attributes:
-        has_gone: Whether it has.
+        has_gone: Returns whether it has.
     """
 
     def __init__(self, receive: _Receive) -> None:
-        self.has_gone = False
-        self._receive = receive
+        self._gone, self._receive = asyncio.Event(), receive
+        self.has_gone = self._gone.is_set
 
     def __enter__(self) -> "_Client":
         self._task = asyncio.ensure_future(self._wait())
@@ -217,7 +222,7 @@ class _Client:
             LOG.warning("the server does not say whether the client of a batch has gone", exc_info=error)
             return
         if message["type"] == "http.disconnect":
-            self.has_gone = True
+            self._gone.set()
             LOG.info("the client of a batch has gone, so nothing more of it starts")
 
 
@@ -226,6 +231,7 @@ class _Inner:
 
     def __init__(self, middleware: BatchMiddleware, scope: _Scope, outer: BatchRequest, room: BodyBudget) -> None:
         self._middleware, self._outer, self._scope, self._room = middleware, outer, scope, room
+        self._observer = BatchObserver(middleware.on_request)
         prefix = scope.get("root_path", "")
         # In newer servers the path of a scope has its root_path in front; what is dispatched is as what came.
         self._cut = "" if scope["path"] == prefix + middleware.path else prefix
@@ -239,6 +245,13 @@ class _Inner:
             raise Refusal(400, "NestedBatch", "A batch has no batches")
         if self._middleware.inspect is not None:
             self._middleware.inspect(replace(request, headers=dict(headers)))
+        if not self._observer.is_needed:
+            return await self._exchange(request, scope)
+        with self._observer.begin(replace(request, headers=dict(headers))) as observed:
+            observed.answer = await self._exchange(request, scope)
+            return observed.answer
+
+    async def _exchange(self, request: PreparedRequest, scope: _Scope) -> Answer:
         with self._room.read(request.method) as reading:
             exchange = _Exchange(request.body, reading)
             try:
@@ -348,8 +361,9 @@ class _Exchange:
     def answer(self) -> Answer:
         """Returns the answer; raises Refusal if it is too long, and RuntimeError if the application has not completed
         it."""
-        body = self._reading.body()
-        if not self._begun or not self.is_complete:
+        if self._reading.refusal is None and not (self._begun and self.is_complete):
             raise RuntimeError("the application has not completed its answer")
-        headers = [(name.decode("latin-1"), value.decode("latin-1")) for name, value in self._begun.get("headers", ())]
-        return Answer(self._begun["status"], header_dict(headers), body)
+        pairs = [(name.decode("latin-1"), value.decode("latin-1")) for name, value in self._begun.get("headers", ())]
+        headers = dict(pairs)
+        joined = headers if len(headers) == len(pairs) else header_dict(pairs)
+        return Answer(self._begun.get("status", 500), joined, self._reading.body())

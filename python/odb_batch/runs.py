@@ -8,7 +8,7 @@ from typing import Any, Literal, Mapping, NoReturn, Optional, SupportsIndex, Uni
 
 from ._native import library
 from ._native.calls import MAX_WIDTH, Mode, policy_numbers, read_text, status_error
-from .documents.encoding import Document, Events, body_json, document_bytes, events_bytes, json_bytes
+from .documents.encoding import Document, Events, document_bytes, events_bytes, report_bytes
 from .documents.requests import Request, requests
 from .errors.faults import Fault, Refused
 from .values import Value
@@ -249,10 +249,7 @@ class Run:
             KeyError: No request of the batch has this id.
             ValueError: The run is closed.
         """
-        position = self._at[id]
-        with self._lock:
-            status = self._call("odb_run_start", position)
-        _settle("odb_run_start", status, id)
+        self._begin("odb_run_start", id)
 
     def start_unit(self, id: str) -> None:
         """Starts all members of a request's unit together: its group, or the request alone if it has none.
@@ -267,10 +264,14 @@ class Run:
             KeyError: No request of the batch has this id.
             ValueError: The run is closed.
         """
-        position = self._at[id]
+        self._begin("odb_run_start_unit", id)
+
+    def _begin(self, name: str, request_id: str) -> None:
+        """Calls a function that starts a request or its unit."""
+        position = self._at[request_id]
         with self._lock:
-            status = self._call("odb_run_start_unit", position)
-        _settle("odb_run_start_unit", status, id)
+            status = self._call(name, position)
+        _settle(name, status, request_id)
 
     def report(self, id: str, status: int, headers: Optional[Mapping[str, str]] = None, body: Any = None) -> None:
         """Reports what a running request was answered.
@@ -295,8 +296,7 @@ class Run:
         if isinstance(status, bool) or not isinstance(status, int):
             raise TypeError(f"a status is a whole number, not {status!r}")
         position = self._at[id]
-        heads = b"" if headers is None else json_bytes(dict(headers))
-        text = body_json(body)
+        heads, text = report_bytes(headers, body)
         number = min(max(status, 0), _MAX_NUMBER)
         with self._lock:
             end = self._call("odb_run_report", position, number, heads, len(heads), text, len(text))

@@ -15,13 +15,14 @@ from typing import Any, Callable, Iterable, Iterator, Optional
 from urllib.parse import unquote_to_bytes, urlsplit
 
 from ._native.calls import policy_numbers
+from .driver.execution import require_limit
 from .driver.threads import Transaction, perform
 from .errors.faults import Fault
 from .http.batch_request import BatchRequest, batch_folder
 from .http.budget import BodyBudget, BodyReader, memory_budget
-from .http.headers import require_once
 from .http.messages import Answer, PreparedRequest, Refusal, header_dict
-from .http.options import require_limit, require_seconds, root_path
+from .http.observation import BatchObserver, OnRequest
+from .http.options import allowed_names, require_seconds, root_path
 from .http.responses import batch_response, error_response, length_refusal, wire_message
 
 __all__ = ["BatchMiddleware"]
@@ -78,6 +79,8 @@ class BatchMiddleware:
         root: The path that the URL of each request has to begin with; else the folder of ``path``.
         inspect: Is called with each request before it is dispatched, with its whole URL and all its headers. A
             ``Refusal`` that it raises is the answer.
+        on_request: Is called with each request just before it is dispatched, as ``inspect``. A function that it returns is
+            called with the answer.
         stop: Is called before a unit begins, as ``event.is_set``. Once it returns true, nothing more starts.
 
     Raises:
@@ -99,14 +102,16 @@ class BatchMiddleware:
         allowed: Iterable[str] = (),
         root: Optional[str] = None,
         inspect: Optional[Callable[[PreparedRequest], None]] = None,
+        on_request: Optional[OnRequest] = None,
         stop: Optional[Callable[[], bool]] = None,
     ) -> None:
         require_limit(limit)
         policy_numbers("stop", width)  # refuses a width that no run may have
         self.app, self.path, self.transaction, self.width, self.stop = app, path, transaction, width, stop
         self.timeout, self.deadline = require_seconds("timeout", timeout), require_seconds("deadline", deadline)
-        self.limit, self.max_size, self.budget, self.inspect = limit, max_size, memory_budget(memory, max_size), inspect
-        self.allowed, self.root = tuple(allowed), root_path(root, path)
+        self.limit, self.max_size, self.budget = limit, max_size, memory_budget(memory, max_size)
+        self.inspect, self.on_request = inspect, on_request
+        self.allowed, self.folder, self.root = allowed_names(allowed), batch_folder(path), root_path(root, path)
         self.pool = ThreadPoolExecutor(width, "batch") if width != 1 else None
 
     def __call__(self, environ: _Environ, start_response: Callable[..., Any]) -> Iterable[bytes]:
@@ -151,10 +156,9 @@ class BatchMiddleware:
         )
         headers["content-type"] = environ.get("CONTENT_TYPE", "")
         prefix = _decoded(environ.get("SCRIPT_NAME", ""))
-        folder, root = prefix + batch_folder(self.path), prefix + self.root
+        folder, root = prefix + self.folder, prefix + self.root
         scheme, host = environ.get("wsgi.url_scheme", "http"), headers.get("host") or _server_of(environ)
-        outer = BatchRequest(environ["REQUEST_METHOD"], scheme, host, folder, root, headers, self.allowed)
-        require_once(headers)
+        outer = BatchRequest(environ["REQUEST_METHOD"], scheme, host, folder, root, headers, self.allowed, is_kept=False)
         return outer
 
     def _read(self, environ: _Environ, room: BodyBudget) -> bytes:
@@ -199,6 +203,7 @@ class _Inner:
 
     def __init__(self, middleware: BatchMiddleware, environ: _Environ, outer: BatchRequest, room: BodyBudget) -> None:
         self._middleware, self._outer, self._room = middleware, outer, room
+        self._observer = BatchObserver(middleware.on_request)
         self._prefix = _decoded(environ.get("SCRIPT_NAME", ""))
         self._environ = {
             name: value for name, value in environ.items() if name not in _OF_OUTER and not name.startswith("HTTP_")
@@ -214,6 +219,13 @@ class _Inner:
             raise Refusal(400, "NestedBatch", "A batch has no batches")
         if self._middleware.inspect is not None:
             self._middleware.inspect(replace(request, headers=dict(headers)))
+        if not self._observer.is_needed:
+            return self._exchange(request, environ)
+        with self._observer.begin(replace(request, headers=dict(headers))) as observed:
+            observed.answer = self._exchange(request, environ)
+            return observed.answer
+
+    def _exchange(self, request: PreparedRequest, environ: _Environ) -> Answer:
         with self._room.read(request.method) as reading:
             reply = _Reply(reading, self._middleware.timeout)
             parts = self._middleware.app(environ, reply.start)

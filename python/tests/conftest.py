@@ -2,6 +2,8 @@
 
 import pytest
 
+from support.limits import limit  # noqa: F401
+
 
 @pytest.fixture(params=["in_threads", "in_tasks"], ids=["threads", "tasks"])
 def driver(request):

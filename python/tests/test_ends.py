@@ -11,6 +11,8 @@ from odb_batch import asgi
 from support.applications import CONTINUE, OverAsgi, batch
 from support.performing import Clock
 
+# Parts of an answer that stands for one without an end: a middleware that does not end it fails its test, and does not hang.
+MANY = 100_000
 START = {"type": "http.response.start", "status": 200, "headers": [(b"content-type", b"text/plain")]}
 
 
@@ -28,7 +30,7 @@ async def plain(send, body=b"plain"):
 async def flood(send, catch=()):
     """Sends parts without an end, and goes on after exceptions that it catches."""
     await send(START)
-    while True:
+    for _ in range(MANY):
         with contextlib.suppress(catch):
             await send({"type": "http.response.body", "body": b"x" * 100, "more_body": True})
 
@@ -45,6 +47,7 @@ class TestAnswersThatDoNotEnd:
                 return await plain(send)
             try:
                 await (asyncio.ensure_future(flood(send, catch)) if is_in_task else flood(send, catch))
+                ended.append("by nobody")
             finally:
                 ended.append(scope["path"])
 
@@ -70,7 +73,7 @@ class TestAnswersThatDoNotEnd:
     def test_one_that_has_room_is_ended_by_the_timeout(self, method, part):
         async def app(scope, receive, send):
             await send(START)
-            while True:  # this leaves no turn to others by itself
+            for _ in range(MANY):  # this leaves no turn to others by itself
                 await send({"type": "http.response.body", "body": part, "more_body": True})
 
         found = batch(over(app, max_size=1000, timeout=0.05), {"url": "a", "method": method})
@@ -134,6 +137,14 @@ class TestMemory:
         found = batch(service, *[{"url": "a"}] * 3)
         assert [it["status"] for it in found.values()] == [500, 500, 500]
 
+    def test_half_an_answer_gives_its_memory_back(self):
+        async def app(scope, receive, send):
+            await send(START)
+            await send({"type": "http.response.body", "body": b"x" * 150, "more_body": True})
+
+        found = batch(over(app, max_size=300, width=1), *[{"url": "a"}] * 3)
+        assert [it["status"] for it in found.values()] == [500, 500, 500]
+
     def test_is_held_until_the_answer_is_sent(self):
         async def main():
             used = []
@@ -192,6 +203,17 @@ class TestClientsThatLeave:
             return seen, [it["status"] for it in json.loads(sent[1]["body"])["responses"]]
 
         assert asyncio.run(main()) == (["/Books(0)"], [200, *[424] * 5])
+
+    def test_nobody_waits_for_one_after_its_batch(self):
+        async def main():
+            async def send(message):
+                pass
+
+            await asgi.BatchMiddleware(None)(scope_of(), receiver(b'{"requests":[]}'), send)
+            await asyncio.sleep(0)
+            return len(asyncio.all_tasks())
+
+        assert asyncio.run(main()) == 1
 
     def test_a_server_that_does_not_say_it(self, caplog):
         """The batch is performed as before."""

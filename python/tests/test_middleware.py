@@ -11,7 +11,7 @@ from urllib.parse import unquote, urlsplit
 import pytest
 
 from odb_batch import Refusal, asgi, wsgi
-from odb_batch.http import headers as policy
+from odb_batch.http import batch_request as policy
 from support.applications import CONTINUE, JSON, OverAsgi, OverWsgi, batch
 
 
@@ -150,6 +150,10 @@ class TestRefused:
             middleware(None, width=width)
 
 
+OF_CONNECTION = ["Accept-Encoding", "Connection", "Content-Length", "Host"]
+USUALLY_DROPPED = ["Cache-Control", "Date", "Pragma", "User-Agent"]
+
+
 class TestHeaders:
     outer = {
         **CONTINUE, "Authorization": "Bearer 1", "Cookie": "session=2", "X-Forwarded-For": "9.9.9.9", "If-Match": '"batch"',
@@ -183,7 +187,7 @@ class TestHeaders:
     @pytest.mark.parametrize("name, value, status", [
         ("X-Forwarded-For", "127.0.0.1", 400), ("Authorization", "Basic root", 400), ("Cookie", "a=b", 400), ("X-Dry-Run", "true", 400),
         ("Accept", "a\r\nX-Evil: 1", 400), ("Accept", "€", 400), ("Accept", "\x00", 400), ("Accept", "a\tb", 200), ("Accept-Language", "ü", 200),
-        ("User-Agent", "me", 200), ("OData-Version", "4.01", 200), ("Isolation", "snapshot", 200),
+        ("OData-Version", "4.01", 200), ("Isolation", "snapshot", 200),
     ])  # fmt: skip
     def test_of_a_request(self, service, name, value, status):
         found = batch(service, {"url": "a", "headers": {name: value}})["r0"]
@@ -204,6 +208,22 @@ class TestHeaders:
     def test_of_usual_clients_pass(self, service, name):
         found = batch(service, {"url": "a", "headers": {name: "1"}}, headers={**CONTINUE, name: "of the batch"})["r0"]
         assert (found["status"], found["body"]["headers"][name.lower()]) == (200, "1")
+
+    @pytest.mark.parametrize("name", [*OF_CONNECTION, *USUALLY_DROPPED])
+    def test_that_clients_set_by_themselves_are_dropped(self, service, caplog, name):
+        outer = {**CONTINUE, "User-Agent": "of the batch"}
+        plain, found = (batch(service, {"url": "a", **more}, headers=outer) for more in ({}, {"headers": {name: "7"}}))
+        assert (found, found["r0"]["status"], caplog.text) == (plain, 200, "")
+
+    @pytest.mark.parametrize("name", USUALLY_DROPPED)
+    def test_that_clients_set_by_themselves_pass_if_they_are_allowed(self, over, name):
+        found = batch(over("/odata/$batch", allowed=[name]), {"url": "a", "headers": {name: "7"}})["r0"]
+        assert found["body"]["headers"][name.lower()] == "7"
+
+    @pytest.mark.parametrize("name", OF_CONNECTION)
+    def test_of_a_connection_cannot_be_allowed(self, over, name):
+        with pytest.raises(ValueError, match=f"allowed: no request of a batch may have the header {name.lower()}$"):
+            over("/odata/$batch", allowed=["X-Dry-Run", name])
 
     def test_that_are_not_allowed_are_logged_once(self, service, caplog, monkeypatch):
         monkeypatch.setattr(policy, "_WARNED", set())

@@ -9,7 +9,7 @@ from hypothesis import Phase, find, given, settings
 from hypothesis import strategies as st
 
 from odb_batch import Answer, Fault, canon, check, match, replay, run
-from odb_batch.errors.explanations import EXPLANATIONS
+from odb_batch.errors.faults import explanations
 from odb_batch.testing import Scripted, batches, events, faulty_batches, outcomes
 from odb_batch.testing._faulty import CHANGES
 from odb_batch.testing._strategies import covered
@@ -67,7 +67,7 @@ class TestStrategies:
 
     @pytest.mark.slow
     def test_each_fault_is_drawn(self):
-        assert set(CHANGES) == {code for code in EXPLANATIONS if "F10" <= code < "F50"}
+        assert set(CHANGES) == {code for code in explanations() if "F10" <= code < "F50"}
         assert {code for _, code, _ in drawn(faulty_batches(max_requests=4), 500)} == set(CHANGES)
 
     @share(40)

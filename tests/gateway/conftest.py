@@ -7,6 +7,7 @@ import signal
 import pytest
 
 from support.databases import Postgresql, skip_without_postgresql
+from support.limits import limit  # noqa: F401
 from support.servers import skip_without
 
 

@@ -134,9 +134,9 @@ def test_a_decoder_makes_little_at_once():
     pytest.importorskip("aiohttp")
     from odb_batch.gateway._decoding import Decoder
 
-    parts = Decoder("gzip").parts(gzip.compress(b"x" * 10_000_000))
+    parts = Decoder("gzip").decode(gzip.compress(b"x" * 10_000_000))
     assert [len(next(parts)) for _ in range(9)] == [65_536] * 9
-    assert len(b"".join(Decoder("deflate").parts(zlib.compress(b"x" * 10_000_000)))) == 10_000_000
+    assert len(b"".join(Decoder("deflate").decode(zlib.compress(b"x" * 10_000_000)))) == 10_000_000
 
 
 # Reasons
@@ -188,20 +188,20 @@ def test_a_wrong_certificate_is_named(loop, running, tmp_path):
 def test_reasons_that_have_a_word(aiohttp):
     from aiohttp import ClientConnectorError, ClientResponseError, ServerDisconnectedError
 
-    from odb_batch.gateway._reasons import reason_of
+    from odb_batch.gateway._failures import failure_reason
 
     errors = ClientConnectorError(None, OSError(113, "No route to host")), ClientResponseError(None, ()), ServerDisconnectedError()
-    assert [reason_of(error) for error in errors] == ["unreachable", "not-http", "cut"]
+    assert [failure_reason(error) for error in errors] == ["unreachable", "not-http", "cut"]
 
 
 def test_reasons_are_said_once_a_second(logged, monkeypatch):
-    from odb_batch.gateway import _reasons
+    from odb_batch.gateway import _failures
 
-    now, reasons = [7.0], _reasons.Reasons()
-    monkeypatch.setattr(_reasons.time, "monotonic", lambda: now[0])
+    now, failures = [7.0], _failures.FailureLog()
+    monkeypatch.setattr(_failures.time, "monotonic", lambda: now[0])
     for seconds in (0, 0.2, 0.9, 1.1):
         now[0] = 7.0 + seconds
-        reasons.say("http://a/x", "Timeout", "timeout")
-    reasons.say("http://b/x", "Timeout", "timeout")
+        failures.write("http://a/x", "Timeout", "timeout")
+    failures.write("http://b/x", "Timeout", "timeout")
     usual = "code=Timeout reason=timeout"
     assert logged() == [f"service=http://a {usual}", f"service=http://a {usual} more=2", f"service=http://b {usual}"]

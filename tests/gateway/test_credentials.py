@@ -130,6 +130,16 @@ def test_what_a_client_cannot_have_removed(upstream, front):
     assert (seen["x-forwarded-for"], seen["x-forwarded-host"]) == ("5.6.7.8, 127.0.0.1", "a")
 
 
+def test_a_client_cannot_have_the_host_removed_that_it_has_asked(upstream, front):
+    """By it URLs are read that have a host, and services learn under which one they are known."""
+    service = upstream()
+    it = front("--upstream", service.url)
+    headers = {**CONTINUE, "Host": "public", "Connection": "Host, X-Forwarded-Proto", "X-Forwarded-Proto": "https"}
+    assert it.statuses({"url": "http://public/x"}, {"url": "http://localhost/x"}, headers=headers) == [200, 404]
+    seen = service.seen[0].headers
+    assert (seen["x-forwarded-host"], seen["x-forwarded-proto"]) == ("public", "https")
+
+
 def test_a_client_cannot_have_removed_what_an_option_sends(upstream, front):
     service = upstream()
     it = front("--upstream", service.url, "--send", "X-Own=/")

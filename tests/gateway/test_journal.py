@@ -11,8 +11,8 @@ from concurrent.futures import ThreadPoolExecutor
 
 import pytest
 
-from odb_batch.gateway._repeatability import seconds_of
-from odb_batch.journals import _lines
+from odb_batch.gateway._repeatability import http_date_seconds
+from odb_batch.journals import _encoding
 from support.journals import count_at, plant, text_at
 from support.servers import CONTINUE, FIRST_SENT, JSON, SECONDS, repeatable, until
 
@@ -93,10 +93,10 @@ def test_a_batch_goes_on_wherever_its_journal_ends(pair, place):
     whole = ask("x")[2]
     text = text_at(place, NAME % b"x")
     first = text.index(b"\n") + 1
-    events = _lines.events_of(text[first:])
+    events = _encoding.decode_events(text[first:])
     ends = [first]
     for event in events:
-        ends.append(ends[-1] + len(b"".join(_lines.chunks_of(event))))
+        ends.append(ends[-1] + len(b"".join(_encoding.encode_event(event))))
     assert ends[-1] == len(text) and len(events) == 10
     for count, end in enumerate(ends):
         id = f"after {count}"
@@ -123,7 +123,7 @@ def test_a_batch_goes_on_wherever_its_journal_ends(pair, place):
 
 @pytest.mark.parametrize("change", [
     {"batch": BATCH + " "}, {"Prefer": ""}, {"Prefer": "continue-on-error, return=minimal"}, {"path": "/other/$batch"},
-    {"Repeatability_First_Sent": email.utils.formatdate(seconds_of(FIRST_SENT) - 7, usegmt=True)},
+    {"Repeatability_First_Sent": email.utils.formatdate(http_date_seconds(FIRST_SENT) - 7, usegmt=True)},
 ], ids=["batch", "prefer", "minimal", "path", "date"])  # fmt: skip
 def test_another_batch_under_the_same_id(pair, change):
     service, ask = pair
@@ -299,7 +299,7 @@ def test_a_gateway_is_not_ready_without_a_lease(late, loop):
 @pytest.mark.parametrize("where", ["head", "body"])
 def test_a_request_that_waited_for_its_connection_is_not_sent_after_its_lease(late, loop, monkeypatch, where):
     """Another gateway may have answered that it is lost. Once the lease is renewed it is sent, if not its head was."""
-    from odb_batch.gateway import _upstreams
+    from odb_batch.gateway import _upstream
     from odb_batch.journals import StoreJournal
 
     service, it, journals, stop = late
@@ -321,7 +321,7 @@ def test_a_request_that_waited_for_its_connection_is_not_sent_after_its_lease(la
         loop.run(journals.store.renew())
         status, _, text = asked.result(SECONDS)
     found = {it["id"]: (it["status"], it.get("body", {}).get("error", {}).get("code")) for it in json.loads(text)["responses"]}
-    assert status == 200 and _upstreams
+    assert status == 200 and _upstream
     posts = [seen for seen in service.seen if seen.method == "POST"]
     if where == "head":
         assert (found["a"], len(posts)) == ((201, None), 1)

@@ -162,6 +162,38 @@ def test_the_file_of_the_page_is_read(tmp_path):
     assert found.send == (("authorization", "/odata/Orders"),) and found.metrics.port == 9100
 
 
+TRACER = """
+import types
+
+spans = []
+
+class Span:
+    def __init__(self, *words, **more): self.words = [*words, more]
+    def set_attribute(self, *words): self.words.append(words)
+    def end(self): spans.append(self.words)
+
+def inject(headers, span): headers["traceparent"] = "its own"
+
+propagate = types.SimpleNamespace(extract=dict, inject=inject)
+trace = types.SimpleNamespace(get_tracer=lambda name: types.SimpleNamespace(start_span=Span), set_span_in_context=str)
+"""
+
+
+def test_the_hook_of_the_page_makes_spans(upstream, front, tmp_path, monkeypatch):
+    """Over something that takes the calls of OpenTelemetry which it makes."""
+    (text,) = blocks("python")
+    (tmp_path / "tracing.py").write_text(text)
+    (tmp_path / "opentelemetry.py").write_text(TRACER)
+    monkeypatch.syspath_prepend(tmp_path)
+    service = upstream()
+    it = front("--upstream", f"{service.url}/odata/", "--on-request", "tracing:on_request")
+    assert it.statuses({"url": "missing"}) == [404]
+    spans = sys.modules.pop("opentelemetry").spans
+    del sys.modules["tracing"]
+    assert spans == [["GET", spans[0][1], {"attributes": {"url.full": f"{service.url}/odata/missing"}}, ("http.response.status_code", 404)]]
+    assert service.seen[0].headers["traceparent"] == "its own" and spans[0][1]["host"]
+
+
 def test_the_codes_of_the_page_are_those_of_the_gateway():
     shown = re.findall(r"\d{3} `(\w+)`(?:, `(\w+)`)?", PAGE)
     names = {name for found in shown for name in found if name}
@@ -170,7 +202,7 @@ def test_the_codes_of_the_page_are_those_of_the_gateway():
         for name in files:
             if name.endswith(".py") and "conformance" not in folder:
                 with open(os.path.join(folder, name), encoding="utf-8") as file:
-                    made.update(re.findall(r'(?:Refusal|rejected)\(\d{3}, "(\w+)"', file.read()))
+                    made.update(re.findall(r'(?:Refusal|rejection)\(\d{3}, "(\w+)"', file.read()))
     assert names - {"F41"} <= made
 
 

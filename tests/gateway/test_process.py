@@ -58,7 +58,7 @@ def test_help_names_each_option_once():
     words = [sys.executable, "-m", "odb_batch", "gateway", "--help"]
     text = subprocess.run(words, env=with_package(), stdout=subprocess.PIPE, text=True, timeout=SECONDS).stdout
     options = re.findall(r"(?m)^  (--\w[\w-]*)", text)
-    assert len(options) == len(set(options)) == 29
+    assert len(options) == len(set(options)) == 30
 
 
 def test_sigterm(upstream, running):

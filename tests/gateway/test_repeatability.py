@@ -17,7 +17,7 @@ import pytest
 from odb_batch import Refusal, Report, ReportUnit
 from odb_batch.gateway._options import options_of
 from odb_batch.gateway._repeatability import AHEAD, Repeatability
-from odb_batch.journals import _lines
+from odb_batch.journals import _encoding
 from support.commands import with_package
 from support.journals import EVENTS, events_of, written
 from support.servers import CONTINUE, FIRST_SENT, SECONDS, Asked, repeatable, until
@@ -96,7 +96,7 @@ def test_a_batch_is_refused_as_late_before_its_journal_is_removed(aiohttp, tmp_p
         for now[0] in range(start, start + 1_000, 25):
             await journals.prune()
             with contextlib.suppress(Refusal):
-                repeatability.of(headers)
+                repeatability.read(headers)
                 accepted += 1
                 assert await events_of(journals) == EVENTS
         assert await events_of(journals) == [] and 12 < accepted < 20
@@ -149,7 +149,7 @@ def test_ids_and_clients_do_not_run_into_each_other():
     keys = set()
     for client, id in (("a", "bc"), ("ab", "c"), ("1:a", "b"), ("1", ":ab")):
         headers = {"x-client": client, "repeatability-request-id": id, "repeatability-first-sent": FIRST_SENT}
-        keys.add(Repeatability(options).of(headers).key)
+        keys.add(Repeatability(options).read(headers).key)
     assert len(keys) == 4
 
 
@@ -192,8 +192,8 @@ def test_a_body_is_kept_byte_for_byte(size):
     body = None if size is None else bytes(k % 256 for k in range(size))
     report = Report("a", 200, {"x": "\u00fc\n"}, body)
     for event in (report, ReportUnit((report, Report("b", 204, {}), report))):
-        text = b"".join(_lines.chunks_of(event))
-        assert _lines.events_of(text * 2) == [event, event]
+        text = b"".join(_encoding.encode_event(event))
+        assert _encoding.decode_events(text * 2) == [event, event]
         for cut in {1, len(text) // 2, len(text) - 1}:
             with pytest.raises(ValueError, match="damaged"):
-                _lines.events_of(text[:cut])
+                _encoding.decode_events(text[:cut])

@@ -191,12 +191,12 @@ def test_no_request_is_sent_twice_by_a_library(upstream, loop, method):
 
     from odb_batch.gateway._metrics import Counts
     from odb_batch.gateway._options import options_of
-    from odb_batch.gateway._upstreams import Upstreams
+    from odb_batch.gateway._upstream import UpstreamClient
 
     service = upstream(lambda seen: web.Response(status=307, headers={"Location": "/again"}))
 
     async def send():
-        upstreams = Upstreams(options_of(["--upstream", service.url]), Counts())
+        upstreams = UpstreamClient(options_of(["--upstream", service.url]), Counts())
         await upstreams.open()
         try:
             await upstreams.session(method).request(method, service.url + "/x")
@@ -264,6 +264,23 @@ def test_headers_that_an_option_allows(upstream, front, caplog):
     assert [seen.headers["x-own"] for seen in service.seen] == ["1", "1"]
     found = front("--upstream", service.url).batch(*asked)
     assert {(response["status"], code_of(response)) for response in found.values()} == {(400, "HeaderNotAllowed")}
+
+
+OF_CONNECTION = ["Accept-Encoding", "Connection", "Content-Length", "Host"]
+USUALLY_DROPPED = ["Cache-Control", "Date", "Pragma", "User-Agent"]
+
+
+def test_headers_that_clients_set_by_themselves_are_dropped_unless_an_option_allows_them(upstream, front):
+    service = upstream()
+    asked = [{"url": "x"}, {"url": "x", "headers": dict.fromkeys([*OF_CONNECTION, *USUALLY_DROPPED], "7")}]
+    headers = {**CONTINUE, "User-Agent": "of the batch"}
+    assert front("--upstream", service.url).statuses(*asked, headers=headers) == [200, 200]
+    plain, dropped = (seen.headers for seen in service.seen)
+    assert dropped == plain
+    allowed = [word for name in USUALLY_DROPPED for word in ("--allow", name)]
+    assert front("--upstream", service.url, *allowed).statuses(asked[1]) == [200]
+    own = {name.lower(): "7" for name in USUALLY_DROPPED}
+    assert service.seen[2].headers == {**plain, **own, "x-forwarded-host": service.seen[2].headers["x-forwarded-host"]}
 
 
 def test_a_header_of_a_request_is_sent_in_utf_8(loop, front):

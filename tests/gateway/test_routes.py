@@ -4,7 +4,7 @@ import pytest
 
 from odb_batch import Refusal
 from odb_batch.gateway._options import options_of
-from odb_batch.gateway._routes import Routes, normalized
+from odb_batch.gateway._routes import Routes, normalize_path
 
 WORDS = [
     "--upstream", "http://main:8101/odata/", "--route", "/odata/Orders=https://orders/v2/Orders",
@@ -68,7 +68,7 @@ def test_a_path_of_a_service_is_not_shown_as_another_host(place):
 
 
 def test_a_path_is_normalized_but_for_what_has_a_meaning():
-    assert normalized("/%41%2f%3f%23%25%3B%c3%bc%27%28%29%24") == "/A%2F%3F%23%25%3B%C3%BC'()$"
+    assert normalize_path("/%41%2f%3f%23%25%3B%c3%bc%27%28%29%24") == "/A%2F%3F%23%25%3B%C3%BC'()$"
 
 
 @pytest.mark.parametrize("words", [
@@ -84,6 +84,7 @@ def test_a_path_is_normalized_but_for_what_has_a_meaning():
         ["--metrics", "/health"], ["--metrics", "/health/ready"], ["--upstream", "http://b/"], ["--metrics", "x"], ["--health", "health"], ["--groups", "some"], ["--log", "all"], ["--keep", "nan"], ["--credential", "a b"], ["--no"],
         ["--max-size", "16777217"], ["--max-size", "0"], ["--deadline", "0"], ["--keep-alive", "0"], ["--keep-alive", "x"],
         ["--allow", "a b"], ["--allow", "X-Forwarded-For"], ["--allow", "Host"], ["--allow", "Cookie"],
+        ["--allow", "Content-Length"], ["--allow", "Accept-Encoding"], ["--allow", "Connection"],
         ["--allow", "X-Client", "--client-header", "X-Client"],
         ["--send", "Authorization"], ["--send", "a b=/"], ["--send", "Cookie=http://a/"], ["--send", "Cookie=/x/"],
     )),

@@ -11,7 +11,7 @@ import pytest
 from odb_batch import Report, Start
 from odb_batch.journals import Journals, SqliteStore
 from odb_batch.journals import _sqlite
-from odb_batch.journals._lines import digest
+from odb_batch.journals._encoding import digest
 from support.journals import EVENTS, FIRST, events_of, opened, soon, written
 from support.servers import SECONDS
 
@@ -83,7 +83,7 @@ def test_a_text_whose_pieces_were_removed_is_not_kept(tmp_path, monkeypatch):
     append = SqliteStore._append
 
     def removing(store, parts):
-        with store._commit() as execute:
+        with store._transaction() as execute:
             execute("DELETE FROM piece")
         return append(store, parts)
 

@@ -9,7 +9,7 @@ import pytest
 from odb_batch import Refusal, Report, Start
 from odb_batch.journals import Late, SqliteStore
 from odb_batch.journals import _journals as journals_module
-from odb_batch.journals._lines import digest
+from odb_batch.journals._encoding import digest
 from support.cuts import Cut
 from support.journals import EVENTS, FIRST, LEASE, events_of, opened, parts_of, soon, stop_renewing, written
 

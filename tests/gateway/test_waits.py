@@ -65,14 +65,14 @@ def test_the_log_says_that_no_connection_was_free(logged):
     from odb_batch import Refusal
     from odb_batch.gateway._metrics import Counts
     from odb_batch.gateway._options import options_of
-    from odb_batch.gateway._upstreams import Upstreams
+    from odb_batch.gateway._upstream import UpstreamClient
 
     options = options_of(["--upstream", "http://a/", "--connections", "1", "--timeout", "0.01"])
     counts, faults = Counts(), []
     counts.fault = faults.append
 
     async def enter():
-        upstreams = Upstreams(options, counts)
+        upstreams = UpstreamClient(options, counts)
         await upstreams.open()
         async with upstreams.places(options.routes[0]):
             with pytest.raises(Refusal):
@@ -88,11 +88,11 @@ def test_nothing_is_sent_once_a_gateway_stops(aiohttp):
     from odb_batch import PreparedRequest, Refusal
     from odb_batch.gateway._metrics import Counts
     from odb_batch.gateway._options import options_of
-    from odb_batch.gateway._upstreams import Upstreams
+    from odb_batch.gateway._upstream import UpstreamClient
     from odb_batch.http import BodyBudget
 
     options = options_of(["--upstream", "http://127.0.0.1:1/"])
-    upstreams = Upstreams(options, Counts())
+    upstreams = UpstreamClient(options, Counts())
     upstreams.is_stopping = True
     request = PreparedRequest("a", "GET", "http://127.0.0.1:1/", {}, b"")
     with pytest.raises(Refusal) as refused:
@@ -242,15 +242,15 @@ def test_what_was_not_sent_is_not_counted_as_sent(upstream, running):
 
 @pytest.mark.parametrize("words, seconds", [([], 1), (["--keep-alive", "30"], 30)])
 def test_how_long_a_connection_is_kept(aiohttp, monkeypatch, words, seconds):
-    from odb_batch.gateway import _upstreams
+    from odb_batch.gateway import _upstream
     from odb_batch.gateway._metrics import Counts
     from odb_batch.gateway._options import options_of
 
-    made, connector = [], _upstreams.aiohttp.TCPConnector
-    monkeypatch.setattr(_upstreams.aiohttp, "TCPConnector", lambda **given: made.append(given) or connector(**given))
+    made, connector = [], _upstream.aiohttp.TCPConnector
+    monkeypatch.setattr(_upstream.aiohttp, "TCPConnector", lambda **given: made.append(given) or connector(**given))
 
     async def make():
-        upstreams = _upstreams.Upstreams(options_of(["--upstream", "http://a/", *words]), Counts())
+        upstreams = _upstream.UpstreamClient(options_of(["--upstream", "http://a/", *words]), Counts())
         await upstreams.open()
         await upstreams.close()
 

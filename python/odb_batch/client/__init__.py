@@ -20,8 +20,8 @@ import warnings
 from typing import Any
 
 from ._batch import Batch, BatchFailed, Post, PostAsync, Results, batch_headers
+from ._builder import Group, Reference
 from ._client import AsyncBatchClient, BatchClient
-from ._references import Group, Reference
 from ._results import RequestFailed, Result
 from ._transports import HttpResponse, Posted
 

@@ -1,12 +1,13 @@
 """A batch that is made by calls, and sent by any client of HTTP."""
 
-from typing import Awaitable, Callable, Generator
+from typing import Any, Awaitable, Callable, Generator, TypeVar
 
 from .._native.calls import Mode
 from ..commands import plan
 from ..documents.encoding import Document, document_bytes
 from ..documents.requests import requests
-from ._builder import Builder, naming_requests
+from ..errors.faults import Fault
+from ._builder import Builder
 from ._parts import MAX_REQUESTS, Parts
 from ._rest import rest_document
 from ._results import RequestFailed, ResultMap
@@ -15,6 +16,9 @@ from ._transports import Posted, read_response
 #: Posts the bytes of a batch, and returns what that is answered.
 Post = Callable[[bytes], Posted]
 PostAsync = Callable[[bytes], Awaitable[Posted]]
+
+_Step = TypeVar("_Step")
+_End = TypeVar("_End")
 
 
 def batch_headers(mode: Mode = "continue") -> dict[str, str]:
@@ -74,41 +78,21 @@ class Batch(Builder):
             TypeError: What ``post`` returns is neither a status with headers and a body nor such a response.
             MemoryError: An allocation failed.
         """
-        parts = self.exchange(limit=limit, mode=mode)
-        try:
-            document = next(parts)
-            while True:
-                try:
-                    answered = post(document)
-                except Exception as error:
-                    document = parts.throw(error)
-                else:
-                    document = parts.send(answered)
-        except StopIteration as end:
-            return results_of(end)
+        return take_steps(self.exchange(limit=limit, mode=mode), post)
 
     async def send_async(self, post: PostAsync, *, limit: int = MAX_REQUESTS, mode: Mode = "continue") -> "Results":
         """Does what :meth:`send` does by a coroutine function. If its task is cancelled, what was answered is lost."""
-        parts = self.exchange(limit=limit, mode=mode)
-        try:
-            document = next(parts)
-            while True:
-                try:
-                    answered = await post(document)
-                except Exception as error:
-                    document = parts.throw(error)
-                else:
-                    document = parts.send(answered)
-        except StopIteration as end:
-            return results_of(end)
+        return await take_steps_async(self.exchange(limit=limit, mode=mode), post)
 
     def exchange(self, *, limit: int = MAX_REQUESTS, mode: Mode = "continue") -> Generator[bytes, Posted, "Results"]:
         """Yields one part after another, and is sent what it was answered, for clients that :meth:`send` does not fit.
 
         The exception by which a part was not answered is thrown into it. The value in the end is the results.
         """
-        with naming_requests():
+        try:
             parts = Parts(self.document(), limit, mode)
+        except Fault as fault:
+            raise fault.of_builder()
         while (document := parts.next()) is not None:
             try:
                 answered = read_response((yield document))
@@ -185,7 +169,33 @@ class BatchFailed(Exception):
         return str(self.results)
 
 
-def results_of(end: StopIteration) -> Results:
-    """Returns the results in which :meth:`Batch.exchange` ends."""
-    results: Results = end.value
-    return results
+def take_steps(steps: Generator[_Step, Any, _End], take: Callable[[_Step], Any]) -> _End:
+    """Calls a function for each step that a generator yields, which gets what that returns or raises; returns its end."""
+    try:
+        step = next(steps)
+        while True:
+            try:
+                taken = take(step)
+            except Exception as error:
+                step = steps.throw(error)
+            else:
+                step = steps.send(taken)
+    except StopIteration as end:
+        found: _End = end.value
+        return found
+
+
+async def take_steps_async(steps: Generator[_Step, Any, _End], take: Callable[[_Step], Awaitable[Any]]) -> _End:
+    """Does what `take_steps` does by a coroutine function."""
+    try:
+        step = next(steps)
+        while True:
+            try:
+                taken = await take(step)
+            except Exception as error:
+                step = steps.throw(error)
+            else:
+                step = steps.send(taken)
+    except StopIteration as end:
+        found: _End = end.value
+        return found

@@ -12,10 +12,54 @@ from ..documents.requests import Request
 from ..driver.references import CONDITIONS
 from ..errors.faults import Fault
 from ..http.batches import batch_json, request_json
-from ..http.bodies import is_json, media_type, to_json
+from ..http.bodies import is_json, to_json
 from ..http.messages import Answer, header_dict
-from ._references import Group, Name, Reference
 
+
+class _Named:
+    """What a batch has a name for.
+
+    Attributes:
+        id: The name.
+    """
+
+    __slots__ = ("id", "_origin")
+
+    def __init__(self, name: str, origin: bytes) -> None:
+        self.id, self._origin = name, origin
+
+    def __repr__(self) -> str:
+        return f"<{type(self).__name__} {self}>"
+
+
+class Reference(_Named):
+    """A request of a :class:`Batch`. As a text it is the reference ``$id``, for URLs and conditions of later requests.
+
+    Attributes:
+        id: The id of the request.
+    """
+
+    __slots__ = ()
+
+    def __str__(self) -> str:
+        return "$" + self.id
+
+
+class Group(_Named):
+    """An atomicity group of a :class:`Batch`, which later requests may depend on.
+
+    Attributes:
+        id: The name of the group.
+    """
+
+    __slots__ = ()
+
+    def __str__(self) -> str:
+        return self.id
+
+
+#: What a request depends on: a request or a group, or its name.
+Name = Union[Reference, Group, str]
 #: A URL or the value of a header: a text, or a request of the batch, whose reference it is then.
 Url = Union[str, Reference]
 #: The headers of a request.
@@ -112,7 +156,7 @@ class Builder:
         if name in _RESERVED:
             raise ValueError(f"no URL can refer to a request with the id {id!r}")
         url = self._text(url)
-        given = header_dict([(key, self._text(value)) for key, value in (headers or {}).items()])
+        given = header_dict([(key, self._text(value)) for key, value in headers.items()]) if headers else {}
         text = _body_text(body, given)
         needs = self._needs(after, url, given)
         group = None if self._group is None else self._group.id
@@ -203,18 +247,10 @@ class Builder:
             Fault: The batch is refused. Its text begins with the code, the id of the request and what is wrong.
             MemoryError: An allocation failed.
         """
-        with naming_requests():
+        try:
             return check(self.document())
-
-
-@contextlib.contextmanager
-def naming_requests() -> Iterator[None]:
-    """Has the text of a fault name the request, not its position."""
-    try:
-        yield
-    except Fault as fault:
-        fault._is_of_builder = True
-        raise
+        except Fault as fault:
+            raise fault.of_builder()
 
 
 def _body_text(body: Any, given: dict[str, str]) -> Optional[bytes]:
@@ -224,7 +260,7 @@ def _body_text(body: Any, given: dict[str, str]) -> Optional[bytes]:
         return None
     given.setdefault("content-type", "application/json")
     text = to_json(Answer(200, given, body), given)
-    if is_wire and is_json(media_type(given)):
+    if is_wire and is_json(given):
         try:
             json.loads(text, parse_constant=_refuse)
         except (ValueError, RecursionError):

@@ -5,7 +5,7 @@ import time
 from typing import Any, Mapping, Optional
 
 from .._native.calls import Mode
-from ._batch import Batch, Results, results_of
+from ._batch import Batch, Results, take_steps, take_steps_async
 from ._parts import MAX_REQUESTS
 from ._retry import Post, RetryPolicy, Step
 from ._transports import make_post
@@ -75,22 +75,11 @@ class BatchClient(_Sender):
         Raises:
             Fault, ValueError, TypeError, MemoryError: As by :meth:`Batch.send`. Nothing was sent after the first two.
         """
-        steps, answered = self._policy.steps(batch, limit, mode), None
-        try:
-            while True:
-                answered = self._do(steps.send(answered))
-        except StopIteration as end:
-            return results_of(end)
+        return take_steps(self._policy.steps(batch, limit, mode), self._take)
 
-    def _do(self, step: Step) -> Any:
-        """Waits, or posts and returns what that is answered, or the exception in place of it."""
-        if not isinstance(step, Post):
-            time.sleep(step)
-            return None
-        try:
-            return self._post(*step)
-        except Exception as error:
-            return error
+    def _take(self, step: Step) -> Any:
+        """Waits, or posts and returns what that is answered."""
+        return self._post(*step) if isinstance(step, Post) else time.sleep(step)
 
     def close(self) -> None:
         """Closes the session, if it is no function."""
@@ -112,21 +101,10 @@ class AsyncBatchClient(_Sender):
 
     async def send(self, batch: Batch, *, limit: int = MAX_REQUESTS, mode: Mode = "continue") -> Results:
         """Does what :meth:`BatchClient.send` does. If its task is cancelled, what was answered is lost."""
-        steps, answered = self._policy.steps(batch, limit, mode), None
-        try:
-            while True:
-                answered = await self._do(steps.send(answered))
-        except StopIteration as end:
-            return results_of(end)
+        return await take_steps_async(self._policy.steps(batch, limit, mode), self._take)
 
-    async def _do(self, step: Step) -> Any:
-        if not isinstance(step, Post):
-            await asyncio.sleep(step)
-            return None
-        try:
-            return await self._post(*step)
-        except Exception as error:
-            return error
+    async def _take(self, step: Step) -> Any:
+        return await (self._post(*step) if isinstance(step, Post) else asyncio.sleep(step))
 
     async def aclose(self) -> None:
         """Closes the session, if it is no function."""

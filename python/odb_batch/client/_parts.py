@@ -2,7 +2,7 @@
 
 import contextlib
 import re
-from dataclasses import replace
+from dataclasses import dataclass, field, replace
 from typing import Any, Iterable, Mapping, Optional
 from urllib.parse import unquote
 
@@ -11,7 +11,7 @@ from ..commands import PlannedRequest, check, match, plan
 from ..documents.encoding import document_bytes, json_bytes
 from ..documents.requests import Request, requests
 from ..driver.groups import SKIPPED
-from ..driver.references import ReferenceResolver, ServiceUrls
+from ..driver.references import CONDITIONS, ReferenceResolver
 from ..errors.faults import Fault
 from ..http.batches import batch_json, read_answers, request_json
 from ..http.messages import BROKEN, LOG, TIMED_OUT, TIMEOUTS, Answer, Answered, Refusal, validate_answer
@@ -21,6 +21,7 @@ from ._transports import is_named_timeout
 MAX_REQUESTS = 10_000
 
 
+@dataclass
 class Unit:
     """An atomicity group of a batch, or a request without one.
 
@@ -30,12 +31,9 @@ class Unit:
         needs: The numbers of the units that its requests depend on, without its own.
     """
 
-    __slots__ = ("group", "ids", "needs")
-
-    def __init__(self, group: Optional[str]) -> None:
-        self.group = group
-        self.ids: list[str] = []
-        self.needs: set[int] = set()
+    group: Optional[str]
+    ids: list[str] = field(default_factory=list)
+    needs: set[int] = field(default_factory=set)
 
 
 def units_of(plan: Iterable[PlannedRequest]) -> list[Unit]:
@@ -75,7 +73,7 @@ class Parts:
         if isinstance(limit, bool) or not isinstance(limit, int) or not 1 <= limit <= MAX_REQUESTS:
             raise ValueError(f"limit must be a whole number from 1 to {MAX_REQUESTS}, not {limit!r}")
         policy_numbers(mode, MAX_WIDTH)
-        given, planned = requests(document), plan(document)
+        given, planned = requests(document), plan(document).requests
         self.document, self._limit, self._mode = document, limit, mode
         self._needs = {request.id: request.needs for request in planned}
         self._groups = {request.id: request.group for request in planned}
@@ -84,7 +82,7 @@ class Parts:
         for unit in self._units:
             if len(unit.ids) > limit:
                 raise ValueError(f"the group {unit.group} has {len(unit.ids)} requests, and a batch may have {limit}")
-        self._resolver = ReferenceResolver(given, ServiceUrls(""))
+        self._resolver = ReferenceResolver(given)
         self.answers: dict[str, Answer] = dict.fromkeys(self._needs, SKIPPED)
         self.error: Optional[Exception] = None
         # Those to which others refer, of those that have succeeded.
@@ -96,9 +94,16 @@ class Parts:
         self._part = b""
         self._out: list[int] = []
         self._is_stopped = False
+        # Then it is sent as it is. A condition may refer to what is not answered yet, so that its request is not sent.
+        conditions = (request.headers.get(name, "") for request in given for name in CONDITIONS)
+        self._is_one_part = len(given) <= limit and not any(value.startswith("$") for value in conditions)
 
     def next(self) -> Optional[bytes]:
         """Returns the next part; None if nothing more is to be sent."""
+        if self._is_one_part and self._at == 0:
+            self._part, self._out, self._at = self.document, [*range(len(self._units))], len(self._units)
+            self._sound.update(self._out)
+            return self._part if self._out else None
         elements: list[bytes] = []
         names: set[str] = set()
         self._out = []
@@ -118,8 +123,10 @@ class Parts:
                     self._out.append(self._at)
                     self._sound.add(self._at)
             self._at += 1
+        if not elements:
+            return None
         self._part = batch_json(elements)
-        return self._part if elements else None
+        return self._part
 
     def _elements(self, unit: Unit, names: set[str]) -> list[bytes]:
         """The texts of the requests of a unit; adds its names to those of the part. Dependencies on other parts, which
@@ -193,7 +200,8 @@ class Parts:
             answer = self.answers[request_id] = answers.get(request_id, SKIPPED)
             if not answer.is_success:
                 self._sound.discard(number)
-            elif self._resolver.record(request_id, answer):
+            elif request_id in self._resolver.referred:
+                self._resolver.record(request_id, answer)
                 self._referred.append(request_id)
         if self._mode == "stop" and self._is_error(unit):
             self._is_stopped = True

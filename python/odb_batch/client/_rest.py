@@ -1,56 +1,14 @@
-"""What became of each request of a batch, and its rest: what failed for now or was skipped, and may be sent again."""
+"""The rest of a batch: what failed for now or was skipped, and may be sent again."""
 
 import json
 from dataclasses import replace
-from typing import Any, Collection, Literal, Mapping, Optional
+from typing import Collection, Mapping
 
 from .. import commands
-from ..documents.encoding import json_bytes
 from ..documents.requests import Request, requests
 from ..driver.references import CONDITIONS
 from ..errors.faults import Fault
 from ..http.batches import batch_json, request_json
-
-#: It was performed; it was answered for good by another status, or depends on what is; it may be sent again; or nobody knows
-#: whether it was performed, and it may not be sent again.
-Outcome = Literal["done", "failed", "left", "unknown"]
-
-#: After these statuses nobody knows whether a request was performed.
-UNSURE = frozenset({408, 502, 504})
-
-
-def classify(document: bytes, groups: Mapping[str, Optional[str]], statuses: Mapping[str, int]) -> dict[str, Outcome]:
-    """Returns what became of each request, by its id.
-
-    Args:
-        document: The batch.
-        groups: The atomicity group of each request, or None.
-        statuses: What each request was answered.
-    """
-    left = _resendable_ids(document, groups, statuses)
-    undone = {groups[request_id] for request_id, status in statuses.items() if not 200 <= status <= 299} - {None}
-    found: dict[str, Outcome] = {}
-    for request_id, status in statuses.items():
-        if request_id in left:
-            found[request_id] = "left"
-        elif 200 <= status <= 299 and groups[request_id] not in undone:
-            found[request_id] = "done"
-        else:
-            found[request_id] = "unknown" if status in UNSURE else "failed"
-    return found
-
-
-def _resendable_ids(document: bytes, groups: Mapping[str, Optional[str]], statuses: Mapping[str, int]) -> list[str]:
-    """The ids of the rest. Any Location does for them."""
-    if all(200 <= status <= 299 for status in statuses.values()):
-        return []
-    common: dict[str, Any] = {"headers": {"location": "x"}}
-    responses = [
-        {"id": request_id, "status": status, "atomicityGroup": groups[request_id], **common}
-        for request_id, status in statuses.items()
-    ]
-    return [request.id for request in commands.plan(commands.rest(document, json_bytes({"responses": responses})))]
-
 
 # The headers that were recorded for each request, by its id; their names are in lower case.
 _Recorded = Mapping[str, Mapping[str, str]]

@@ -6,18 +6,24 @@ import time
 from dataclasses import dataclass
 from datetime import timezone
 from functools import cached_property
-from typing import Any, Callable, Iterator, Mapping, Optional, TypeVar, Union, get_args, overload
+from typing import Any, Callable, Iterator, Literal, Mapping, Optional, TypeVar, Union, get_args, overload
 
-from ..documents.encoding import body_json
+from .. import commands
+from ..documents.encoding import body_json, json_bytes
 from ..documents.requests import Request
 from ..http.messages import Answer
 from ..values import Value
-from ._builder import Builder
-from ._references import Reference
-from ._rest import Outcome, classify
+from ._builder import Builder, Reference
 
 _Self = TypeVar("_Self", bound="Result")
 _T = TypeVar("_T")
+
+#: It was performed; it was answered for good by another status, or depends on what is; it may be sent again; or nobody knows
+#: whether it was performed, and it may not be sent again.
+Outcome = Literal["done", "failed", "left", "unknown"]
+
+#: After these statuses nobody knows whether a request was performed.
+UNSURE = frozenset({408, 502, 504})
 
 # How many requests that are not done a text lists.
 _MAX_LISTED = 20
@@ -154,7 +160,7 @@ class ResultMap(Mapping[str, Result]):
 
     @cached_property
     def _outcomes(self) -> dict[str, Outcome]:
-        return classify(self._document, self._groups, {result.id: result.status for result in self._found.values()})
+        return _classify(self._document, self._groups, {result.id: result.status for result in self._found.values()})
 
     def _with(self, outcome: Outcome) -> list[Result]:
         return [result for result in self._found.values() if self._outcomes[result.id] == outcome]
@@ -203,3 +209,30 @@ def seconds_of(value: str) -> float:
     except (TypeError, ValueError, OverflowError):
         return 0.0
     return max((at if at.tzinfo else at.replace(tzinfo=timezone.utc)).timestamp() - time.time(), 0.0)
+
+
+def _classify(document: bytes, groups: Mapping[str, Optional[str]], statuses: Mapping[str, int]) -> dict[str, Outcome]:
+    """What became of each request, by its id; likewise its group, or None, and the status that it was answered."""
+    left = _resendable_ids(document, groups, statuses)
+    undone = {groups[request_id] for request_id, status in statuses.items() if not 200 <= status <= 299} - {None}
+    found: dict[str, Outcome] = {}
+    for request_id, status in statuses.items():
+        if request_id in left:
+            found[request_id] = "left"
+        elif 200 <= status <= 299 and groups[request_id] not in undone:
+            found[request_id] = "done"
+        else:
+            found[request_id] = "unknown" if status in UNSURE else "failed"
+    return found
+
+
+def _resendable_ids(document: bytes, groups: Mapping[str, Optional[str]], statuses: Mapping[str, int]) -> list[str]:
+    """The ids of the rest. Any Location does for them."""
+    if all(200 <= status <= 299 for status in statuses.values()):
+        return []
+    common: dict[str, Any] = {"headers": {"location": "x"}}
+    responses = [
+        {"id": request_id, "status": status, "atomicityGroup": groups[request_id], **common}
+        for request_id, status in statuses.items()
+    ]
+    return [request.id for request in commands.plan(commands.rest(document, json_bytes({"responses": responses})))]

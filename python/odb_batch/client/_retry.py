@@ -12,9 +12,8 @@ from ..commands import match
 from ..documents.encoding import document_bytes
 from ..http.batches import batch_json
 from ..http.messages import LOG, Answer, Refusal, header_dict, validate_answer
-from ._batch import Batch, Results, batch_headers, results_of
-from ._rest import UNSURE
-from ._results import seconds_of
+from ._batch import Batch, Results, batch_headers
+from ._results import UNSURE, seconds_of
 from ._transports import is_unsent, read_response
 
 ID, FIRST_SENT, RESULT = "repeatability-request-id", "repeatability-first-sent", "repeatability-result"
@@ -142,7 +141,8 @@ class _Sending:
                 answered = yield from self._answered(document)
                 document = parts.throw(answered) if isinstance(answered, Exception) else parts.send(answered)
         except StopIteration as end:
-            return results_of(end)
+            results: Results = end.value
+            return results
 
     def _answered(self, part: bytes) -> Generator[Step, Any, Any]:
         """What a part is answered, or the exception in place of it. It is posted again only under the id that the service
@@ -151,7 +151,12 @@ class _Sending:
         while True:
             asks = lost is not None and self._policy.keeps is None
             document, sent = (_NOTHING, self._headers()) if asks else (part, given)
-            tried = self._read(document, sent, (yield Post(document, sent, self._seconds())))
+            try:
+                posted = yield Post(document, sent, self._seconds())
+            except Exception as error:
+                tried = _attempt_of(error)
+            else:
+                tried = self._read(document, sent, posted)
             if tried.is_success:
                 if not asks:
                     return tried.value
@@ -182,8 +187,6 @@ class _Sending:
 
     def _read(self, document: bytes, sent: Mapping[str, str], posted: Any) -> _Attempt:
         """What a document was answered. What is no answer is refused where it is taken."""
-        if isinstance(posted, Exception):
-            return _attempt_of(posted)
         found = read_response(posted)
         if not isinstance(found, (Answer, tuple, list)):
             return _Attempt(posted, 200)

@@ -209,17 +209,26 @@ class Stage:
     # What is expected
 
     def expected(self, stops: bool) -> list[str]:
-        """What is expected of each request; if the batch stops at an error, anything of what may come after it."""
+        """What is expected of each request. A batch that stops at an error has done what the error depends on; of the
+        rest anything is expected, for the service may have begun with any request that waits for nothing."""
         unit_of = {name: step.unit for step in self.steps for name in (step.id, step.unit)}
-        failed: set[str] = set()
-        found = []
-        for _, members in itertools.groupby(self.steps, lambda step: step.unit):
+        before: dict[str, set[str]] = {}  # each unit with all that it depends on
+        causes, failed = [], set()
+        outcomes = []
+        for unit, members in itertools.groupby(self.steps, lambda step: step.unit):
             steps = list(members)
-            skipped = [bool(failed & {unit_of[name] for name in step.needs}) for step in steps]
+            needs = [{unit_of[name] for name in step.needs} - {unit} for step in steps]
+            before[unit] = {unit}.union(*(before[need] for need in set().union(*needs)))
+            skipped = [bool(failed & names) for names in needs]
             is_failing = any(skipped) or any(step.fails for step in steps)
             for step, is_skipped in zip(steps, skipped):
                 outcome = SKIPPED if is_skipped else FAILS if step.fails else UNDONE if is_failing else DONE
-                found.append(OPEN if stops and failed and outcome in (DONE, FAILS) else outcome)
+                outcomes.append(outcome)
             if is_failing:
-                failed.add(steps[0].unit)
-        return found
+                failed.add(unit)
+                causes += [] if any(skipped) else [unit]
+        if not stops or not causes:
+            return outcomes
+        certain = set.intersection(*(before[unit] for unit in causes))
+        is_open = [step.unit not in certain and outcome in (DONE, FAILS) for step, outcome in zip(self.steps, outcomes)]
+        return [OPEN if flag else outcome for flag, outcome in zip(is_open, outcomes)]

@@ -4,18 +4,17 @@ from typing import Callable, Generator, Optional, Sequence, Union
 
 from .._native.calls import MAX_WIDTH, Mode
 from ..commands import plan
-from ..documents.encoding import Document, Report, Start, document_bytes
+from ..documents.encoding import Report, Start
 from ..documents.requests import requests
 from ..errors.faults import Fault, Refused
 from ..http.bodies import text_json, to_json
 from ..http.messages import (
-    FAILED, LOG, Answer, Answered, GroupFailed, PreparedRequest, Refusal, answer_for, validate_answer, visible_headers,
+    FAILED, LOG, Answer, Answered, GroupFailed, PreparedRequest, Refusal, answer_for, validate_answer,
 )  # fmt: skip
-from ..http.options import require_limit
 from ..runs import Run
 from .groups import SKIPPED, MemberRefused, PreparedGroup
 from .journal import Journal, JournalEvent, ReportUnit, StartUnit, Stop
-from .references import ReferenceResolver, ServiceUrls
+from .references import ReferenceResolver
 
 
 class Unit:
@@ -25,19 +24,29 @@ class Unit:
         ids: Its requests in order: each comes after those of the group that it needs.
         group: The name of the group, or None.
         open: The request that has started and is not reported yet, or None.
+        prepared: Its first request as it is sent, if somebody has asked for that before; or None.
         is_noted: Whether the journal has its start.
+        prepared: Its first request as it is sent, if a place was asked for by it.
     """
 
-    __slots__ = ("ids", "group", "open", "is_noted")
+    __slots__ = ("ids", "group", "open", "is_noted", "prepared")
 
     def __init__(self, ids: tuple[str, ...], group: Optional[str], is_noted: bool = False) -> None:
         self.ids, self.group, self.is_noted = ids, group, is_noted
         self.open: Optional[str] = ids[0]
+        self.prepared: Optional[PreparedRequest] = None
 
     def __str__(self) -> str:
         return self.ids[0] if self.group is None else f"the group {self.group}"
 
 
+# Headers of an answer that speak of its connection, or have no place in JSON: Set-Cookie may come several times.
+_NOT_SHOWN = frozenset(
+    {
+        "connection", "content-encoding", "content-length", "date", "keep-alive", "proxy-authenticate", "server",
+        "set-cookie", "te", "trailer", "transfer-encoding", "upgrade",
+    }
+)  # fmt: skip
 # How many bytes of a body a live run takes.
 MAX_BODY_BYTES = 16_777_216
 TOO_LONG = Refusal(507, "TooLong", "The answer is too long for a batch").answer
@@ -48,7 +57,7 @@ LOST = Refusal(500, "Lost", "The gateway was ended: it is not known whether the 
 class Execution:
     """A batch on its way from its document to its response.
 
-    A unit that :meth:`begin` returns needs nothing more from outside of it. So a transaction that begins now does not
+    The units that :meth:`begin` returns need nothing more from outside of it. So a transaction that begins now does not
     wait for what waits for it. It may have to wait for a place, so :meth:`confirm` asks again whether it is sent.
 
     One thread calls ``begin`` and ``response``. The other methods may be called by any, for different units.
@@ -58,7 +67,7 @@ class Execution:
         mode, width: Those of its run.
         limit: How many requests it may have.
         has_transactions: Whether groups can be kept.
-        service: Where its requests may lead.
+        base, roots: Where its requests may lead.
         stop: Is called before a unit begins, and before it is sent. Once it returns true, nothing more starts.
         sends_groups: Whether a group is sent as one.
         journal: Where its events are kept, and what has happened before.
@@ -74,45 +83,43 @@ class Execution:
 
     def __init__(
         self,
-        batch: Document,
+        batch: bytes,
         *,
         mode: Mode,
         width: int,
         limit: int,
         has_transactions: bool,
-        service: ServiceUrls,
+        base: str,
+        roots: Optional[Sequence[str]],
         stop: Optional[Callable[[], bool]],
         sends_groups: bool = False,
         journal: Optional[Journal] = None,
     ) -> None:
         require_limit(limit)
-        document = document_bytes(batch)
-        given = requests(document)
+        given = requests(batch)
         if len(given) > limit:
             raise Refusal(413, "BatchTooLong", f"A batch may have {limit} requests")
         has_groups = any(request.group is not None for request in given)
         if has_groups and not (has_transactions or sends_groups):
             raise Refusal(501, "NoGroups", "Atomicity groups are not supported here")
         self._requests = {request.id: request for request in given}
-        self._resolver, self._stop, self._journal = ReferenceResolver(given, service), stop, journal
-        self._plan = plan(document) if has_groups and sends_groups else None
+        self._resolver, self._stop, self._journal = ReferenceResolver(given, base, roots), stop, journal
+        self._plan = plan(batch) if has_groups and sends_groups else None
         # Whether nothing more starts: since that was asked for, and in mode stop after an error.
         self._is_stopped, self._has_failed, self._mode = False, False, mode
         # How many requests are of units that have not begun.
         self._left = len(given)
         happened = journal.events if journal is not None else ()
         # What was out before may be more than the width is now.
-        self._run = Run(document, mode=mode, width=MAX_WIDTH if happened else width)
+        self._run = Run(batch, mode=mode, width=MAX_WIDTH if happened else width)
         try:
             self.resumed = self._resume(happened)
         except (Fault, Refused, LookupError, TypeError, ValueError) as error:
-            self._run.close()
+            self.close()
             raise ValueError(f"the journal has an event that is not one of this batch: {error}") from None
 
-    def __enter__(self) -> "Execution":
-        return self
-
-    def __exit__(self, *_: object) -> None:
+    def close(self) -> None:
+        """Frees the run."""
         self._run.close()
 
     def _resume(self, events: Sequence[JournalEvent]) -> list[Unit]:
@@ -134,28 +141,35 @@ class Execution:
                 self._run.start(event.id)
                 out[event.id] = None
                 self._left -= 1
-        again = set(filter(self.may_be_sent_again, out))
+        again = {request_id for request_id in out if self._is_get(request_id)}
         for request_id in [request_id for request_id in out if request_id not in again]:
             LOG.error("%s was out when a process ended, and is lost", request_id)
             self._report_and_note(request_id, LOST)
         return [Unit((request_id,), None, is_noted=True) for request_id in out if request_id in again]
 
-    def may_be_sent_again(self, request_id: str) -> bool:
-        """Returns whether a request is a GET that is sent alone."""
+    def _is_get(self, request_id: str) -> bool:
+        """Whether a request is a GET that is sent alone, so that it may be sent again."""
         return self._requests[request_id].method == "GET" and self._requests[request_id].group is None
 
     def _replay_report(self, event: Report) -> None:
         headers = dict(event.headers or {})
         self._run.report(event.id, event.status, headers or None, event.body)
-        self._resolver.record(event.id, Answer(event.status, headers, event.body))
+        if event.id in self._resolver.referred:
+            self._resolver.record(event.id, Answer(event.status, headers, event.body))
 
     def _note(self, event: JournalEvent) -> None:
         if self._journal is not None:
             self._journal.write(event)
 
-    def begin(self) -> Optional[Unit]:
-        """Starts the first request of the first unit that may begin, or all of them if it is a group that is sent as
-        one; None if no unit may begin now."""
+    def begin(self, count: int) -> list[Unit]:
+        """Starts the first request of each unit that may begin, or all of them if it is a group that is sent as one; of so many
+        units at most."""
+        found: list[Unit] = []
+        while len(found) < count and (unit := self._begin_unit()) is not None:
+            found.append(unit)
+        return found
+
+    def _begin_unit(self) -> Optional[Unit]:
         self._ask_to_stop()
         while self._left and (ids := self._run.next_unit()) is not None:
             unit = Unit(ids, self._requests[ids[0]].group)
@@ -204,8 +218,9 @@ class Execution:
         self._run.stop()
 
     def prepare(self, unit: Unit) -> PreparedRequest:
-        """Returns the open request of a unit, as it is sent; raises Refusal if it cannot be."""
-        return self._resolver.prepare(str(unit.open))
+        """Returns the first request of a unit, as it is sent; raises Refusal if it cannot be."""
+        unit.prepared = self._resolver.prepare(unit.ids[0])
+        return unit.prepared
 
     # A group that is sent as one
 
@@ -242,29 +257,35 @@ class Execution:
 
     # The requests of a unit that are sent one after another
 
-    def steps(self, unit: Unit) -> Generator[PreparedRequest, Union[Answered, BaseException, None], Answer]:
+    def steps(self, unit: Unit) -> Generator[PreparedRequest, Union[Answered, BaseException, None], Optional[Answer]]:
         """Yields the requests of a unit as they are sent, and is sent what each is answered, or the exception in place of
-        that. The value in the end is the answer to the last one, which is not reported yet.
+        that. The value in the end is the answer to the last one of a group, which is not reported before the commit: what
+        needs the group starts then. A request without a group is confirmed and reported here.
 
         Raises:
             GroupFailed: A request of a group has not succeeded, or the body of the last one cannot be written.
             Refused: Nothing more may start.
         """
+        if unit.group is None and not self.confirm(unit):
+            return None
         for request_id in unit.ids:
             if unit.open != request_id:
                 self._run.start(request_id)
                 unit.open = request_id
             try:
-                answered = yield self._resolver.prepare(request_id)
+                prepared, unit.prepared = unit.prepared, None
+                answered = yield prepared or self._resolver.prepare(request_id)
                 if isinstance(answered, BaseException):
                     answer = answer_for(answered, f"the request {request_id}")
                 else:
                     answer = validate_answer(answered)
             except Exception as error:
                 answer = answer_for(error, f"the request {request_id}")
-            if unit.group is not None:
+            if unit.group is None:
+                self.finish(unit, answer)
+            else:
                 self._report_member(unit, answer)
-        return answer
+        return None if unit.group is None else answer
 
     def _report_member(self, unit: Unit, answer: Answer) -> None:
         """Reports the open request of a group; the last one only if it fails, since it is reported after the commit."""
@@ -321,10 +342,11 @@ class Execution:
     def _report(self, request_id: str, answer: Answer) -> Report:
         """Reports the answer to a request; returns the event."""
         answer, text = self._write_body(request_id, answer)
-        self._resolver.record(request_id, answer)
+        if request_id in self._resolver.referred:
+            self._resolver.record(request_id, answer)
         # Before the report, after which another thread may begin what it allows.
         self._has_failed = self._has_failed or (self._mode == "stop" and answer.status >= 400)
-        headers = visible_headers(answer)
+        headers = {name: value for name, value in answer.headers.items() if name not in _NOT_SHOWN}
         try:
             self._run.report(request_id, answer.status, headers or None, text)
         except Fault:
@@ -361,6 +383,13 @@ class Execution:
             RuntimeError: The answer to a request could not be reported. It is not a Fault, which would be one of the
             batch.
         """
-        if not self._run.finished:
-            raise RuntimeError("a request was started, and its answer could not be reported")
-        return self._run.response()
+        try:
+            return self._run.response()
+        except Fault:
+            raise RuntimeError("a request was started, and its answer could not be reported") from None
+
+
+def require_limit(limit: int) -> None:
+    """Raises ValueError if no batch may have as many requests."""
+    if isinstance(limit, bool) or not isinstance(limit, int) or limit < 1:
+        raise ValueError(f"limit must be a whole number above 0, not {limit!r}")

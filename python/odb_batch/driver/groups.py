@@ -6,7 +6,7 @@ from typing import Mapping
 
 from ..documents.requests import Request
 from ..http.batches import batch_json, request_json, response_members
-from ..http.bodies import is_json, media_type
+from ..http.bodies import is_json
 from ..http.messages import Answer, Answered, Refusal, header_dict, validate_answer
 from ..values import Value
 
@@ -89,7 +89,6 @@ def _responses(text: str) -> dict[str, Answer]:
         body = texts.get("body", "null")
         answer = Answer(json.loads(texts["status"]), headers)
         if body != "null":
-            kept = is_json(media_type(headers))
-            answer = Answer(answer.status, headers, body.encode() if kept else json.loads(body))
+            answer = Answer(answer.status, headers, body.encode() if is_json(headers) else json.loads(body))
         found[request_id] = validate_answer(answer)
     return found

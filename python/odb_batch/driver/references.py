@@ -141,15 +141,17 @@ class ReferenceResolver:
 
     Args:
         requests: The requests of the batch.
-        service: Where they may lead.
+        base, roots: Where they may lead; see :class:`ServiceUrls`.
+
+    Attributes:
+        referred: The ids of the requests to which others refer.
     """
 
-    def __init__(self, requests: Iterable[Request], service: ServiceUrls) -> None:
+    def __init__(self, requests: Iterable[Request], base: str = "", roots: Optional[Sequence[str]] = None) -> None:
         self._requests = {request.id: request for request in requests}
-        self._service = service
+        self._service = ServiceUrls(base, roots)
         self._urls: dict[str, str] = {}
-        # Of the others no answer is kept.
-        self._referred = {request_id for request in self._requests.values() for request_id in self._references(request)}
+        self.referred = {request_id for request in self._requests.values() for request_id in self._references(request)}
         self._answers: dict[str, Answer] = {}
         # What was read in them, since bodies may be long and referred to often.
         self._locations: dict[str, tuple[Optional[str], Optional[str]]] = {}
@@ -163,16 +165,12 @@ class ReferenceResolver:
             if value.startswith("$") and value[1:] in self._requests:
                 yield value[1:]
 
-    def record(self, request_id: str, answer: Answer) -> bool:
-        """Keeps what a request was answered, if others refer to it, and its URL, if it was not sent from here. Returns
-        whether others do."""
-        if request_id not in self._referred:
-            return False
+    def record(self, request_id: str, answer: Answer) -> None:
+        """Keeps what a request was answered to which others refer, and its URL, if it was not sent from here."""
         self._answers[request_id] = answer
         if answer.is_success:
             with contextlib.suppress(Refusal):
                 self.url(request_id)
-        return True
 
     def prepare(self, request_id: str) -> PreparedRequest:
         """Returns a request as it is sent.

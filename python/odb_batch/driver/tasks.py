@@ -3,32 +3,16 @@
 import asyncio
 import contextlib
 import functools
-import sys
-from typing import (
-    Any, AsyncContextManager, AsyncIterator, Awaitable, Callable, ContextManager, NamedTuple, Optional, Sequence,
-    TypeVar, Union,
-)  # fmt: skip
+from typing import Any, AsyncContextManager, AsyncIterator, Callable, ContextManager, Optional, Sequence, Union
 
 from .._native.calls import Mode
 from ..documents.encoding import Document, document_bytes
-from ..http.messages import Answer, Answered, PreparedRequest, Refusal, answer_for
-from .execution import Execution, Unit
-from .groups import MemberRefused, PreparedGroup
+from .execution import Execution
 from .journal import Journal
-from .references import ServiceUrls
-from .waits import Deadline, Places, Watch, uncancel
+from .waits import Deadline, Gate, SendAsync, SendGroup, UnitOptions, perform_units
 
-#: Sends a request, and returns what it is answered.
-SendAsync = Callable[[PreparedRequest], Awaitable[Answered]]
-#: Sends a group as one, and returns what each of its requests is answered, in order.
-SendGroup = Callable[[PreparedGroup], Awaitable[Sequence[Answered]]]
-#: Returns the place that a request or a group, which is sent as one, has to have while it is on its way.
-Gate = Callable[[Union[PreparedRequest, PreparedGroup]], AsyncContextManager[Any]]
 #: Opens the transaction of a group, by its name; see :data:`odb_batch.Transaction`.
 TransactionAsync = Callable[[str], Union[AsyncContextManager[Any], ContextManager[Any]]]
-
-_Sent = TypeVar("_Sent")
-_Result = TypeVar("_Result")
 
 # A document with more bytes is read in a thread, so that the loop goes on meanwhile.
 _LONG = 65_536
@@ -116,246 +100,25 @@ async def perform_async(
         width=width,
         limit=limit,
         has_transactions=transaction is not None,
-        service=ServiceUrls(base, roots),
+        base=base,
+        roots=roots,
         stop=stop if deadline is None else lambda: ends.is_over or (stop is not None and stop()),
         sends_groups=groups is not None,
         journal=journal,
     )
     is_long = len(document) > _LONG
     loop = asyncio.get_running_loop()
-    opened = await loop.run_in_executor(None, open_execution) if is_long else open_execution()
-    with opened as execution, Watch() as watch:
-        options = _Options(send, transaction, timeout, ends, watch, gate, groups, journal)
-        await _Tasks(execution, width, options).run()
-        if journal is not None:
-            await journal.sync()
+    execution = await loop.run_in_executor(None, open_execution) if is_long else open_execution()
+    with contextlib.closing(execution):
+        opened = None if transaction is None else functools.partial(_asynchronous, transaction)
+        await perform_units(execution, width, UnitOptions(send, opened, timeout, ends, gate, groups, journal))
         return execution.response()
 
 
-class _Options(NamedTuple):
-    """How units are performed."""
-
-    send: SendAsync
-    transaction: Optional[TransactionAsync]
-    timeout: Optional[float]
-    ends: Deadline
-    watch: Watch
-    gate: Union[None, AsyncContextManager[Any], Gate]
-    groups: Optional[SendGroup]
-    journal: Optional[Journal]
-
-
-class _Tasks:
-    """The units of a batch that are out, each in a task.
-
-    Attributes:
-        is_cancelled: Whether the batch is cancelled, and with it what is out.
-    """
-
-    def __init__(self, execution: Execution, width: int, options: _Options) -> None:
-        self._execution, self._width, self._options = execution, width, options
-        self._out: "set[asyncio.Task[None]]" = set()
-        # Those that wait for a place.
-        self._waiting: "set[asyncio.Task[Any]]" = set()
-        self._finished: "asyncio.Future[None]" = asyncio.get_running_loop().create_future()
-        self.is_cancelled = False
-
-    async def run(self) -> None:
-        """Performs all units; raises what a unit ends by, if that is not reported."""
-        at = self._options.ends.at
-        timer = None if at is None else asyncio.get_running_loop().call_at(at, self._expire)
-        try:
-            for unit in self._execution.resumed:
-                self._start(unit)
-            self._begin_units()
-            await self._finished
-        finally:
-            if timer is not None:
-                timer.cancel()
-            self.is_cancelled = True
-            for task in self._out:
-                task.cancel()
-            await self._wait_for_out()
-
-    async def _wait_for_out(self) -> None:
-        """Waits for what is out, however often this is cancelled meanwhile: a transaction is rolled back by its end."""
-        cancelled: Optional[asyncio.CancelledError] = None
-        while self._out:
-            self._execution.stop()
-            try:
-                await asyncio.wait(self._out)
-            except asyncio.CancelledError as error:
-                cancelled = error
-        if cancelled is not None:
-            raise cancelled
-
-    def _expire(self) -> None:
-        """Has what waits for a place wait no longer: the deadline has passed."""
-        self._options.ends.is_over = True
-        for task in self._waiting:
-            task.cancel()
-
-    def _begin_units(self) -> None:
-        """Begins what may begin now."""
-        while len(self._out) < self._width and (unit := self._execution.begin()) is not None:
-            self._start(unit)
-        if not self._out:
-            self._finished.set_result(None)
-
-    def _start(self, unit: Unit) -> None:
-        task = asyncio.ensure_future(self._perform(unit))
-        self._out.add(task)
-        task.add_done_callback(self._on_end)
-
-    def _on_end(self, task: "asyncio.Task[None]") -> None:
-        """Goes on after the end of a task."""
-        self._out.discard(task)
-        error = asyncio.CancelledError() if task.cancelled() else task.exception()
-        if self._finished.done():
-            return
-        try:
-            if error is not None:
-                raise error
-            self._begin_units()
-        except asyncio.CancelledError:
-            self._finished.cancel()
-        except BaseException as raised:
-            self._finished.set_exception(raised)
-
-    async def _perform(self, unit: Unit) -> None:
-        gate = self._options.gate
-        if gate is None:
-            if self._execution.confirm(unit):
-                await self._perform_unit(unit)
-            return
-        if isinstance(gate, Places) and gate.take():  # most have one at once
-            try:
-                if self._execution.confirm(unit):
-                    await self._perform_unit(unit)
-                return
-            finally:
-                gate.leave()
-        place, refused = await self._take_place(unit, gate)
-        try:
-            if not self._execution.confirm(unit):
-                return
-            if refused is not None:
-                return self._execution.refuse(unit, refused)
-            await self._perform_unit(unit)
-        finally:
-            if place is not None:
-                await place.__aexit__(*sys.exc_info())
-
-    async def _take_place(
-        self, unit: Unit, gate: Union[AsyncContextManager[Any], Gate]
-    ) -> tuple[Optional[AsyncContextManager[Any]], Optional[Answer]]:
-        """Waits for the place of a unit; returns it, or what the unit is answered without it. One that cannot be sent has
-        neither."""
-        task = asyncio.current_task()
-        assert task is not None
-        try:
-            if callable(gate):
-                outgoing = self._outgoing(unit)
-                if outgoing is None:
-                    return None, None
-                gate = gate(outgoing)
-            self._waiting.add(task)
-            await gate.__aenter__()
-            return gate, None
-        except asyncio.CancelledError as error:
-            if self._options.ends.is_over and not self.is_cancelled:
-                uncancel(task)
-            if self._is_to_end():
-                raise
-            return None, answer_for(error, str(unit))
-        except Exception as error:
-            return None, answer_for(error, str(unit))
-        finally:
-            self._waiting.discard(task)
-
-    def _outgoing(self, unit: Unit) -> Union[PreparedRequest, PreparedGroup, None]:
-        """Returns what of a unit is sent first, or None if that cannot be sent."""
-        try:
-            is_one = unit.group is not None and self._options.groups is not None
-            return self._execution.prepare_group(unit) if is_one else self._execution.prepare(unit)
-        except (MemberRefused, Refusal):
-            return None
-
-    async def _perform_unit(self, unit: Unit) -> None:
-        """Performs a unit, as that of threads does."""
-        transaction = self._options.transaction
-        if self._options.journal is not None and not self._execution.may_be_sent_again(unit.ids[0]):
-            await self._options.journal.sync()
-        if unit.group is not None and self._options.groups is not None:
-            return self._execution.finish_group(unit, await self._send_group(unit, self._options.groups))
-        answer: Optional[Answer] = None
-        try:
-            if unit.group is None or transaction is None:
-                answer = await self._send_requests(unit)
-            else:
-                async with _asynchronous(transaction(unit.group)):
-                    answer = await self._send_requests(unit)
-        except asyncio.CancelledError as error:
-            if self._is_to_end():
-                raise
-            answer = self._execution.failure_answer(unit, error)
-        except Exception as error:
-            answer = self._execution.failure_answer(unit, error)
-        self._execution.finish(unit, answer)
-
-    async def _send_group(self, unit: Unit, send: SendGroup) -> Union[Sequence[Answered], BaseException]:
-        """Sends a group as one."""
-        try:
-            group = self._execution.prepare_group(unit)
-        except MemberRefused as refused:
-            return refused
-        return await self._answered(send, group)
-
-    def _is_to_end(self) -> bool:
-        """Whether the running task is cancelled, not something that it waited for."""
-        return self.is_cancelled or _is_cancelling()
-
-    async def _send_requests(self, unit: Unit) -> Answer:
-        """Takes the steps of a unit, as that of threads does."""
-        steps = self._execution.steps(unit)
-        answered: Union[Answered, BaseException, None] = None
-        try:
-            while True:
-                answered = await self._answered(self._options.send, steps.send(answered))
-        except StopIteration as end:
-            answer: Answer = end.value
-            return answer
-
-    async def _answered(
-        self, send: Callable[[_Sent], Awaitable[_Result]], sent: _Sent
-    ) -> Union[_Result, BaseException]:
-        """Sends a request or a group; returns what that is answered, or the exception in place of an answer."""
-        watch, task = self._options.watch, None
-        try:
-            end = self._options.ends.end(self._options.timeout)
-            task = None if end is None else watch.begin(end)
-            return await send(sent)
-        except asyncio.CancelledError as error:
-            is_late = task is not None and watch.end(task)
-            if self._is_to_end():
-                raise
-            # Else it is something else that is cancelled: an answer like any other exception.
-            return asyncio.TimeoutError() if is_late else error
-        except Exception as error:
-            return error
-        finally:
-            if task is not None:
-                watch.end(task)
-
-
-def _is_cancelling() -> bool:
-    """Whether somebody has cancelled the running task; until Python 3.11 nobody can say."""
-    task = asyncio.current_task()
-    return bool(task is not None and getattr(task, "cancelling", int)())
-
-
 @contextlib.asynccontextmanager
-async def _asynchronous(manager: Any) -> AsyncIterator[None]:
+async def _asynchronous(transaction: TransactionAsync, group: str) -> AsyncIterator[None]:
+    """Opens the transaction of a group, whether it is asynchronous or not."""
+    manager: Any = transaction(group)
     if hasattr(manager, "__aenter__"):
         async with manager:
             yield

@@ -1,5 +1,6 @@
 """Performs batches by a function that sends one request, in threads."""
 
+import contextlib
 from concurrent.futures import Executor, Future, ThreadPoolExecutor, wait
 from contextvars import copy_context
 from queue import SimpleQueue
@@ -7,10 +8,9 @@ from time import monotonic
 from typing import Any, Callable, ContextManager, Optional, Sequence, Union
 
 from .._native.calls import Mode
-from ..documents.encoding import Document
+from ..documents.encoding import Document, document_bytes
 from ..http.messages import Answer, Answered, PreparedRequest
 from .execution import Execution, Unit
-from .references import ServiceUrls
 
 #: Sends a request, and returns what it is answered.
 Send = Callable[[PreparedRequest], Answered]
@@ -83,18 +83,20 @@ def perform(
         ValueError: An option has a value that it may not have.
         MemoryError: An allocation failed.
     """
-    with Execution(
-        batch,
+    execution = Execution(
+        document_bytes(batch),
         mode=mode,
         width=width,
         limit=limit,
         has_transactions=transaction is not None,
-        service=ServiceUrls(base, roots),
+        base=base,
+        roots=roots,
         stop=stop if deadline is None else _stop_at(deadline, stop),
-    ) as execution:
+    )
+    with contextlib.closing(execution):
         if width == 1:
-            while (unit := execution.begin()) is not None:
-                _perform_unit(execution, unit, send, transaction)
+            while units := execution.begin(1):
+                _perform_unit(execution, units[0], send, transaction)
         elif pool is not None:
             _perform_in(pool, execution, width, send, transaction)
         else:
@@ -116,7 +118,7 @@ def _perform_in(pool: Executor, execution: Execution, width: int, send: Send, tr
     out: "set[Future[None]]" = set()
     try:
         while True:
-            while len(out) < width and (unit := execution.begin()) is not None:
+            for unit in execution.begin(width - len(out)):
                 run: Callable[..., None] = copy_context().run
                 future = pool.submit(run, _perform_unit, execution, unit, send, transaction)
                 out.add(future)
@@ -134,24 +136,24 @@ def _perform_in(pool: Executor, execution: Execution, width: int, send: Send, tr
 
 
 def _perform_unit(execution: Execution, unit: Unit, send: Send, transaction: Optional[Transaction]) -> None:
-    """Performs a unit. The last request of a group is reported after its commit, so what needs the group starts then."""
+    """Performs a unit, unless nothing more starts since it has waited for a thread."""
+    if unit.group is None or transaction is None:
+        _send_requests(execution, unit, send)
+        return
     if not execution.confirm(unit):
-        return  # it has waited for a thread, and meanwhile nothing more starts
+        return
     answer: Optional[Answer] = None
     try:
-        if unit.group is None or transaction is None:
+        with transaction(unit.group):
+            # Assigned at the very end: where a manager swallows an exception, there is no answer.
             answer = _send_requests(execution, unit, send)
-        else:
-            with transaction(unit.group):
-                # Assigned at the very end: where a manager swallows an exception, there is no answer.
-                answer = _send_requests(execution, unit, send)
     except Exception as error:
         answer = execution.failure_answer(unit, error)
     execution.finish(unit, answer)
 
 
-def _send_requests(execution: Execution, unit: Unit, send: Send) -> Answer:
-    """Takes the steps of a unit, and returns what the last request is answered, which is not reported yet."""
+def _send_requests(execution: Execution, unit: Unit, send: Send) -> Optional[Answer]:
+    """Takes the steps of a unit, and returns in what they end."""
     steps = execution.steps(unit)
     answered: Union[Answered, Exception, None] = None
     try:
@@ -162,5 +164,5 @@ def _send_requests(execution: Execution, unit: Unit, send: Send) -> Answer:
             except Exception as error:
                 answered = error
     except StopIteration as end:
-        answer: Answer = end.value
+        answer: Optional[Answer] = end.value
         return answer

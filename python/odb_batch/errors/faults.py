@@ -1,10 +1,18 @@
 """Why a document is refused, or a start or a report of a live run."""
 
-from functools import cached_property
+import json
+import pkgutil
+from functools import cache, cached_property
 from typing import Callable, NamedTuple, Optional
 
-from .explanations import EXPLANATIONS
 from .findings import describe
+
+
+@cache
+def explanations() -> dict[str, str]:
+    """Returns what each fault and each cause means, by its code: tools/explanations.py makes the file of docs/faults.md."""
+    found: dict[str, str] = json.loads(pkgutil.get_data(__package__, "explanations.json") or b"{}")
+    return found
 
 
 class Position(NamedTuple):
@@ -39,7 +47,7 @@ class OdbError(Exception):
 
     @property
     def explanation(self) -> str:
-        return EXPLANATIONS.get(self.code, "")
+        return explanations().get(self.code, "")
 
 
 class Fault(OdbError, ValueError):
@@ -68,6 +76,11 @@ class Fault(OdbError, ValueError):
     def in_document(self, document: bytes, locate: Callable[[], Optional[Position]]) -> "Fault":
         """Notes the document that has the fault, and what looks up where; returns the fault itself."""
         self._document, self._locate = document, locate
+        return self
+
+    def of_builder(self) -> "Fault":
+        """Has its text name the request, not its position; returns the fault itself."""
+        self._is_of_builder = True
         return self
 
     def __str__(self) -> str:

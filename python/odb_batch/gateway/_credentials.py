@@ -20,7 +20,7 @@ def is_own(name: str) -> bool:
     return name in _OWN or name.startswith("x-forwarded-") or name in ("connection", "host")
 
 
-class Incoming:
+class ClientHeaders:
     """Reads the headers of the requests that carry batches.
 
     Args:
@@ -30,19 +30,19 @@ class Incoming:
     def __init__(self, known: Iterable[str]) -> None:
         self._lasting = _LASTING.union(known)
 
-    def headers(self, given: Iterable[Tuple[str, str]]) -> Dict[str, str]:
+    def read(self, given: Iterable[Tuple[str, str]]) -> Dict[str, str]:
         """Returns headers by their names in lower case, but for those of the connection (RFC 9110, section 7.6.1), and
         for what proxies say in another way than by X-Forwarded-For, -Host and -Proto, unless that is known."""
-        found = header_dict(given)
-        dropped = {name.strip().lower() for name in found.get("connection", "").split(",")}
-        return {name: value for name, value in found.items() if not self._is_dropped(name, dropped)}
+        headers = header_dict(given)
+        of_connection = {name.strip().lower() for name in headers.get("connection", "").split(",")}
+        return {name: value for name, value in headers.items() if not self._is_dropped(name, of_connection)}
 
-    def _is_dropped(self, name: str, dropped: "set[str]") -> bool:
+    def _is_dropped(self, name: str, of_connection: "set[str]") -> bool:
         if name in self._lasting:
             return False
         if name in _OWN or (name.startswith("x-forwarded-") and name not in _WRITTEN):
             return True
-        return name in dropped and not name.startswith(_LASTING_PREFIXES)
+        return name in of_connection and not name.startswith(_LASTING_PREFIXES)
 
 
 class Credentials:

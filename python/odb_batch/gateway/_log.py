@@ -19,10 +19,10 @@ _LOGGED = "".join(map(chr, range(0x21, 0x7F)))
 _TRACE = re.compile("[0-9a-f]{2}-([0-9a-f]{32})-[0-9a-f]{16}-[0-9a-f]{2}(-.*)?").fullmatch
 
 
-def trace_of(headers: Mapping[str, str]) -> str:
+def trace_id(headers: Mapping[str, str]) -> str:
     """Returns the id of the trace that a request belongs to (W3C Trace Context); empty if it names none."""
-    found = _TRACE(headers.get("traceparent", ""))
-    return found[1] if found else ""
+    match = _TRACE(headers.get("traceparent", ""))
+    return match[1] if match else ""
 
 
 def log_line(values: Dict[str, object], level: int = logging.INFO) -> None:
@@ -38,17 +38,17 @@ class _Formatter(logging.Formatter):
         self._is_json, self._worker = is_json, worker
 
     def format(self, record: logging.LogRecord) -> str:
-        began = time.strftime("%Y-%m-%dT%H:%M:%SZ", time.gmtime(record.created))
+        moment = time.strftime("%Y-%m-%dT%H:%M:%SZ", time.gmtime(record.created))
         given: object = record.msg
         own: Dict[str, object] = given if isinstance(given, dict) else {"level": record.levelname.lower()}
         values = {**own, **BATCH.get(), "worker": self._worker, **own}
         values = {name: value for name, value in values.items() if value != ""}
         message = "" if own is given else super().format(record)
         if self._is_json:
-            values = {"time": began, **values, **({"message": message} if message else {})}
+            values = {"time": moment, **values, **({"message": message} if message else {})}
             return json.dumps(values, default=str)
         words = (f"{name}={quote(str(value), _LOGGED, errors='surrogateescape')}" for name, value in values.items())
-        return " ".join(filter(None, (began, *words, message)))
+        return " ".join(filter(None, (moment, *words, message)))
 
 
 def log_to_stderr(lines: str, is_json: bool = False, worker: object = "") -> None:
@@ -62,5 +62,6 @@ def log_to_stderr(lines: str, is_json: bool = False, worker: object = "") -> Non
     handler = logging.StreamHandler()
     handler.setFormatter(_Formatter(is_json, worker))
     root = logging.getLogger()
-    root.handlers = [*(it for it in root.handlers if not isinstance(it.formatter, _Formatter)), handler]
+    others = [other for other in root.handlers if not isinstance(other.formatter, _Formatter)]
+    root.handlers = [*others, handler]
     LINES.setLevel({"none": logging.WARNING, "batches": logging.INFO, "requests": logging.DEBUG}[lines])

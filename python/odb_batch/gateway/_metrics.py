@@ -58,8 +58,8 @@ class Metrics(Counts):
         self._batch_seconds = Histogram("batch_seconds", "How long batches took.", **timed)
         self._request_seconds = Histogram("request_seconds", "How long services took, by route.", ["route"], **timed)
         self._waiting = Gauge("requests_waiting", "Requests that wait for a connection.", ["service"], **of_all)
-        for name, help, value in self._gauges(options, budget):
-            Gauge(name, help, **of_all).set_function(value)
+        for name, explanation, value in self._gauges(options, budget):
+            Gauge(name, explanation, **of_all).set_function(value)
         ProcessCollector(registry=self._registry)
         PlatformCollector(registry=self._registry)
 
@@ -87,7 +87,7 @@ class Metrics(Counts):
         self._waiting.labels(service).set_function(lambda: places.waiting)
 
     def watch_journals(self, journals: Journals) -> None:
-        self._registry.register(_OfJournals(journals))
+        self._registry.register(_JournalCollector(journals))
 
     def page(self) -> Tuple[str, bytes]:
         """Returns all of it as Prometheus reads it: the media type, and the text."""
@@ -96,7 +96,7 @@ class Metrics(Counts):
         return CONTENT_TYPE_LATEST, generate_latest(self._registry)
 
 
-class _OfJournals:
+class _JournalCollector:
     """What is counted of journals."""
 
     def __init__(self, journals: Journals) -> None:
@@ -105,6 +105,6 @@ class _OfJournals:
     def collect(self) -> Iterator[Any]:
         from prometheus_client.core import CounterMetricFamily, GaugeMetricFamily
 
-        for name, help, value in self._journals.metrics():
+        for name, explanation, value in self._journals.metrics():
             family: Any = CounterMetricFamily if name.endswith("_total") else GaugeMetricFamily
-            yield family(f"odb_gateway_{name}", help, value)
+            yield family(f"odb_gateway_{name}", explanation, value)

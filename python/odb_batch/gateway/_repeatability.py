@@ -12,12 +12,12 @@ ID, FIRST_SENT = "repeatability-request-id", "repeatability-first-sent"
 AHEAD = 300.0
 
 
-def rejected(status: int, code: str, message: str) -> Refusal:
+def rejection(status: int, code: str, message: str) -> Refusal:
     """Returns the refusal of a batch because of the headers by which it may be sent again."""
     return Refusal(status, code, message, repeatability_result="rejected")
 
 
-def seconds_of(date: str) -> Optional[float]:
+def http_date_seconds(date: str) -> Optional[float]:
     """Returns the seconds since 1970 of an IMF-fixdate (RFC 9110, section 5.6.7); None if it is not one."""
     try:
         moment = parsedate_to_datetime(date)
@@ -49,43 +49,43 @@ class Repeatability:
     def __init__(self, options: Options, now: Callable[[], float] = time.time) -> None:
         self._options, self._now = options, now
 
-    def of(self, headers: Mapping[str, str]) -> Optional[Repeatable]:
+    def read(self, headers: Mapping[str, str]) -> Optional[Repeatable]:
         """Returns what the headers of a batch say; None if they do not ask for it.
 
         Raises:
             Refusal: There is no journal (501). The id, the date or the client is missing or none (400). The batch would
                 not be kept any more, so it may have been performed (412).
         """
-        id, date = headers.get(ID), headers.get(FIRST_SENT)
-        if id is None and date is None:
+        request_id, date = headers.get(ID), headers.get(FIRST_SENT)
+        if request_id is None and date is None:
             return None
-        if not id:
-            raise rejected(400, "BadRepeatability", "Repeatability-First-Sent needs a Repeatability-Request-ID")
+        if not request_id:
+            raise rejection(400, "BadRepeatability", "Repeatability-First-Sent needs a Repeatability-Request-ID")
         if not self._options.journal:
-            raise rejected(501, "NotRepeatable", "There is no journal here, so a batch cannot be repeated")
+            raise rejection(501, "NotRepeatable", "There is no journal here, so a batch cannot be repeated")
         self._require_kept(date or "")
         client = self._client(headers).encode()
-        return Repeatable(b"%d:%s%s" % (len(client), client, id.encode()), date or "")
+        return Repeatable(b"%d:%s%s" % (len(client), client, request_id.encode()), date or "")
 
     def _require_kept(self, date: str) -> None:
-        moment = seconds_of(date)
+        moment = http_date_seconds(date)
         if moment is None:
             message = "Repeatability-First-Sent must be a date of HTTP, as Sun, 06 Nov 1994 08:49:37 GMT"
-            raise rejected(400, "BadFirstSent", message)
+            raise rejection(400, "BadFirstSent", message)
         age = self._now() - moment
         if age < -AHEAD:
-            raise rejected(400, "BadFirstSent", "Repeatability-First-Sent is in the future")
+            raise rejection(400, "BadFirstSent", "Repeatability-First-Sent is in the future")
         if age > self._options.keep:
-            raise rejected(412, "TooLate", "The batch was first sent so long ago that it may have been forgotten")
+            raise rejection(412, "TooLate", "The batch was first sent so long ago that it may have been forgotten")
 
     def _client(self, headers: Mapping[str, str]) -> str:
-        """Who sends a batch; the same for all if there is one client."""
+        """Returns who sends a batch; the same for all if there is one client."""
         name = self._options.client_header
         if not name:
             return ""
         value = headers.get(name, "")
         if not value:
-            raise rejected(400, "NoClient", f"The header {name}, which says who the client is, is missing")
+            raise rejection(400, "NoClient", f"The header {name}, which says who the client is, is missing")
         if name == "authorization" and value.partition(" ")[0].lower() != "basic":
-            raise rejected(400, "NoClient", "Authorization says who the client is only by Basic: a token is renewed")
+            raise rejection(400, "NoClient", "Authorization says who the client is only by Basic: a token is renewed")
         return value

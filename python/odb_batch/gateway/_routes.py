@@ -7,9 +7,10 @@ from urllib.parse import SplitResult, urljoin, urlsplit, urlunsplit
 from ..http.batch_request import batch_folder
 from ..http.messages import Refusal
 
-_ESCAPE = re.compile("%([0-9A-Fa-f]{2})")
+_ESCAPE = re.compile("%[0-9A-Fa-f]{2}")
 # What may be escaped in a path without another meaning (RFC 3986, section 2.4; OData URL Conventions 4.01, section 2).
-_PLAIN = frozenset("ABCDEFGHIJKLMNOPQRSTUVWXYZabcdefghijklmnopqrstuvwxyz0123456789-._~!$'()*+,:=@&")
+_PLAIN = "ABCDEFGHIJKLMNOPQRSTUVWXYZabcdefghijklmnopqrstuvwxyz0123456789-._~!$'()*+,:=@&"
+_UNESCAPED = {f"%{ord(character):02X}": character for character in _PLAIN}
 # The path of a batch, also with what some servers drop.
 _IS_BATCH = re.compile(r"/\$batch((;|%3B)[^/]*)?/*$").search
 # What may follow a prefix: the key of an entity, or a further segment.
@@ -17,9 +18,9 @@ _ENDS = ("", "/", "(")
 _PORTS = {"http": 80, "https": 443}
 
 
-def normalized(path: str) -> str:
+def normalize_path(path: str) -> str:
     """Returns a path in ASCII in which nothing is escaped that need not be, so that prefixes can be compared."""
-    return _ESCAPE.sub(lambda it: chr(int(it[1], 16)) if chr(int(it[1], 16)) in _PLAIN else it[0].upper(), path)
+    return _ESCAPE.sub(lambda escape: _UNESCAPED.get(escape[0].upper(), escape[0].upper()), path)
 
 
 class Route(NamedTuple):
@@ -61,11 +62,11 @@ class Routes:
     """Routes, of which the longest prefix counts."""
 
     def __init__(self, routes: Iterable[Route]) -> None:
-        self._routes = sorted(routes, key=lambda it: len(it.prefix), reverse=True)
+        self._routes = sorted(routes, key=lambda route: len(route.prefix), reverse=True)
         self._places: List[Tuple[str, str, Route]] = []
-        for route in sorted(self._routes, key=lambda it: len(it.upstream), reverse=True):
+        for route in sorted(self._routes, key=lambda route: len(route.upstream), reverse=True):
             parts = urlsplit(route.upstream)
-            self._places.append((_host(parts), normalized(parts.path), route))
+            self._places.append((_host(parts), normalize_path(parts.path), route))
 
     def target(self, url: str) -> Tuple[Route, str]:
         """Returns the route of a URL that clients see, and the URL that is sent.
@@ -74,7 +75,7 @@ class Routes:
             Refusal: No route takes it: 404 ``NoRoute``. It is that of a batch: 400 ``NestedBatch``.
         """
         parts = urlsplit(url)
-        path = normalized(parts.path)
+        path = normalize_path(parts.path)
         if _IS_BATCH(path):
             raise Refusal(400, "NestedBatch", "A batch has no batches")
         route = self._route(path)
@@ -84,7 +85,7 @@ class Routes:
         return route, route.upstream + path[len(route.prefix) :] + query
 
     def _route(self, path: str) -> Optional[Route]:
-        return next((it for it in self._routes if _takes(it.prefix, path)), None)
+        return next((route for route in self._routes if _takes(route.prefix, path)), None)
 
     def public(self, base: str, sent: str, place: str) -> str:
         """Returns the URL, as clients see it, of what a service calls by a URL; that itself if no route leads there.
@@ -100,7 +101,7 @@ class Routes:
             host = _host(found)
         except ValueError:
             return place
-        path = normalized(found.path)
+        path = normalize_path(found.path)
         if host == _host(seen):
             # A service that knows the host of the clients may know their paths, too.
             if self._route(path) is not None:

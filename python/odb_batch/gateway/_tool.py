@@ -2,7 +2,7 @@
 
 import asyncio
 import functools
-import importlib
+import importlib.util
 import logging
 import os
 import signal
@@ -11,7 +11,7 @@ import sys
 import threading
 import time
 from dataclasses import replace
-from typing import Optional, Sequence, Tuple
+from typing import Optional, Sequence
 
 from ..journals import THREADS, is_database
 from ._log import LINES, log_line, log_to_stderr
@@ -27,19 +27,17 @@ def main(words: Sequence[str]) -> int:
     """Does what the words of a command line ask; returns the exit status."""
     options = options_of(words)
     needed = {"aiohttp": True, "asyncpg": is_database(options.journal), "prometheus_client": options.metrics is not None}
-    for name in (name for name, is_needed in needed.items() if is_needed):
-        try:
-            importlib.import_module(name)
-        except ImportError:
+    for name, is_needed in needed.items():
+        if is_needed and importlib.util.find_spec(name) is None:
             print(f"error: {PROGRAM} needs {name}: pip install {name.replace('_', '-')}", file=sys.stderr)
             return UNUSABLE
     log_to_stderr(options.log, options.log_format == "json")
     if options.workers == 1:
         return _run(options)
     try:
-        options = _with_port(options)
+        options = _with_free_port(options)
     except OSError as error:
-        return _failed(error)
+        return _report(error)
     return Workers(options.workers, functools.partial(_run, options)).run()
 
 
@@ -50,26 +48,26 @@ def _run(options: Options, worker: Optional[Worker] = None) -> int:
     try:
         asyncio.run(_serve(options, worker))
     except OSError as error:
-        return _failed(error)
-    _leave_threads(0)
+        return _report(error)
+    _join_threads(0)
     return 0
 
 
-def _failed(error: OSError) -> int:
-    """Says why the gateway cannot run."""
+def _report(error: OSError) -> int:
+    """Writes why the gateway cannot run; returns the exit status."""
     place = f"{error.filename}: " if error.filename else ""
     print(f"error: {place}{error.strerror or error}", file=sys.stderr, flush=True)
     return UNUSABLE
 
 
-def _with_port(options: Options) -> Options:
-    """Options with a port at which nobody listens yet: several workers may do so, and would share it with others."""
+def _with_free_port(options: Options) -> Options:
+    """Returns options with a port at which nobody listens yet: several workers would share it with others."""
     host, port = options.listen
-    with socket.create_server((host, port), family=socket.AF_INET6 if ":" in host else socket.AF_INET) as found:
-        return replace(options, listen=Address(host, found.getsockname()[1]))
+    with socket.create_server((host, port), family=socket.AF_INET6 if ":" in host else socket.AF_INET) as listening:
+        return replace(options, listen=Address(host, listening.getsockname()[1]))
 
 
-def _leave_threads(status: int) -> None:
+def _join_threads(status: int) -> None:
     """Ends the process if a thread does not end, as one that waits for a device that hangs."""
     end = time.monotonic() + _THREAD_SECONDS
     threads = [thread for thread in threading.enumerate() if thread.name.startswith(THREADS)]
@@ -83,15 +81,14 @@ def _leave_threads(status: int) -> None:
 async def _serve(options: Options, worker: Optional[Worker] = None) -> None:
     from aiohttp import web
 
-    from ._application import Gateway, first_of
+    from ._application import Gateway, wait_for_first
 
     gateway = Gateway(options)
     apps = [(gateway.application(), options.listen)]
     if isinstance(options.metrics, Address):
-        apps.append((gateway.of_metrics(), options.metrics.of_worker(worker.number if worker else 1)))
-    logging.getLogger("aiohttp.server").addFilter(_without_bytes)
-    stopped, hurry = _signals() if worker is None else _orders(worker.orders)
-    runners = []
+        apps.append((gateway.metrics_application(), options.metrics.for_worker(worker.number if worker else 1)))
+    logging.getLogger("aiohttp.server").addFilter(_drop_bytes)
+    stop, runners = _Stop(worker), []
     try:
         for app, address in apps:
             # What is compressed is refused by its header: nothing is to be unpacked before.
@@ -102,18 +99,18 @@ async def _serve(options: Options, worker: Optional[Worker] = None) -> None:
             await web.TCPSite(
                 runner, address.host or None, address.port, shutdown_timeout=5, reuse_port=shared or None
             ).start()
-        _say_where(options, runners[0].addresses[0], worker)
+        _announce(options, runners[0].addresses[0], worker)
         if gateway.notice and (worker is None or worker.number == 1):
             LINES.info(gateway.notice)
-        await first_of(stopped.wait(), gateway.broken())
-        await gateway.stop(hurry)
+        await wait_for_first(stop.first.wait(), gateway.wait_until_broken())
+        await gateway.stop(stop.further)
     finally:
         for runner in runners:
             await runner.cleanup()
 
 
-def _say_where(options: Options, bound: Sequence[object], worker: Optional[Worker]) -> None:
-    """Says where the gateway listens, whatever else the log has."""
+def _announce(options: Options, bound: Sequence[object], worker: Optional[Worker]) -> None:
+    """Writes where the gateway listens, whatever else the log has."""
     host = options.listen.host or "localhost"
     url = f"http://{f'[{host}]' if ':' in host else host}:{bound[1]}"
     if options.log_format == "json":
@@ -122,7 +119,7 @@ def _say_where(options: Options, bound: Sequence[object], worker: Optional[Worke
         print(f"listening on {url}", file=sys.stderr, flush=True)
 
 
-def _without_bytes(record: logging.LogRecord) -> bool:
+def _drop_bytes(record: logging.LogRecord) -> bool:
     """Drops from the log what a request has that is not HTTP: it may be the header with a password."""
     from aiohttp.http import HttpProcessingError
 
@@ -132,33 +129,27 @@ def _without_bytes(record: logging.LogRecord) -> bool:
 
 
 class _Stop:
-    """What stops a gateway: the first signal, and one that hurries it."""
+    """What stops a gateway: SIGTERM and SIGINT, or each byte that a worker reads, and the end of these.
 
-    def __init__(self) -> None:
-        self.stopped, self.hurry = asyncio.Event(), asyncio.Event()
+    Attributes:
+        first, further: Set by the first of them, and by a further one, which hurries the gateway.
+    """
 
-    def came(self) -> None:
-        (self.hurry if self.stopped.is_set() else self.stopped).set()
-
-
-def _signals() -> Tuple[asyncio.Event, asyncio.Event]:
-    """What SIGTERM and SIGINT set: the first one, and a further one."""
-    stop = _Stop()
-    for number in (signal.SIGTERM, signal.SIGINT):
-        asyncio.get_running_loop().add_signal_handler(number, stop.came)
-    return stop.stopped, stop.hurry
-
-
-def _orders(file: int) -> Tuple[asyncio.Event, asyncio.Event]:
-    """What each byte of a pipe sets, as `_signals`; its end is the first one."""
-    stop, loop = _Stop(), asyncio.get_running_loop()
-
-    def read() -> None:
-        if not os.read(file, 1):
-            loop.remove_reader(file)
-            stop.stopped.set()
+    def __init__(self, worker: Optional[Worker]) -> None:
+        self.first, self.further = asyncio.Event(), asyncio.Event()
+        loop = asyncio.get_running_loop()
+        if worker is not None:
+            loop.add_reader(worker.orders, self._read, loop, worker.orders)
         else:
-            stop.came()
+            for number in (signal.SIGTERM, signal.SIGINT):
+                loop.add_signal_handler(number, self._note)
 
-    loop.add_reader(file, read)
-    return stop.stopped, stop.hurry
+    def _note(self) -> None:
+        (self.further if self.first.is_set() else self.first).set()
+
+    def _read(self, loop: asyncio.AbstractEventLoop, orders: int) -> None:
+        if os.read(orders, 1):
+            self._note()
+        else:
+            loop.remove_reader(orders)
+            self.first.set()

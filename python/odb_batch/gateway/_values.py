@@ -1,14 +1,17 @@
 """What the values of the gateway's options may be, each as argparse reads it."""
 
 import argparse
+import importlib
 import re
-from typing import Any, Callable, Dict, List, Mapping, NamedTuple, Tuple, Union
+from typing import Any, Callable, Dict, List, Mapping, NamedTuple, Tuple, Union, cast
 from urllib.parse import urlsplit
 
 from .._native.calls import MAX_WIDTH
 from ..driver.execution import MAX_BODY_BYTES
+from ..http.batch_request import is_of_connection
+from ..http.observation import OnRequest
 from ._credentials import is_own
-from ._routes import Route, normalized
+from ._routes import Route, normalize_path
 
 # What cannot say who a client is: it changes, or is about one batch or one connection.
 _SAYS_NOT_WHO = frozenset(
@@ -28,7 +31,7 @@ class Address(NamedTuple):
     def __str__(self) -> str:
         return f"{self.host}:{self.port}"
 
-    def of_worker(self, number: int) -> "Address":
+    def for_worker(self, number: int) -> "Address":
         """Returns where the worker of a number, from 1 on, listens: each at the port after that of the one before."""
         return self._replace(port=self.port + number - 1)
 
@@ -67,14 +70,14 @@ def route(text: str) -> Route:
         url += "/"
     if prefix.endswith("/") != url.endswith("/"):
         raise argparse.ArgumentTypeError(f"{text!r}: the prefix and the URL both end with /, or neither does")
-    return Route(normalized(prefix), url)
+    return Route(normalize_path(prefix), url)
 
 
 def upstream(text: str) -> Route:
     """Reads the root of a service, whose path is its prefix."""
     _require(_is_service(text), text, "a URL, such as http://localhost:8101/odata/")
     root = text if text.endswith("/") else text + "/"
-    return Route(normalized(urlsplit(root).path), root)
+    return Route(normalize_path(urlsplit(root).path), root)
 
 
 def address(text: str) -> Address:
@@ -106,17 +109,17 @@ def client(text: str) -> str:
     return name
 
 
-def sent(text: str) -> Tuple[str, str]:
+def credential_route(text: str) -> Tuple[str, str]:
     """Reads the name of a header with the prefix of a route."""
     name, _, prefix = text.partition("=")
     _require(re.fullmatch(r"/[!-~]*", prefix), text, "HEADER=PREFIX, such as Authorization=/odata/")
-    return header(name), normalized(prefix)
+    return header(name), normalize_path(prefix)
 
 
-def allowed(text: str) -> str:
+def inner_header(text: str) -> str:
     """Reads the name of a header that requests of a batch may have."""
     name = header(text)
-    if is_own(name) or name == "cookie":
+    if is_own(name) or is_of_connection(name) or name == "cookie":
         raise argparse.ArgumentTypeError(f"{text!r} is for proxies or the gateway to say")
     return name
 
@@ -124,6 +127,17 @@ def allowed(text: str) -> str:
 def metrics(text: str) -> Union[str, Address]:
     """Reads where metrics are answered: a path here, or an address."""
     return path(text) if text.startswith("/") else address(text)
+
+
+def hook(text: str) -> OnRequest:
+    """Reads the name of a function in a module."""
+    module, _, name = text.partition(":")
+    try:
+        function = getattr(importlib.import_module(module), name)
+    except Exception as error:
+        raise argparse.ArgumentTypeError(f"{text!r}: {type(error).__name__}: {error}") from None
+    _require(callable(function), text, "MODULE:NAME of a function, such as tracing:on_request")
+    return cast(OnRequest, function)
 
 
 def _whole(most: int) -> Callable[[str], int]:
@@ -152,19 +166,19 @@ _LIMITS: Mapping[str, Callable[[str], Any]] = {"timeout": seconds, "connections"
 _TLS = ("ca", "certificate", "key")
 
 
-def table(given: Mapping[str, Any]) -> Tuple[Route, List[Tuple[str, str]]]:
+def route_table(given: Mapping[str, Any]) -> Tuple[Route, List[Tuple[str, str]]]:
     """Reads a route of a file, which may have limits, credentials and TLS of its own; and which credentials it gets."""
     for name in given:
         if name not in ("url", "prefix", "send", *_LIMITS, *_TLS):
             raise argparse.ArgumentTypeError(f"{name} is not a member of a route")
     url, prefix = str(given.get("url", "")), given.get("prefix")
-    found = upstream(url) if prefix is None else route(f"{prefix}={url}")
+    plain = upstream(url) if prefix is None else route(f"{prefix}={url}")
     limits = {name: read(str(given[name])) for name, read in _LIMITS.items() if name in given}
     files: Dict[str, Any] = {name: str(given[name]) for name in _TLS if name in given}
     if files and not url.startswith("https:"):
-        raise argparse.ArgumentTypeError(f"{found.prefix}: {', '.join(files)}: only for https")
+        raise argparse.ArgumentTypeError(f"{plain.prefix}: {', '.join(files)}: only for https")
     if "key" in files and "certificate" not in files:
-        raise argparse.ArgumentTypeError(f"{found.prefix}: key without certificate")
+        raise argparse.ArgumentTypeError(f"{plain.prefix}: key without certificate")
     names = given.get("send", [])
-    sent = [(header(str(name)), found.prefix) for name in (names if isinstance(names, list) else [names])]
-    return found._replace(**limits, **files), sent
+    sent = [(header(str(name)), plain.prefix) for name in (names if isinstance(names, list) else [names])]
+    return plain._replace(**limits, **files), sent

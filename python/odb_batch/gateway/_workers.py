@@ -46,8 +46,8 @@ class Workers:
 
     def run(self) -> int:
         """Returns the exit status: 0, or that of a process that has failed at the end, or cannot run."""
-        for it in _STOPS:
-            signal.signal(it, self._stop)
+        for stop in _STOPS:
+            signal.signal(stop, self._stop)
         for number in range(1, self._count + 1):
             self._start(number)
         status = 0
@@ -86,10 +86,10 @@ class Workers:
             self._running[process] = number, orders
             signal.pthread_sigmask(signal.SIG_SETMASK, before)
             return
-        for other in (orders, *(it for _, it in self._running.values())):
+        for other in (orders, *(pipe for _, pipe in self._running.values())):
             os.close(other)
-        for it in _STOPS:
-            signal.signal(it, signal.SIG_IGN)
+        for stop in _STOPS:
+            signal.signal(stop, signal.SIG_IGN)
         signal.pthread_sigmask(signal.SIG_SETMASK, before)
         status = 1
         try:

@@ -11,12 +11,12 @@
 :class:`BodyBudget` bounds the bodies of the answers to one batch, and :class:`MemoryBudget` those of a process.
 """
 
-from .batch_request import BatchRequest, batch_folder, forwarded_hosts
+from .batch_request import BatchRequest, HeaderPolicy, Preference, batch_folder, forwarded_hosts, preferences
 from .budget import BodyBudget, BodyReader, MemoryBudget
-from .headers import HeaderPolicy, Preference, preferences
+from .observation import OnRequest
 from .responses import batch_response, error_response, length_refusal, wire_message
 
 __all__ = [
-    "BatchRequest", "BodyBudget", "BodyReader", "HeaderPolicy", "MemoryBudget", "Preference", "batch_folder", "batch_response",
-    "error_response", "forwarded_hosts", "length_refusal", "preferences", "wire_message",
+    "BatchRequest", "BodyBudget", "BodyReader", "HeaderPolicy", "MemoryBudget", "OnRequest", "Preference", "batch_folder",
+    "batch_response", "error_response", "forwarded_hosts", "length_refusal", "preferences", "wire_message",
 ]  # fmt: skip

@@ -76,7 +76,7 @@ def _headers(value: Any) -> dict[str, str]:
 
 def _wire(text: bytes, headers: dict[str, str]) -> bytes:
     """The bytes on the wire of a body; where it is not what its media type says, those of its JSON or its text."""
-    if is_json(media_type(headers)):
+    if is_json(headers):
         return text
     value = json.loads(text)
     if not isinstance(value, str):

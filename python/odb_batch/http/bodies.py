@@ -28,8 +28,9 @@ def charset(headers: Mapping[str, str]) -> str:
 _OF_HOSTS = frozenset({"idna", "punycode"})
 
 
-def is_json(kind: str) -> bool:
-    """Whether a body of a media type is JSON; so it is without a type."""
+def is_json(headers: Mapping[str, str]) -> bool:
+    """Returns whether the body of a message is JSON, by its media type; so it is without one."""
+    kind = media_type(headers)
     return kind in ("", "application/json") or kind.endswith("+json")
 
 
@@ -49,11 +50,10 @@ def to_wire(text: bytes, headers: Mapping[str, str]) -> bytes:
     Raises:
         Refusal: The character set of a text is unknown, or has not all of its characters: 400 ``BadCharset``.
     """
-    kind = media_type(headers)
-    if is_json(kind):
+    if is_json(headers):
         return text
     value: str = json.loads(text)
-    if not kind.startswith("text/"):
+    if not media_type(headers).startswith("text/"):
         digits = value.rstrip("=")
         return base64.urlsafe_b64decode(digits + "=" * (-len(digits) % 4))
     try:
@@ -74,12 +74,12 @@ def to_json(answer: Answer, headers: Mapping[str, str]) -> bytes:
     body = answer.body
     if not isinstance(body, (bytes, bytearray, memoryview)):
         return body_json(body)
-    wire, kind = bytes(body), media_type(headers)
+    wire = bytes(body)
     if not wire:
         return b""
-    if is_json(kind):
+    if is_json(headers):
         return wire[3:] if wire.startswith(b"\xef\xbb\xbf") else wire
-    if kind.startswith("text/"):
+    if media_type(headers).startswith("text/"):
         return text_json(wire, headers)
     return b'"%s"' % base64.urlsafe_b64encode(wire).rstrip(b"=")
 

@@ -113,13 +113,6 @@ def header_dict(pairs: Iterable[tuple[str, str]]) -> dict[str, str]:
 
 LOG = logging.getLogger("odb_batch")
 
-# Headers of an answer that speak of its connection, or have no place in JSON: Set-Cookie may come several times.
-_NOT_SHOWN = frozenset(
-    {
-        "connection", "content-encoding", "content-length", "date", "keep-alive", "proxy-authenticate", "server",
-        "set-cookie", "te", "trailer", "transfer-encoding", "upgrade",
-    }
-)  # fmt: skip
 # Until Python 3.11 these are different exceptions.
 TIMEOUTS = (TimeoutError, asyncio.TimeoutError, concurrent.futures.TimeoutError, socket.timeout)
 
@@ -132,9 +125,15 @@ TIMED_OUT = Refusal(504, "Timeout", "No answer came in time").answer
 
 def answer_for(error: BaseException, what: str) -> Answer:
     """Returns the answer that stands for an exception, and logs that; a Refusal has its own."""
+    if not isinstance(error, Refusal):
+        LOG.error("%s failed", what, exc_info=error)
+    return exception_answer(error)
+
+
+def exception_answer(error: Optional[BaseException]) -> Answer:
+    """Returns the answer that stands for an exception."""
     if isinstance(error, Refusal):
         return error.answer
-    LOG.error("%s failed", what, exc_info=error)
     if isinstance(error, TIMEOUTS):
         return TIMED_OUT
     return BROKEN if isinstance(error, ConnectionError) else FAILED
@@ -184,8 +183,3 @@ def _is_unicode(text: str) -> bool:
     except UnicodeEncodeError:
         return False
     return True
-
-
-def visible_headers(answer: Answer) -> dict[str, str]:
-    """Returns the headers of an answer that the response of the batch shows."""
-    return {name: value for name, value in answer.headers.items() if name not in _NOT_SHOWN}

@@ -1,8 +1,8 @@
 """The options that middlewares have in common, as they are checked."""
 
-from typing import Optional
+from typing import Iterable, Optional
 
-from .batch_request import batch_folder
+from .batch_request import batch_folder, is_of_connection
 
 
 def require_seconds(name: str, seconds: Optional[float]) -> Optional[float]:
@@ -21,7 +21,9 @@ def root_path(root: Optional[str], path: str) -> str:
     return batch_folder(path) if root is None else root
 
 
-def require_limit(limit: int) -> None:
-    """Raises ValueError if no batch may have as many requests."""
-    if isinstance(limit, bool) or not isinstance(limit, int) or limit < 1:
-        raise ValueError(f"limit must be a whole number above 0, not {limit!r}")
+def allowed_names(names: Iterable[str]) -> tuple[str, ...]:
+    """Returns the names of the headers that an option allows, in lower case; raises ValueError if no request may have one."""
+    found = tuple(map(str.lower, names))
+    for name in filter(is_of_connection, found):
+        raise ValueError(f"allowed: no request of a batch may have the header {name}")
+    return found

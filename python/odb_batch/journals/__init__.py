@@ -10,17 +10,14 @@
 See docs/gateway.md. :class:`Store` says what a store needs, and :mod:`odb_batch.journals.testing` tests it.
 """
 
-import os
-from typing import Optional
-
+from ._encoding import digest, identity
 from ._journal import StoreJournal
 from ._journals import Journals
-from ._lines import digest, identity
-from ._sqlite import SqliteStore
-from ._stores import NOBODY, THREADS, Found, Hold, Late, Lease, Mark, Part, Store
+from ._sqlite import MOST_BYTES, SqliteStore
+from ._stores import NOBODY, THREADS, Hold, Late, Lease, Mark, Part, Store
 
 __all__ = [
-    "NOBODY", "THREADS", "Found", "Hold", "Journals", "Late", "Lease", "Mark", "Part", "SqliteStore", "Store", "StoreJournal",
+    "NOBODY", "THREADS", "Hold", "Journals", "Late", "Lease", "Mark", "Part", "SqliteStore", "Store", "StoreJournal",
     "digest", "identity", "store_of",
 ]  # fmt: skip
 
@@ -32,7 +29,7 @@ def is_database(place: str) -> bool:
     return place.startswith(_SCHEMES)
 
 
-def store_of(place: str, lease: float = 15.0, most: Optional[int] = None) -> Store:
+def store_of(place: str, lease: float = 15.0, most: int = MOST_BYTES) -> Store:
     """Returns the store at a place.
 
     Args:
@@ -47,4 +44,4 @@ def store_of(place: str, lease: float = 15.0, most: Optional[int] = None) -> Sto
         from ._postgresql import PostgresqlStore
 
         return PostgresqlStore(place, lease)
-    return SqliteStore(os.fspath(place)) if most is None else SqliteStore(os.fspath(place), most)
+    return SqliteStore(place, most)

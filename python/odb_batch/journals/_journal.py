@@ -7,8 +7,8 @@ from typing import TYPE_CHECKING, List, Optional, Sequence, Set
 from ..documents.encoding import Report
 from ..driver.journal import JournalEvent, ReportUnit, StartUnit, Stop
 from ..http.messages import Refusal
-from ._lines import chunks_of, events_of
-from ._stores import NOBODY, Found, Late, Mark, Part, clock
+from ._encoding import decode_events, encode_event
+from ._stores import NOBODY, Late, Mark, Part, clock
 
 if TYPE_CHECKING:
     from ._journals import Journals
@@ -32,52 +32,54 @@ class StoreJournal:
         events: What has happened before.
         has_kept: Whether something was kept since it was opened. Before that nothing was sent but GETs.
         size: How many bytes wait for a sync.
-        turn: What the append that has begun, or is waited for, ends with; None if there is none.
+        failure: Why nothing more is appended: another one has the batch, or it is not known what was kept.
+        append: The end of the append that has begun, or is waited for; None if there is none.
     """
 
-    def __init__(self, owner: "Journals", batch: bytes, first: bytes, found: Sequence[Found]) -> None:
-        self._owner, self.batch, self.events = owner, batch, _events(first, found)
-        self._number, self._after = len(found), found[-1].mark if found else NOBODY
-        self._chunks: List[bytes] = [] if found else [first]
+    def __init__(self, owner: "Journals", batch: bytes, first: bytes, parts: Sequence[Part]) -> None:
+        self._owner, self.batch, self.events = owner, batch, _decode_events(first, parts)
+        self._number, self._after = len(parts), parts[-1].mark if parts else NOBODY
+        self._chunks: List[bytes] = [] if parts else [first]
         self.size = sum(map(len, self._chunks))
         self._out: Set[str] = set()
         for event in self.events:
             self._note(event)
         self._was_out = frozenset(self._out)
-        self._written = self._kept = self._flying = 0
+        # How many events are written, kept, and in the append that has begun.
+        self._written = self._kept = self._appended = 0
         self._lease = self._next_lease = owner.store.lease
         self._mark: Mark = (self._lease.holder, next(owner.writers))
         self._is_open = self._is_left = self.has_kept = False
-        self._failure: Optional[Exception] = None
-        self._soon: Optional[asyncio.TimerHandle] = None
-        self.turn: "Optional[asyncio.Future[None]]" = None
+        self.failure: Optional[Exception] = None
+        self._timer: Optional[asyncio.TimerHandle] = None
+        self.append: "Optional[asyncio.Future[None]]" = None
 
     def write(self, event: JournalEvent) -> None:
         """Appends an event; raises what has failed before."""
         self._require()
-        chunks = chunks_of(event)
+        chunks = encode_event(event)
         self._chunks.extend(chunks)
         self.size += sum(map(len, chunks))
         self._written += 1
         self._note(event)
         if isinstance(event, Report):
             self._owner.lost += event.id in self._was_out and event.status == 500 and b'"Lost"' in (event.body or b"")
-        if isinstance(event, (Report, ReportUnit)) and self._out and self._soon is None:
+        if isinstance(event, (Report, ReportUnit)) and self._out and self._timer is None:
             with contextlib.suppress(RuntimeError):  # what is lost is written by another thread, and synced at once
-                self._soon = asyncio.get_running_loop().call_later(_SOON, self._keep_soon)
+                self._timer = asyncio.get_running_loop().call_later(_SOON, self._flush)
 
     def _note(self, event: JournalEvent) -> None:
         """Keeps which requests are out."""
         if isinstance(event, (Report, ReportUnit)):
             reports = event.reports if isinstance(event, ReportUnit) else (event,)
-            self._out.difference_update(it.id for it in reports)
+            self._out.difference_update(report.id for report in reports)
         elif not isinstance(event, Stop):
             self._out.update(event.ids if isinstance(event, StartUnit) else (event.id,))
 
-    def _keep_soon(self) -> None:
+    def _flush(self) -> None:
         """Keeps an answer that the process might else lose while the batch waits for another one."""
-        self._soon = None
-        if self._chunks and self._failure is None:
+        self._timer = None
+        if self._chunks and self.failure is None:
             self._owner.flush(self)
 
     async def sync(self) -> None:
@@ -88,16 +90,20 @@ class StoreJournal:
             OSError: It is not known whether they are kept, or the lease cannot be renewed.
         """
         wanted = self._written
-        while self._kept < wanted:
-            self._require()  # after a failure the same number must not have another text
-            await asyncio.shield(self._owner.flush(self))
+        await self._keep(wanted)
         self._require()
         if self._out:
-            await self._hold()
+            await self._wait_for_lease()
         elif not wanted and self._number:
             await self._owner.store.confirm()
 
-    async def _hold(self) -> None:
+    async def _keep(self, count: int) -> None:
+        """Returns once so many events are kept."""
+        while self._kept < count:
+            self._require()  # after a failure the same number must not have another text
+            await asyncio.shield(self._owner.flush(self))
+
+    async def _wait_for_lease(self) -> None:
         """Returns once nobody else goes on with the batch before the lease ends under which its last part is kept."""
         end = clock() + self._lease.seconds
         while self._lease.is_over:
@@ -115,63 +121,56 @@ class StoreJournal:
             raise Late
 
     def _require(self) -> None:
-        if self._failure is not None:
-            raise self._failure
+        if self.failure is not None:
+            raise self.failure
 
     # The append
 
     def next_part(self) -> Part:
-        """Returns what is written and not kept yet; `landed` says what has become of it."""
-        text, self._chunks, self.size, self._flying = b"".join(self._chunks), [], 0, self._written
+        """Returns what is written and not kept yet; `end_append` says what has become of it."""
+        text, self._chunks, self.size, self._appended = b"".join(self._chunks), [], 0, self._written
         self._next_lease = self._owner.store.lease
         self._mark = (self._next_lease.holder, self._mark[1])
         self._is_open = bool(self._out) and not self._is_left
         return Part(self.batch, self._number, self._mark, self._after, self._is_open, text)
 
-    def landed(self, error: Optional[Exception] = None) -> None:
+    def end_append(self, error: Optional[Exception]) -> None:
         """Notes that the part is kept; or why all that comes is refused: another one has the batch, or it is not known
         whether the part is kept, and the next one would have its number."""
-        self._failure = error
+        self.failure = error
         if error is None:
-            self._number, self._after, self._kept = self._number + 1, self._mark, self._flying
+            self._number, self._after, self._kept = self._number + 1, self._mark, self._appended
             # Not before: what was started under another lease may have been taken over.
             self._lease, self.has_kept = self._next_lease, True
-        turn, self.turn = self.turn, None
-        if turn is not None and not turn.done():
-            turn.set_result(None)
+        append, self.append = self.append, None
+        if append is not None and not append.done():
+            append.set_result(None)
 
     # The end
 
     def leave(self) -> bool:
         """Ends the journal; returns whether others have to be let on, as something is out or not kept."""
         self._is_left = True
-        if self._soon is not None:
-            self._soon.cancel()
-        if self._failure is not None:
-            return not isinstance(self._failure, Refusal)
+        if self._timer is not None:
+            self._timer.cancel()
+        if self.failure is not None:
+            return not isinstance(self.failure, Refusal)
         return self._is_open or bool(self._chunks and self._written)
-
-    @property
-    def has_failed(self) -> bool:
-        """Whether it is not known what was kept, or another one has the batch."""
-        return self._failure is not None
 
     async def end(self) -> None:
         """Keeps what is written, and that nothing is out any more; raises what has failed."""
         self._written += 1
-        while self._kept < self._written:
-            self._require()
-            await asyncio.shield(self._owner.flush(self))
+        await self._keep(self._written)
 
-    def has_written(self, part: Found) -> bool:
+    def has_written(self, part: Part) -> bool:
         """Returns whether a part is of this journal, also one that was not known to be kept."""
         return part.mark in (self._mark, self._after)
 
 
-def _events(first: bytes, found: Sequence[Found]) -> List[JournalEvent]:
-    """The events of a batch; raises Refusal if they are those of another one (422), or ValueError if damaged."""
+def _decode_events(first: bytes, parts: Sequence[Part]) -> List[JournalEvent]:
+    """Returns the events of a batch; raises Refusal if they are those of another one (422), or ValueError if damaged."""
     events: List[JournalEvent] = []
-    for number, part in enumerate(found):
+    for number, part in enumerate(parts):
         if part.number != number:
             raise ValueError("a part of the batch is missing")
         text = part.text
@@ -182,5 +181,5 @@ def _events(first: bytes, found: Sequence[Found]) -> List[JournalEvent]:
                 message = "The Repeatability-Request-ID is that of another batch"
                 raise Refusal(422, "AnotherBatch", message, repeatability_result="rejected")
             text = text[len(first) :]
-        events.extend(events_of(text))
+        events.extend(decode_events(text))
     return events

@@ -8,8 +8,8 @@ from typing import AsyncIterator, Awaitable, Callable, Coroutine, Deque, Iterato
 
 from ..http.messages import LOG, Refusal
 from ._journal import StoreJournal, in_progress
-from ._lines import digest
-from ._stores import Found, Hold, Part, Store, clock
+from ._encoding import digest
+from ._stores import Hold, Part, Store, clock
 
 # After so many bytes, or with so many parts, no further part is appended at once.
 _MOST_BYTES, _MOST_PARTS = 1_048_576, 256
@@ -69,7 +69,7 @@ class Journals:
         """Opens the store, or begins to wait for it if it cannot be reached; raises OSError if it cannot be used."""
         self.broken: "asyncio.Future[None]" = asyncio.get_running_loop().create_future()
         try:
-            await self._begin()
+            await self._start()
         except ConnectionError as error:
             LOG.error("the journal cannot be reached, and is waited for: %s", error)
             self._spawn(self._open_later(), self._tasks)
@@ -78,27 +78,27 @@ class Journals:
         while not self._is_open:
             await asyncio.sleep(_AGAIN)
             try:
-                await self._begin()
+                await self._start()
             except ConnectionError:
                 pass
             except OSError as error:
                 LOG.error("the journal cannot be used: %s", error)
                 return None if self.broken.done() else self.broken.set_exception(error)
 
-    async def _begin(self) -> None:
+    async def _start(self) -> None:
         await self.store.open()
         self._is_open = True
         self._short: "asyncio.Queue[StoreJournal]" = asyncio.Queue()
         self._long: "asyncio.Queue[StoreJournal]" = asyncio.Queue()
         for waiting in [self._long, *[self._short] * self.store.width]:
-            self._spawn(self._append_always(waiting), self._appends)
+            self._spawn(self._append_waiting(waiting), self._appends)
         often = min(max(_PRUNE_SECONDS, self._keep / _PRUNED_WHILE_KEPT), self._keep)
-        self._spawn(self._always(often, self.prune, "old journals cannot be removed"), self._tasks)
+        self._spawn(self._repeat(often, self.prune, "old journals cannot be removed"), self._tasks)
         lease = self.store.lease.seconds
         if lease < float("inf"):
-            self._spawn(self._always(lease / _RENEWALS, self.store.renew, "the lease is not renewed"), self._tasks)
+            self._spawn(self._repeat(lease / _RENEWALS, self.store.renew, "the lease is not renewed"), self._tasks)
 
-    async def _always(self, seconds: float, work: Callable[[], Awaitable[None]], failure: str) -> None:
+    async def _repeat(self, seconds: float, work: Callable[[], Awaitable[None]], failure: str) -> None:
         """Does something again and again."""
         while True:
             try:
@@ -145,29 +145,26 @@ class Journals:
         if batch in self._active:
             raise in_progress()
         self._active.add(batch)
-        is_left = False
-        try:
-            journal = StoreJournal(self, batch, first, await self._found(batch, hold))
+        with contextlib.ExitStack() as ends:
+            ends.callback(self._active.discard, batch)
+            journal = StoreJournal(self, batch, first, await self._read(batch, hold))
             try:
                 yield journal
             finally:
-                is_left = journal.leave()
-                if is_left:
+                if journal.leave():
+                    ends.pop_all()  # it is active until it is released
                     self._spawn(self._release(journal), self._releases)
-        finally:
-            if not is_left:
-                self._active.discard(batch)
 
-    async def _found(self, batch: bytes, hold: Hold) -> List[Found]:
+    async def _read(self, batch: bytes, hold: Hold) -> List[Part]:
         if not self._is_open:
             raise OSError("the journal was not reached yet")
-        found = await self.store.read(batch, hold)
-        if found and found[-1].is_open:
-            holder, _ = found[-1].mark
+        parts = await self.store.read(batch, hold)
+        if parts and parts[-1].is_open:
+            holder, _ = parts[-1].mark
             # What this process has open and does not perform any more was left open by a failure.
             if holder != self.store.lease.holder and not await self.store.is_over(holder):
                 raise in_progress()
-        return found
+        return parts
 
     async def _release(self, journal: StoreJournal) -> None:
         """Lets others go on with a batch that is left open: else they would wait for as long as the process lives."""
@@ -185,26 +182,26 @@ class Journals:
             self._active.add(journal.batch)
 
     async def _is_released(self, journal: StoreJournal) -> bool:
-        if not journal.has_failed:
+        if journal.failure is None:
             await journal.end()
             return True
-        found = await self.store.read(journal.batch, lambda size: None)
-        if not found or not found[-1].is_open or not journal.has_written(found[-1]):
+        parts = await self.store.read(journal.batch, lambda size: None)
+        if not parts or not parts[-1].is_open or not journal.has_written(parts[-1]):
             return True
-        mark = found[-1].mark
-        part = Part(journal.batch, len(found), (mark[0], next(self.writers)), mark, False, b"")
+        mark = parts[-1].mark
+        part = Part(journal.batch, len(parts), (mark[0], next(self.writers)), mark, False, b"")
         return bool(await self.store.append([part]))
 
     # Appending
 
     def flush(self, journal: StoreJournal) -> "asyncio.Future[None]":
         """Returns what the next append of a journal ends with, or the one that is on its way."""
-        if journal.turn is None:
-            journal.turn = asyncio.get_running_loop().create_future()
+        if journal.append is None:
+            journal.append = asyncio.get_running_loop().create_future()
             (self._long if journal.size > _LONG else self._short).put_nowait(journal)
-        return journal.turn
+        return journal.append
 
-    async def _append_always(self, waiting: "asyncio.Queue[StoreJournal]") -> None:
+    async def _append_waiting(self, waiting: "asyncio.Queue[StoreJournal]") -> None:
         """Appends what waits: what has come while others were on their way goes together."""
         while True:
             journals = [await waiting.get()]
@@ -216,20 +213,20 @@ class Journals:
             await self._append(journals)
 
     async def _append(self, journals: List[StoreJournal]) -> None:
-        parts, began = [it.next_part() for it in journals], clock()
+        parts, began = [journal.next_part() for journal in journals], clock()
         ends: List[Optional[Exception]] = [OSError("it was broken off")] * len(parts)
         try:
             kept = await self.store.append(parts)
-            ends = [None if it.batch in kept else in_progress() for it in journals]
+            ends = [None if part.batch in kept else in_progress() for part in parts]
             self.refused += len(parts) - len(kept)
         except Exception as error:
             ends = [error if isinstance(error, OSError) else OSError(f"{type(error).__name__}: {error}")] * len(parts)
         finally:
             self.appends, self.parts = self.appends + 1, self.parts + len(parts)
-            self.bytes += sum(len(it.text) for it in parts)
+            self.bytes += sum(len(part.text) for part in parts)
             self.seconds += clock() - began
             for journal, end in zip(journals, ends):
-                journal.landed(end)
+                journal.end_append(end)
 
     # Removing
 

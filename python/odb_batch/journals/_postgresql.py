@@ -12,7 +12,7 @@ from typing import Any, Callable, List, Optional, Sequence, Set
 import asyncpg
 
 from ..http.messages import LOG
-from ._stores import Found, Hold, Lease, Part, clock
+from ._stores import NOBODY, Hold, Lease, Part, clock
 
 _FORM = 1
 #: What docs/journal.sql has, for a role that may not make tables.
@@ -59,7 +59,7 @@ _OLD = """DELETE FROM odb_part WHERE batch IN (SELECT batch FROM odb_part AS a
 _OLD_LEASES = "DELETE FROM odb_gateway WHERE until < clock_timestamp() - interval '1 day'"
 _OPTIONS = {"application_name": "odb_batch", "synchronous_commit": "on", "jit": "off"}
 # How many connections all share but the renewals and the removals, and how long one may be idle in a transaction.
-_LINKS, _IDLE_MILLISECONDS = 4, "10000"
+_SHARED, _IDLE_MILLISECONDS = 4, "10000"
 # How fast a long text is sent at least, in bytes a second, and how long there is between two tries.
 _RATE, _BREAK = 1e6, 0.1
 _LOCK = 7283541
@@ -96,47 +96,48 @@ class PostgresqlStore:
 
     async def open(self) -> None:
         # A long removal must not keep the lease from its renewal.
-        self._beats, self._pruner, links = _Link(self), _Link(self), [_Link(self) for _ in range(_LINKS)]
-        self._all, self._free = [self._beats, self._pruner, *links], asyncio.LifoQueue()  # type: List[_Link], Any
-        for link in links:
-            self._free.put_nowait(link)
-        await self._pruner.done(_prepare)
-        await self._begin()
+        self._connections = [_Connection(self) for _ in range(_SHARED + 2)]
+        self._renewer, self._pruner, *shared = self._connections
+        self._free: "asyncio.LifoQueue[_Connection]" = asyncio.LifoQueue()
+        for connection in shared:
+            self._free.put_nowait(connection)
+        await self._pruner.run(_prepare)
+        await self._begin_lease()
 
     async def _rows(self, words: str, *given: Any, size: int = 0) -> List[Any]:
-        """The rows of a statement, over the next free connection."""
-        link: _Link = await self._free.get()
+        """Returns the rows of a statement, over the next free connection."""
+        connection: _Connection = await self._free.get()
         try:
-            return await link.rows(words, *given, patience=self.patience, size=size)
+            return await connection.rows(words, *given, patience=self.patience, size=size)
         finally:
-            self._free.put_nowait(link)
+            self._free.put_nowait(connection)
 
     async def close(self) -> None:
         try:
-            await self._beats.rows("DELETE FROM odb_gateway WHERE holder = $1", self.lease.holder)
+            await self._renewer.rows("DELETE FROM odb_gateway WHERE holder = $1", self.lease.holder)
         except OSError as error:
             LOG.error("the lease lasts until its time is over: %s", error)
-        for link in self._all:
-            link.drop()
+        for connection in self._connections:
+            connection.drop()
 
     # The lease
 
-    async def _begin(self) -> None:
-        await self._hold(Lease(self._seconds, 0.0), _BEGIN, f"{socket.gethostname()}-{os.getpid()}")
+    async def _begin_lease(self) -> None:
+        await self._extend(Lease(self._seconds, 0.0), _BEGIN, f"{socket.gethostname()}-{os.getpid()}")
 
-    async def _hold(self, lease: Lease, words: str, *given: Any) -> bool:
+    async def _extend(self, lease: Lease, words: str, *given: Any) -> bool:
         """Lets a lease last from now on; returns false if a statement finds that it has ended."""
         before = clock()
-        if not await self._beats.rows(words, lease.holder, self._seconds, *given):
+        if not await self._renewer.rows(words, lease.holder, self._seconds, *given):
             return False
         lease.deadline = before + self._seconds - self._margin
         self.lease = lease
         return True
 
     async def renew(self) -> None:
-        if not await self._hold(self.lease, _RENEW):
+        if not await self._extend(self.lease, _RENEW):
             LOG.error("another gateway has ended the lease of this one")
-            await self._begin()
+            await self._begin_lease()
 
     async def is_over(self, holder: int) -> bool:
         return bool((await self._rows(_IS_OVER, holder))[0][0])
@@ -146,7 +147,7 @@ class PostgresqlStore:
     async def now(self) -> float:
         return float((await self._rows(_NOW))[0][0])
 
-    async def read(self, batch: bytes, hold: Hold) -> List[Found]:
+    async def read(self, batch: bytes, hold: Hold) -> List[Part]:
         rows = await self._rows(_FIND, batch)
         size = sum(row[4] for row in rows)
         hold(size)
@@ -155,16 +156,20 @@ class PostgresqlStore:
             texts = [row[0] for row in await self._rows(_TEXTS, batch, len(rows), size=size)]
             if len(texts) < len(rows):
                 raise OSError("PostgreSQL: the batch was removed")
-        return [Found(row[0], (row[1], row[2]), row[3], text) for row, text in zip(rows, texts)]
+        parts: List[Part] = []
+        for (number, holder, writer, is_open, *_), text in zip(rows, texts):
+            after = parts[-1].mark if parts else NOBODY
+            parts.append(Part(batch, number, (holder, writer), after, is_open, text))
+        return parts
 
     async def append(self, parts: Sequence[Part]) -> Set[bytes]:
         parts = sorted(parts)  # two that wait for each other would be a deadlock
-        size = sum(len(it.text) for it in parts)
-        columns = zip(*((it.batch, it.number, *it.mark, *it.after, it.is_open, it.text) for it in parts))
-        kept = {row[0] for row in await self._rows(_APPEND, *map(list, columns), size=size)}
-        rest = {it.batch: it for it in parts if it.batch not in kept}
+        size = sum(len(part.text) for part in parts)
+        rows = ((part.batch, part.number, *part.mark, *part.after, part.is_open, part.text) for part in parts)
+        kept = {row[0] for row in await self._rows(_APPEND, *map(list, zip(*rows)), size=size)}
+        rest = {part.batch: part for part in parts if part.batch not in kept}
         if rest:  # refused, or kept by a try whose answer was lost; a statement does not see what it has waited for
-            numbers = [it.number for it in rest.values()]
+            numbers = [part.number for part in rest.values()]
             marks = await self._rows(_MARKS, list(rest), numbers)
             kept.update(batch for batch, *mark in marks if rest[batch].mark == tuple(mark))
             await self.confirm()
@@ -196,7 +201,7 @@ async def _prepare(connection: Any) -> None:
         raise _Unusable(f"PostgreSQL: the tables have the form {form}, not {_FORM}")
 
 
-class _Link:
+class _Connection:
     """A connection, which is made anew where it breaks, for one work at a time."""
 
     def __init__(self, store: PostgresqlStore) -> None:
@@ -206,10 +211,10 @@ class _Link:
 
     async def rows(self, words: str, *given: Any, patience: float = 0.0, size: int = 0) -> List[Any]:
         """Returns the rows of a statement that may be sent twice; raises OSError once there is no more patience."""
-        found: List[Any] = await self.done(lambda it: it.fetch(words, *given), patience, size)
-        return found
+        rows: List[Any] = await self.run(lambda connection: connection.fetch(words, *given), patience, size)
+        return rows
 
-    async def done(self, work: _Work, patience: float = 0.0, size: int = 0) -> Any:
+    async def run(self, work: _Work, patience: float = 0.0, size: int = 0) -> Any:
         """Returns what a work over the connection returns, as `rows`."""
         end = clock() + patience
         async with self._turn:
@@ -217,7 +222,7 @@ class _Link:
                 try:
                     if self._connection is None or self._connection.is_closed():
                         await self._connect()
-                    return await self._in_time(work, self._store.timeout + size / _RATE)
+                    return await self._run_in_time(work, self._store.timeout + size / _RATE)
                 except _Unusable:
                     self.drop()
                     raise
@@ -225,11 +230,11 @@ class _Link:
                     self.drop()
                     self._store.breaks += 1
                     if clock() >= end:
-                        raise ConnectionError(f"PostgreSQL: {_text(error)}") from None
+                        raise ConnectionError(f"PostgreSQL: {_describe(error)}") from None
                     await asyncio.sleep(_BREAK)
                 except asyncpg.PostgresError as error:
                     self.drop()
-                    raise _Unusable(f"PostgreSQL: {_text(error)}") from None
+                    raise _Unusable(f"PostgreSQL: {_describe(error)}") from None
                 except BaseException:  # cancelled: the connection must not be used again
                     self.drop()
                     raise
@@ -240,20 +245,20 @@ class _Link:
         limit = str(int(timeout * 2000 + 20_000))
         settings = {**_OPTIONS, "statement_timeout": limit, "idle_in_transaction_session_timeout": _IDLE_MILLISECONDS}
         try:
-            found = await asyncpg.connect(self._store.url, timeout=timeout, server_settings=settings)
+            new = await asyncpg.connect(self._store.url, timeout=timeout, server_settings=settings)
         except (ValueError, asyncpg.InterfaceError) as error:
             raise _Unusable(f"PostgreSQL: {error}") from None
         # A commit whose wait for a standby was cancelled is reported as done, with a warning.
-        found.add_log_listener(self._note)
-        self._connection, self._is_warned = found, False
-        if await self._in_time(lambda it: it.fetchval("SELECT pg_is_in_recovery()"), timeout):
+        new.add_log_listener(self._note)
+        self._connection, self._is_warned = new, False
+        if await self._run_in_time(lambda new: new.fetchval("SELECT pg_is_in_recovery()"), timeout):
             raise ConnectionError("it is a standby")
 
     def _note(self, *_: Any) -> None:
         self._is_warned = True
 
-    async def _in_time(self, work: _Work, seconds: float) -> Any:
-        """What a work over the connection returns; ends the connection where it takes too long.
+    async def _run_in_time(self, work: _Work, seconds: float) -> Any:
+        """Returns what a work over the connection returns; ends the connection where it takes too long.
 
         Not `wait_for`, which would cancel the statement at the server, too.
         """
@@ -263,13 +268,12 @@ class _Link:
         finally:
             if not task.done():
                 self.drop()
-                task.add_done_callback(lambda it: it.cancelled() or it.exception())
+                task.add_done_callback(lambda ended: ended.cancelled() or ended.exception())
         if not task.done():
             raise asyncio.TimeoutError("no answer in time")
-        found = task.result()
-        if self._is_warned:
+        if self._is_warned and task.exception() is None:
             raise ConnectionError("the commit was not confirmed by a standby")
-        return found
+        return task.result()
 
     def drop(self) -> None:
         """Ends the connection."""
@@ -278,5 +282,5 @@ class _Link:
             connection.terminate()
 
 
-def _text(error: BaseException) -> str:
+def _describe(error: BaseException) -> str:
     return f"{type(error).__name__} {error}".rstrip()

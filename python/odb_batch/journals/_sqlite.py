@@ -13,8 +13,10 @@ import time
 from concurrent.futures import ThreadPoolExecutor
 from typing import Any, Callable, Iterator, List, Optional, Sequence, Set, TypeVar
 
-from ._stores import THREADS, Found, Hold, Lease, Part
+from ._stores import NOBODY, THREADS, Hold, Lease, Part
 
+#: How many bytes the file may have, if nothing else is said.
+MOST_BYTES = 17_179_869_184
 _FORM = 1
 _TABLES = """
 CREATE TABLE IF NOT EXISTS part (
@@ -62,7 +64,7 @@ class SqliteStore:
 
     width = 1  # there is one writer; what comes meanwhile goes together
 
-    def __init__(self, folder: str, most: int = 17_179_869_184) -> None:
+    def __init__(self, folder: str, most: int = MOST_BYTES) -> None:
         self._folder, self._path, self._most = folder, os.path.join(folder, "journal.sqlite"), most
         self.lease = Lease()
         self._hanging: "Optional[asyncio.Future[Any]]" = None
@@ -70,15 +72,15 @@ class SqliteStore:
     # A thread for what writes, and one for what reads
 
     async def _run(self, pool: ThreadPoolExecutor, work: Callable[..., _Result], *given: Any) -> _Result:
-        """What a function returns in a thread; raises OSError if that takes too long, also for what comes after it."""
+        """Runs a function in a thread; raises OSError if that takes too long, also for what comes after it."""
         if self._hanging is not None and not self._hanging.done():
             raise OSError("SQLite: the device hangs, or a process that writes is stopped")
-        found = asyncio.wrap_future(pool.submit(work, *given))
+        running = asyncio.wrap_future(pool.submit(work, *given))
         try:
-            return await asyncio.wait_for(asyncio.shield(found), _SECONDS)
+            return await asyncio.wait_for(asyncio.shield(running), _SECONDS)
         except asyncio.TimeoutError:
-            self._hanging = found
-            found.add_done_callback(lambda it: it.cancelled() or it.exception())
+            self._hanging = running
+            running.add_done_callback(lambda future: future.cancelled() or future.exception())
             raise OSError("SQLite: no answer in time") from None
         except sqlite3.Error as error:
             raise OSError(f"SQLite: {error}") from None
@@ -86,11 +88,11 @@ class SqliteStore:
     async def open(self) -> None:
         self._require_folder()
         self._writer, self._reader = ThreadPoolExecutor(1, THREADS), ThreadPoolExecutor(1, THREADS)
-        self._lock = self._locked(self._name(self.lease.holder))
+        self._lock = self._lock_file(self._lock_path(self.lease.holder))
         self._turn = os.open(f"{self._path}-turn", _FLAGS | os.O_CREAT, 0o600)
         try:
-            self._to_write = await self._run(self._writer, self._connected)
-            self._to_read = await self._run(self._reader, self._connected)
+            self._to_write = await self._run(self._writer, self._connect)
+            self._to_read = await self._run(self._reader, self._connect)
         except OSError:
             await self.close()
             raise
@@ -103,10 +105,10 @@ class SqliteStore:
             if os.path.lexists(path) and not stat.S_ISREG(os.lstat(path).st_mode):
                 raise OSError(f"{path} is not a file")
 
-    def _name(self, holder: int) -> str:
+    def _lock_path(self, holder: int) -> str:
         return f"{self._path}-{holder}.lock"
 
-    def _locked(self, path: str) -> int:
+    def _lock_file(self, path: str) -> int:
         """Makes and locks a file; until it is locked another process may remove it."""
         while True:
             file = os.open(path, _FLAGS | os.O_CREAT, 0o600)
@@ -116,22 +118,22 @@ class SqliteStore:
                     return file
             os.close(file)
 
-    def _connected(self) -> sqlite3.Connection:
-        """A connection, after the tables were made if they are not there."""
+    def _connect(self) -> sqlite3.Connection:
+        """Returns a connection, after the tables were made if they are not there."""
         with contextlib.suppress(FileExistsError):  # SQLite would let others read it
             os.close(os.open(self._path, os.O_CREAT | os.O_EXCL, 0o600))
-        found = sqlite3.connect(self._path, timeout=_SECONDS, isolation_level=None)
+        connection = sqlite3.connect(self._path, timeout=_SECONDS, isolation_level=None)
         with self._in_turn():
             for pragma in ("journal_mode = WAL", "synchronous = FULL", "journal_size_limit = 67108864"):
-                found.execute(f"PRAGMA {pragma}")
-            (size,) = found.execute("PRAGMA page_size").fetchone()
-            found.execute(f"PRAGMA max_page_count = {max(1, self._most // size)}")
-            (form,) = found.execute("PRAGMA user_version").fetchone()
+                connection.execute(f"PRAGMA {pragma}")
+            (size,) = connection.execute("PRAGMA page_size").fetchone()
+            connection.execute(f"PRAGMA max_page_count = {max(1, self._most // size)}")
+            (form,) = connection.execute("PRAGMA user_version").fetchone()
             if not form:
-                found.executescript(f"BEGIN IMMEDIATE; {_TABLES} PRAGMA user_version = {_FORM}; COMMIT;")
+                connection.executescript(f"BEGIN IMMEDIATE; {_TABLES} PRAGMA user_version = {_FORM}; COMMIT;")
         if form not in (0, _FORM):
             raise OSError(f"{self._path} has the form {form}, not {_FORM}")
-        return found
+        return connection
 
     async def close(self) -> None:
         for pool, name in ((self._writer, "_to_write"), (self._reader, "_to_read")):
@@ -141,7 +143,7 @@ class SqliteStore:
                 await asyncio.wait({closing}, timeout=_CLOSE_SECONDS)
             pool.shutdown(wait=False)
         with contextlib.suppress(FileNotFoundError):
-            os.unlink(self._name(self.lease.holder))
+            os.unlink(self._lock_path(self.lease.holder))
         os.close(self._lock)
         os.close(self._turn)
 
@@ -151,11 +153,11 @@ class SqliteStore:
     async def now(self) -> float:
         return time.time()
 
-    async def read(self, batch: bytes, hold: Hold) -> List[Found]:
+    async def read(self, batch: bytes, hold: Hold) -> List[Part]:
         return await self._run(self._reader, self._read, batch, hold)
 
-    def _read(self, batch: bytes, hold: Hold) -> List[Found]:
-        execute, found = self._to_read.execute, []
+    def _read(self, batch: bytes, hold: Hold) -> List[Part]:
+        execute, parts, after = self._to_read.execute, [], NOBODY
         execute("BEGIN")
         try:
             hold(execute(_SIZE, (batch,)).fetchone()[0])
@@ -163,14 +165,15 @@ class SqliteStore:
                 if pieces:
                     given = (batch, number, holder, writer)
                     text = b"".join(row[0] for row in execute(f"SELECT text {_PIECES} ORDER BY place", given)) + text
-                found.append(Found(number, (holder, writer), bool(is_open), text))
-            return found
+                parts.append(Part(batch, number, (holder, writer), after, bool(is_open), text))
+                after = parts[-1].mark
+            return parts
         finally:
             execute("COMMIT")
 
     async def is_over(self, holder: int) -> bool:
         try:
-            with open(self._name(holder), "rb") as file:
+            with open(self._lock_path(holder), "rb") as file:
                 fcntl.flock(file.fileno(), fcntl.LOCK_EX | fcntl.LOCK_NB)
         except BlockingIOError:
             return False
@@ -196,7 +199,7 @@ class SqliteStore:
             fcntl.flock(self._turn, fcntl.LOCK_UN)
 
     @contextlib.contextmanager
-    def _commit(self) -> Iterator[Callable[..., sqlite3.Cursor]]:
+    def _transaction(self) -> Iterator[Callable[..., sqlite3.Cursor]]:
         """A transaction, which is rolled back if it fails."""
         execute = self._to_write.execute
         with self._in_turn():
@@ -211,14 +214,15 @@ class SqliteStore:
 
     def _append_piece(self, part: Part, place: int) -> None:
         text = part.text[place * _PIECE : (place + 1) * _PIECE]
-        with self._commit() as execute:
+        with self._transaction() as execute:
             execute(_INSERT_PIECE, (part.batch, part.number, *part.mark, place, text))
 
     def _append(self, parts: Sequence[Part]) -> Set[bytes]:
-        with self._commit() as execute:
-            return {it.batch for it in parts if self._is_kept(execute, it)}
+        with self._transaction() as execute:
+            return {part.batch for part in parts if self._insert(execute, part)}
 
-    def _is_kept(self, execute: Callable[..., sqlite3.Cursor], part: Part) -> bool:
+    def _insert(self, execute: Callable[..., sqlite3.Cursor], part: Part) -> bool:
+        """Appends a part; returns whether it is kept."""
         before = execute(_MARK, (part.batch, part.number - 1)).fetchone()
         if part.number and before != part.after:
             return False
@@ -257,5 +261,5 @@ class SqliteStore:
                 await asyncio.sleep(0)
 
     def _delete(self, words: str, given: Sequence[Any]) -> int:
-        with self._commit() as execute:
+        with self._transaction() as execute:
             return execute(words, given).rowcount

@@ -63,15 +63,6 @@ class Part(NamedTuple):
     text: bytes
 
 
-class Found(NamedTuple):
-    """A part as it is kept; the members are those of a `Part`."""
-
-    number: int
-    mark: Mark
-    is_open: bool
-    text: bytes
-
-
 class Store(Protocol):
     """A database with the parts of batches, for one process: :mod:`odb_batch.journals.testing` says whether it is one.
 
@@ -103,7 +94,7 @@ class Store(Protocol):
     async def now(self) -> float:
         """Returns the seconds since 1970 of the clock by which parts have their time."""
 
-    async def read(self, batch: bytes, hold: Hold) -> List[Found]:
+    async def read(self, batch: bytes, hold: Hold) -> List[Part]:
         """Returns the parts of a batch in order, all of one moment. `hold` is called with the size of their texts
         before these are read."""
 

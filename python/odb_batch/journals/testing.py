@@ -18,7 +18,7 @@ import math
 import secrets
 from typing import AsyncIterator, Awaitable, Callable, List, Optional, Tuple
 
-from ._stores import NOBODY, Found, Mark, Part, Store, clock
+from ._stores import NOBODY, Mark, Part, Store, clock
 
 #: Makes a store that is not opened yet.
 Make = Callable[[], Store]
@@ -52,11 +52,7 @@ def _part(
     return Part(batch, number, (store.lease.holder, writer), after, more.get("is_open", False), text)
 
 
-def _found(part: Part) -> Found:
-    return Found(part.number, part.mark, part.is_open, part.text)
-
-
-async def _read(store: Store, batch: bytes) -> List[Found]:
+async def _read(store: Store, batch: bytes) -> List[Part]:
     return await store.read(batch, lambda size: None)
 
 
@@ -68,17 +64,17 @@ async def parts_are_read_as_they_were_appended(make: Make) -> None:
             parts.append(_part(one, batch, number, after, text=text, is_open=number == 1))
             assert await one.append([parts[-1]]) == {batch}
             after = parts[-1].mark
-        assert await _read(one, batch) == await _read(other, batch) == list(map(_found, parts))
+        assert await _read(one, batch) == await _read(other, batch) == parts
 
 
 async def of_two_parts_with_one_number_one_is_kept(make: Make) -> None:
     async with _opened(make) as (one, other):
-        for number in range(8):
+        for _ in range(8):
             batch = _batch()
-            parts = [_part(it, batch, text=b"%d" % k) for k, it in enumerate((one, other))]
+            parts = [_part(store, batch, text=b"%d" % number) for number, store in enumerate((one, other))]
             kept = await asyncio.gather(one.append(parts[:1]), other.append(parts[1:]))
             assert sorted(map(len, kept)) == [0, 1], kept
-            assert await _read(other, batch) == [_found(parts[kept.index({batch})])]
+            assert await _read(other, batch) == [parts[kept.index({batch})]]
 
 
 async def a_part_goes_after_the_one_that_its_writer_has_read(make: Make) -> None:
@@ -106,20 +102,19 @@ async def the_same_part_again_is_harmless(make: Make) -> None:
         assert await one.append([first]) == {batch}, "it is kept, though another one came after it"
         assert await one.append([_part(one, batch, writer=2)]) == set()
         assert await other.append([_part(other, batch, 1, first.mark, writer=2, text=second.text)]) == set()
-        assert await _read(one, batch) == [_found(first), _found(second)]
+        assert await _read(one, batch) == [first, second]
 
 
 async def appends_of_many_batches_are_kept_each_or_not(make: Make) -> None:
     async with _opened(make) as (one, other):
         batches = [_batch() for _ in range(200)]
-        parts = [_part(one, it) for it in batches]
-        assert await other.append([_part(other, it) for it in batches[::3]]) == set(batches[::3])
+        parts = [_part(one, batch) for batch in batches]
+        assert await other.append([_part(other, batch) for batch in batches[::3]]) == set(batches[::3])
         assert await one.append(parts) == set(batches) - set(batches[::3])
         # In two orders at once: neither waits for the other for ever.
         more = [_batch() for _ in range(200)]
-        kept = await asyncio.gather(
-            one.append([_part(one, it) for it in more]), other.append([_part(other, it) for it in reversed(more)])
-        )
+        parts, others = ([_part(store, batch) for batch in more] for store in (one, other))
+        kept = await asyncio.gather(one.append(parts), other.append(others[::-1]))
         assert kept[0] | kept[1] == set(more) and not kept[0] & kept[1]
 
 
@@ -130,11 +125,11 @@ async def long_texts_are_kept_beside_short_ones(make: Make) -> None:
         assert await one.append([first]) == {batch}
         long = _part(one, batch, 1, first.mark, text=text)
         keeping = asyncio.ensure_future(one.append([long]))
-        for number in range(20):
+        for _ in range(20):
             short = _part(one, _batch())
             assert await one.append([short]) == {short.batch}
         assert await keeping == {batch} and await one.append([long]) == {batch}
-        assert [it.text for it in await _read(other, batch)] == [b"", text]
+        assert [part.text for part in await _read(other, batch)] == [b"", text]
 
 
 async def memory_is_reserved_before_texts_are_read(make: Make) -> None:
@@ -199,7 +194,8 @@ async def a_lease_that_was_ended_is_ended_for_good(make: Make) -> None:
 async def old_batches_are_removed(make: Make) -> None:
     async with _opened(make) as (one, other):
         old, young, open_one = _batch(), _batch(), _batch()
-        first = [_part(one, it, is_open=it == open_one, text=b"x" * 600_000) for it in (old, young, open_one)]
+        batches = old, young, open_one
+        first = [_part(one, batch, is_open=batch == open_one, text=b"x" * 600_000) for batch in batches]
         for part in first:
             await one.append([part])
         await asyncio.sleep(0.05)
@@ -211,13 +207,13 @@ async def old_batches_are_removed(make: Make) -> None:
         await other.renew()
         await one.renew()
         await other.prune(before)
-        counts = [len(await _read(one, it)) for it in (old, young, open_one)]
+        counts = [len(await _read(one, batch)) for batch in batches]
         assert counts == [0, 2, 1], "removed is the old one, not one with a new part, nor one that is performed"
         # What is removed may come again, as another batch.
         assert await other.append([_part(other, old)]) == {old}
         await one.append([_part(one, open_one, 1, first[2].mark)])
         await other.prune(await other.now() + 10)
-        assert [len(await _read(one, it)) for it in (old, young, open_one)] == [0, 0, 0]
+        assert [len(await _read(one, batch)) for batch in batches] == [0, 0, 0]
 
 
 async def what_is_read_can_be_confirmed(make: Make) -> None:
@@ -234,7 +230,7 @@ async def what_is_kept_outlives_its_store(make: Make) -> None:
         part = _part(one, batch, is_open=True)
         await one.append([part])
     async with _opened(make) as (one, other):
-        assert await _read(other, batch) == [_found(part)]
+        assert await _read(other, batch) == [part]
         assert await one.is_over(part.mark[0])
 
 

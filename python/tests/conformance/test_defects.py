@@ -166,7 +166,7 @@ DEFECTS = (
     Defect("weak_tags_as_strong", "headers-tags", "alone"),
     Defect("none_match_of_patches_dropped", "headers-tags", "alone"),
     Defect("none_match_of_members_dropped", "members-new", "alone group", False),
-    Defect("first_tag_of_group", "etag-in-group", "etag group", False),
+    Defect("first_tag_of_group", "etag-in-group", "etag", False),
     Defect("tags_of_new_as_any", "etag-of-old-new", "etag alone", False),
     # what members of a group are answered
     Defect("no_bodies_of_members", "members-each", "alone"),

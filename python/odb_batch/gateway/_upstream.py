@@ -8,19 +8,20 @@ import aiohttp
 from yarl import URL
 
 from ..driver.waits import Places
-from ..http.budget import BodyReader, BodyBudget
+from ..http.budget import BodyBudget, BodyReader
 from ..http.messages import Answer, PreparedRequest, Refusal
 from ..journals import Late, StoreJournal
-from ._decoding import Decoder, headers_of
+from ._credentials import Credentials
+from ._decoding import Decoder, answer_headers
+from ._failures import FailureLog, error_code, failure_reason
 from ._metrics import Counts
 from ._options import Options
-from ._reasons import Reasons, code_of, reason_of
-from ._routes import Route
+from ._routes import Route, Routes
 
 _PART = 65_536
 
 
-async def _sent_once(_: aiohttp.ClientSession, context: Any, __: Any) -> None:
+async def _send_once(_: aiohttp.ClientSession, context: Any, __: Any) -> None:
     """Lets a request be sent once: newer versions of aiohttp send a PUT or a DELETE again if a connection breaks; and
     only while its batch is held, as it may have waited for its connection."""
     if getattr(context, "is_sent", False):
@@ -30,7 +31,7 @@ async def _sent_once(_: aiohttp.ClientSession, context: Any, __: Any) -> None:
     context.is_sent = True
 
 
-async def _body_held(_: aiohttp.ClientSession, context: Any, __: Any) -> None:
+async def _require_held(_: aiohttp.ClientSession, context: Any, __: Any) -> None:
     """Lets the body be sent while no other gateway goes on with the batch; a service does not perform a head alone."""
     if context.trace_request_ctx is not None:
         try:
@@ -39,52 +40,56 @@ async def _body_held(_: aiohttp.ClientSession, context: Any, __: Any) -> None:
             raise aiohttp.ClientConnectionError("the gateway was paused while it sent the request") from None
 
 
-class _Places(Places):
+class _ServicePlaces(Places):
     """The places of a service, with a line of the log if none is free in time."""
 
-    def __init__(self, service: str, count: int, seconds: float, counts: Counts, reasons: Reasons) -> None:
+    def __init__(self, service: str, count: int, seconds: float, upstream: "UpstreamClient") -> None:
         super().__init__(count, seconds)
-        self._service, self._counts, self._reasons = service, counts, reasons
+        self._service, self._upstream = service, upstream
 
     async def __aenter__(self) -> None:
         try:
             await super().__aenter__()
         except Refusal:
-            self._counts.fault("Busy")
-            self._reasons.say(self._service, "Busy", "connections")
+            self._upstream.counts.fault("Busy")
+            self._upstream.failures.write(self._service, "Busy", "connections")
             raise
 
 
-class Upstreams:
-    """The services behind a gateway.
+class UpstreamClient:
+    """Sends requests to the services behind a gateway.
 
     Attributes:
+        routes: Where requests go.
+        credentials: Which service gets which credentials.
+        counts: What is counted of them.
+        failures: Logs why services have not answered.
         is_stopping: Whether no further request is sent.
-        reasons: Says in the log why services have not answered.
     """
 
     def __init__(self, options: Options, counts: Counts) -> None:
-        self._options = options
-        self.reasons = Reasons()
-        self._places: Dict[str, _Places] = {}
+        self._options, self.counts, self.failures = options, counts, FailureLog()
+        self.routes = Routes(options.routes)
+        self.credentials = Credentials(options.routes, options.credentials, options.send)
+        self._places: Dict[str, _ServicePlaces] = {}
         for route in options.routes:
-            count, seconds = route.connections or options.connections, route.timeout or options.timeout
             if route.line not in self._places:
-                self._places[route.line] = _Places(route.origin, count, seconds, counts, self.reasons)
+                count, seconds = route.connections or options.connections, route.timeout or options.timeout
+                self._places[route.line] = _ServicePlaces(route.origin, count, seconds, self)
                 counts.watch_queue(route.line, self._places[route.line])
-        self.is_stopping = self._is_given_up = False
+        self.is_stopping = self._is_broken_off = False
 
     async def open(self) -> None:
         """Makes what belongs to the running loop; raises OSError if the files of a route cannot be used."""
-        self._own = {route: _own_of(route) for route in self._options.routes}
+        self._route_options = {route: _route_options(route) for route in self._options.routes}
         self._connector = aiohttp.TCPConnector(limit=0, keepalive_timeout=self._options.keep_alive)
         tracing = aiohttp.TraceConfig()
-        tracing.on_request_headers_sent.append(_sent_once)
-        tracing.on_request_chunk_sent.append(_body_held)
+        tracing.on_request_headers_sent.append(_send_once)
+        tracing.on_request_chunk_sent.append(_require_held)
         # Tracing takes its time, so no other request is traced.
-        self._usual, self._once = self._opened(), self._opened(tracing)
+        self._usual, self._once = self._open_session(), self._open_session(tracing)
 
-    def _opened(self, *tracing: aiohttp.TraceConfig) -> aiohttp.ClientSession:
+    def _open_session(self, *tracing: aiohttp.TraceConfig) -> aiohttp.ClientSession:
         return aiohttp.ClientSession(
             connector=self._connector,
             connector_owner=False,
@@ -95,19 +100,19 @@ class Upstreams:
             skip_auto_headers=("User-Agent", "Accept", "Accept-Encoding", "Content-Type"),
         )
 
-    def session(self, method: str, is_kept: bool = False) -> aiohttp.ClientSession:
-        """Returns the session that sends a request with a method, and not twice unless it is a GET; one that a journal
-        keeps only while no other gateway goes on with it."""
-        return self._once if is_kept or method in ("DELETE", "PUT") else self._usual
+    def session(self, method: str, has_journal: bool = False) -> aiohttp.ClientSession:
+        """Returns the session that sends a request with a method, and not twice unless it is a GET; one with a journal
+        only while no other gateway goes on with its batch."""
+        return self._once if has_journal or method in ("DELETE", "PUT") else self._usual
 
     async def close(self) -> None:
         for session in (self._usual, self._once):
             await session.close()
         await self._connector.close()
 
-    async def give_up(self) -> None:
+    async def break_off(self) -> None:
         """Breaks what is on its way off: it is answered 504 ``Stopped``."""
-        self._is_given_up = True
+        self._is_broken_off = True
         await self._connector.close()
 
     def places(self, route: Route) -> Places:
@@ -116,7 +121,7 @@ class Upstreams:
         return self._places[route.line]
 
     async def send(
-        self, route: Route, request: PreparedRequest, room: BodyBudget, journal: Optional[StoreJournal] = None
+        self, route: Route, request: PreparedRequest, budget: BodyBudget, journal: Optional[StoreJournal] = None
     ) -> Answer:
         """Sends a request, which has its place, to the service of a route and returns its answer with whole body; one
         that has a journal, and is not a GET, while no other gateway goes on with its batch.
@@ -128,67 +133,68 @@ class Upstreams:
         """
         if self.is_stopping:
             raise Refusal(503, "Stopping", "The gateway stops, and has not sent the request", retry_after="1")
-        kept = None if request.method == "GET" else journal
+        journal = None if request.method == "GET" else journal
         try:
             while True:
                 try:
-                    return await self._exchanged(route, request, room, kept)
+                    return await self._exchange(route, request, budget, journal)
                 except Late:
-                    await _hold(kept)
+                    await _wait_for_lease(journal)
         except Refusal as refusal:
             if refusal.answer.status == 502:
-                self.reasons.say(request.url, code_of(refusal.answer), "answer", refusal)
+                self.failures.write(request.url, error_code(refusal.answer), "answer", refusal)
             raise
         except (asyncio.TimeoutError, aiohttp.ClientError, OSError) as error:
-            found = self._refusal(error)
-            if not self._is_given_up:
-                self.reasons.say(request.url, code_of(found.answer), reason_of(error), f"{type(error).__name__}: {error}")
-            raise found from None
+            instead = self._refusal_for(error)
+            if not self._is_broken_off:
+                code, detail = error_code(instead.answer), f"{type(error).__name__}: {error}"
+                self.failures.write(request.url, code, failure_reason(error), detail)
+            raise instead from None
 
-    def _refusal(self, error: BaseException) -> Refusal:
-        """What stands for an answer that has not come."""
+    def _refusal_for(self, error: BaseException) -> Refusal:
+        """Returns what stands for an answer that has not come."""
         if isinstance(error, asyncio.TimeoutError):
             return Refusal(504, "Timeout", "No answer came in time")
-        if self._is_given_up:
+        if self._is_broken_off:
             return Refusal(504, "Stopped", "The gateway has stopped before an answer came")
         if isinstance(error, aiohttp.ClientConnectorError):
             return Refusal(503, "Unreachable", "The service cannot be reached; the request was not sent")
         return Refusal(502, "BadGateway", "The connection broke before an answer came")
 
-    async def _exchanged(
-        self, route: Route, request: PreparedRequest, room: BodyBudget, journal: Optional[StoreJournal]
+    async def _exchange(
+        self, route: Route, request: PreparedRequest, budget: BodyBudget, journal: Optional[StoreJournal]
     ) -> Answer:
-        """The answer of a service; raises Refusal if there is no room for it, or it cannot be shown."""
+        """Returns the answer of a service; raises Refusal if there is no room for it, or it cannot be shown."""
         session = self.session(request.method, journal is not None)
-        more: Dict[str, Any] = {
+        options: Dict[str, Any] = {
             "headers": {"accept-encoding": "identity", **request.headers},
             "data": request.body or None,
             "allow_redirects": False,
             "trace_request_ctx": journal,
-            **self._own[route],
+            **self._route_options[route],
         }
-        async with session.request(request.method, URL(request.url, encoded=True), **more) as answer:
-            if not 200 <= answer.status <= 599:
-                raise Refusal(502, "BadGateway", f"The service has answered with the status {answer.status}")
-            with room.read(request.method) as reading:
-                await _read(answer, reading)
-                return Answer(answer.status, headers_of(answer.headers.items()), reading.body())
+        async with session.request(request.method, URL(request.url, encoded=True), **options) as response:
+            if not 200 <= response.status <= 599:
+                raise Refusal(502, "BadGateway", f"The service has answered with the status {response.status}")
+            with budget.read(request.method) as reader:
+                await _read_body(response, reader)
+                return Answer(response.status, answer_headers(response.headers.items()), reader.body())
 
 
-def _own_of(route: Route) -> Dict[str, Any]:
-    """What requests of a route have in place of what those of all have."""
-    found: Dict[str, Any] = {} if route.timeout is None else {"timeout": aiohttp.ClientTimeout(route.timeout)}
+def _route_options(route: Route) -> Dict[str, Any]:
+    """Returns what requests of a route have in place of what those of all have."""
+    options: Dict[str, Any] = {} if route.timeout is None else {"timeout": aiohttp.ClientTimeout(route.timeout)}
     if route.ca or route.certificate:
         try:
-            found["ssl"] = context = ssl.create_default_context(cafile=route.ca or None)
+            options["ssl"] = context = ssl.create_default_context(cafile=route.ca or None)
             if route.certificate:
                 context.load_cert_chain(route.certificate, route.key or None, password=lambda: "")  # asks nobody
         except (OSError, ValueError) as error:
             raise OSError(f"the certificates of {route.prefix}: {error}") from None
-    return found
+    return options
 
 
-async def _hold(journal: Optional[StoreJournal]) -> None:
+async def _wait_for_lease(journal: Optional[StoreJournal]) -> None:
     """Waits until the batch is held again; raises Refusal if it is not: 503 ``NoJournal``, or 409 ``InProgress``."""
     try:
         if journal is not None:
@@ -197,16 +203,16 @@ async def _hold(journal: Optional[StoreJournal]) -> None:
         raise Refusal(503, "NoJournal", "The journal cannot be reached; the request was not sent") from None
 
 
-async def _read(answer: aiohttp.ClientResponse, reading: BodyReader) -> None:
+async def _read_body(response: aiohttp.ClientResponse, reader: BodyReader) -> None:
     """Reads the body of an answer without its coding, as far as it is kept; raises Refusal if it cannot be read: 502
     ``Encoded``."""
-    coding = answer.headers.get("Content-Encoding", "").strip().lower()
-    is_coded = coding not in ("", "identity") and answer.status not in (204, 304)
+    coding = response.headers.get("Content-Encoding", "").strip().lower()
+    is_coded = coding not in ("", "identity") and response.status not in (204, 304)
     decoder = Decoder(coding) if is_coded else None
-    content = answer.content
+    content = response.content
     while not content.at_eof():
         part = await content.read(_PART)
-        if not (reading.add(part) if decoder is None else all(map(reading.add, decoder.parts(part)))):
+        if not (reader.add(part) if decoder is None else all(map(reader.add, decoder.decode(part)))):
             return
     if decoder is not None:
         decoder.require_end()

@@ -1,12 +1,28 @@
 'use strict'
 
-// What requests are answered.
+// What requests are answered, and the headers of messages by their names in lower case.
 
-const { foldHeaders } = require('./headers.js')
+const { toHeaderObject } = require('../documents/bytes.js')
 
 const LEAST_STATUS = 200
 const MOST_STATUS = 599
 const BAD_GATEWAY = 502
+
+/** The text of a header; several values of one are joined. */
+function valueText(value) {
+  return Array.isArray(value) ? value.join(', ') : String(value)
+}
+
+/** Headers by their names in lower case, as strings. Values of one name are joined by commas. */
+function foldHeaders(headers) {
+  const found = { __proto__: null } // so that each name is free
+  for (const [given, value] of Object.entries(toHeaderObject(headers) ?? {})) {
+    if (value === undefined || value === null) continue
+    const name = given.toLowerCase()
+    found[name] = name in found ? `${found[name]}, ${valueText(value)}` : valueText(value)
+  }
+  return found
+}
 
 /** A status that may be reported. */
 function finalStatus(status) {
@@ -31,4 +47,4 @@ async function readAnswer(returned) {
   return { status: finalStatus(status), headers: foldHeaders(returned.headers), body }
 }
 
-module.exports = { finalStatus, isSuccess, readAnswer }
+module.exports = { finalStatus, foldHeaders, isSuccess, readAnswer }

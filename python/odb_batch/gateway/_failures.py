@@ -1,4 +1,4 @@
-"""Says in the log why services have not answered."""
+"""Why services have not answered: in a word, and as lines of the log."""
 
 import asyncio
 import socket
@@ -23,18 +23,18 @@ _REASONS = (
 _SECONDS = 1.0
 
 
-def code_of(answer: Answer) -> str:
+def error_code(answer: Answer) -> str:
     """Returns the code of the error in an answer of the gateway."""
     return str(answer.body["error"]["code"])
 
 
-def reason_of(error: BaseException) -> str:
+def failure_reason(error: BaseException) -> str:
     """Returns in a word why there is no answer."""
     cause = getattr(error, "os_error", None) or getattr(error, "certificate_error", None) or error
     return next((word for kind, word in _REASONS if isinstance(cause, kind) or isinstance(error, kind)), "cut")
 
 
-class Reasons:
+class FailureLog:
     """Writes lines of the log about services that have not answered, for each at most one a second."""
 
     def __init__(self) -> None:
@@ -42,8 +42,8 @@ class Reasons:
         self._last: Dict[str, float] = {}
         self._left_out: "Counter[str]" = Counter()
 
-    def say(self, url: str, code: str, reason: str, detail: object = "") -> None:
-        """Says why there is no answer from a URL, unless there was a line about its service just now."""
+    def write(self, url: str, code: str, reason: str, detail: object = "") -> None:
+        """Logs why there is no answer from a URL, unless there was a line about its service just now."""
         service, now = "{0.scheme}://{0.netloc}".format(urlsplit(url)), time.monotonic()
         if now - self._last.get(service, now - _SECONDS) < _SECONDS:
             self._left_out[service] += 1

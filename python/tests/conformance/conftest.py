@@ -1,3 +1,0 @@
-"""A limit of time for each test of the tool."""
-
-from support.limits import limit  # noqa: F401
