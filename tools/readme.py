@@ -65,6 +65,7 @@ TESTED = {
         "location ~ /": f"{GATEWAY}nginx_sends_batches_to_the_gateway",
         "terminationGracePeriodSeconds:": f"{GATEWAY}the_probes_of_the_page_are_answered",
         "listen = ": f"{GATEWAY}the_file_of_the_page_is_read",
+        "from opentelemetry": f"{GATEWAY}the_hook_of_the_page_makes_spans",
         "$ sent=": f"{GATEWAY}the_commands_print_what_the_page_shows",
     },
     "docs/scale.md": {

@@ -181,7 +181,7 @@ trace = types.SimpleNamespace(get_tracer=lambda name: types.SimpleNamespace(star
 
 def test_the_hook_of_the_page_makes_spans(upstream, front, tmp_path, monkeypatch):
     """Over something that takes the calls of OpenTelemetry which it makes."""
-    (text,) = blocks("python")
+    (text,) = code("python")
     (tmp_path / "tracing.py").write_text(text)
     (tmp_path / "opentelemetry.py").write_text(TRACER)
     monkeypatch.syspath_prepend(tmp_path)
