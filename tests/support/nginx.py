@@ -23,16 +23,17 @@ def nginx(blocks, folder, port):
         try:
             front = Asked()
             front.port = int(port)
-            wait_for(front)
+            wait_for(front, process, folder / "log")
             yield front
         finally:
             process.terminate()
 
 
-def wait_for(front):
+def wait_for(front, process, log):
+    """Waits until nginx answers; fails with its log if it has ended."""
     end = time.monotonic() + SECONDS
-    while time.monotonic() < end:
+    while time.monotonic() < end and process.poll() is None:
         with contextlib.suppress(OSError):
             return front.ask("GET", "/odata/ready")
         time.sleep(0.02)
-    pytest.fail("nginx does not listen")
+    pytest.fail(f"nginx does not listen: {log.read_text()}")
