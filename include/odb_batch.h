@@ -209,6 +209,24 @@ typedef struct odb_part {
 
 #define ODB_NONE SIZE_MAX
 
+/* A fault of a batch: where the words of its line lie in a text, and where the element of its place begins. */
+typedef struct odb_fault {
+    odb_part code;  /* as F41 */
+    odb_part name;  /* as ForwardName */
+    odb_part place; /* `batch`, or the path to an element, as /requests/3 */
+    odb_position position;
+} odb_fault;
+
+/* Gives all faults of a batch, those of `odb_check_all` in its order. The text has a line for each, as `fault F41 ForwardName
+ * /requests/3`, and `faults` is a buffer of `faults_size` structs; it may be NULL, which is one of size 0. A position is the
+ * one that `odb_where` finds. `*count` is set to the number of faults; it must not be NULL. Returns ODB_DONE, with no text, if
+ * there are none, and else ODB_REFUSED; or, with both buffers as they were, ODB_SMALL_BUFFER if one of them has too little
+ * room: `*text_length` and `*count` say how much is needed; or ODB_OUT_OF_MEMORY, and both are 0. Takes O(n log n) time for a
+ * document of n bytes, however many faults it has. */
+uint32_t odb_faults(const uint8_t *batch, size_t batch_size,
+                    uint8_t *text, size_t text_size, size_t *text_length,
+                    odb_fault *faults, size_t faults_size, size_t *count, uint64_t seed);
+
 /* What is to be sent of a request: where its parts lie in a text, and where its body lies in the document. */
 typedef struct odb_request {
     odb_part id;
@@ -490,6 +508,15 @@ static inline uint32_t odb_inline_where(ODB_INLINE_IN(document), ODB_INLINE_IN(p
     return odb_where(ODB_INLINE_SLICE(document), ODB_INLINE_SLICE(place), position);
 }
 
+static inline uint32_t odb_inline_faults(ODB_INLINE_IN(batch), ODB_INLINE_TEXT, odb_fault *faults, size_t faults_size,
+                                         size_t *count, uint64_t seed)
+{
+    uint8_t none = 0;
+    odb_fault no_fault = {{0, 0}, {0, 0}, {0, 0}, {0, 0, 0}};
+    return odb_faults(ODB_INLINE_SLICE(batch), ODB_INLINE_SLICE(text), text_length,
+                      faults ? faults : &no_fault, faults ? faults_size : 0, count, seed);
+}
+
 static inline uint32_t odb_inline_requests(ODB_INLINE_IN(batch), ODB_INLINE_TEXT, odb_request *requests,
                                            size_t requests_size, size_t *count, uint64_t seed)
 {
@@ -577,6 +604,7 @@ static inline uint32_t odb_inline_run_response(odb_live_run *run, ODB_INLINE_TEX
 #define odb_run_as odb_inline_run_as
 #define odb_replay_as odb_inline_replay_as
 #define odb_where odb_inline_where
+#define odb_faults odb_inline_faults
 #define odb_requests odb_inline_requests
 #define odb_run_open odb_inline_run_open
 #define odb_run_ready odb_inline_run_ready

@@ -46,8 +46,8 @@ napi_value written(napi_env env, writer *write, void *given, size_t size);
 /* Throws the exception for arguments of the wrong kind, and returns NULL. */
 napi_value wrong_arguments(napi_env env);
 
-/* Adds the call for what is to be sent to the exports. */
-napi_status export_requests(napi_env env, napi_value exports);
+/* Adds the calls for what a batch has to the exports. */
+napi_status export_lists(napi_env env, napi_value exports);
 
 /* Adds the calls of live runs to the exports. */
 napi_status export_runs(napi_env env, napi_value exports);

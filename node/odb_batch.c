@@ -1,9 +1,9 @@
-/* The addon of odb_batch for Node, by Node-API: the commands as one function, what is to be sent (requests.c), and
+/* The addon of odb_batch for Node, by Node-API: the commands as one function, what is to be sent and all faults (lists.c), and
  * live runs (runs.c).
  *
  *   call(command, batch, second, mode, width, order, trace, strict, form) -> [status, text]
  *
- * `command` is the place of a command in `CALLS` of commands.js, `batch` and `second` are Uint8Arrays, and the other
+ * `command` is the place of a command in `COMMANDS` of commands.js, `batch` and `second` are Uint8Arrays, and the other
  * arguments numbers; what a command does not take is ignored. commands.js makes the calls of it.
  *
  *   where(document, place, numbers) -> status
@@ -46,10 +46,8 @@ static uint32_t make(void *given, struct bytes text, size_t *length)
     case 5:
         return odb_replay_as(a.at, a.size, b.at, b.size, it->mode, it->width, it->order, it->trace, it->form,
                              text.at, text.size, length, it->seed);
-    case 6:
-        return odb_rest(a.at, a.size, b.at, b.size, it->mode, it->form, text.at, text.size, length, it->seed);
     default:
-        return odb_check_all_as(a.at, a.size, it->form, text.at, text.size, length, it->seed);
+        return odb_rest(a.at, a.size, b.at, b.size, it->mode, it->form, text.at, text.size, length, it->seed);
     }
 }
 
@@ -167,7 +165,7 @@ static void end_instance(napi_env env, void *instance, void *hint)
     release_instance(instance);
 }
 
-/* Makes the instance, with a seed that nobody can see, and exports `call`, `where`, `version`, `requests` and the runs. */
+/* Makes the instance, with a seed that nobody can see, and exports `call`, `where`, `version`, the lists and the runs. */
 NAPI_MODULE_INIT()
 {
     napi_value function, version;
@@ -185,7 +183,7 @@ NAPI_MODULE_INIT()
         && napi_set_named_property(env, exports, "where", function) == napi_ok
         && napi_create_uint32(env, odb_version(), &version) == napi_ok
         && napi_set_named_property(env, exports, "version", version) == napi_ok
-        && export_requests(env, exports) == napi_ok)
+        && export_lists(env, exports) == napi_ok)
         export_runs(env, exports);
     return exports;
 }

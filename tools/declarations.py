@@ -30,6 +30,7 @@ TYPES = {
     "&mut [u8]": ["uint8_t *{}", "size_t {}_size"],
     "&mut [u32]": ["uint32_t *{}", "size_t {}_size"],
     "&mut [Request]": ["odb_request *{}", "size_t {}_size"],
+    "&mut [Fault]": ["odb_fault *{}", "size_t {}_size"],
     "&mut Position": ["odb_position *{}"],
     "Handle": ["odb_live_run {}"],
     "&mut Handle": ["odb_live_run *{}"],
@@ -45,7 +46,7 @@ HANDLES = {
 }
 
 # The structs of the source that have the same fields for C.
-STRUCTS = {"Part": "odb_part", "Request": "odb_request", "Position": "odb_position"}
+STRUCTS = {"Part": "odb_part", "Request": "odb_request", "Position": "odb_position", "Fault": "odb_fault"}
 FIELDS = {"usize": "size_t", **STRUCTS}
 
 # A number of the header, and the constant or the definition of the source that has it.

@@ -3,14 +3,11 @@
 // The commands. index.d.ts says what each takes and returns.
 
 const { documentBytes, eventBytes } = require('../documents/bytes.js')
-const { DONE, REFUSED, callError, readFault } = require('../errors/faults.js')
+const { DONE, REFUSED, callError, listedFaults } = require('../errors/faults.js')
 const library = require('../library/index.js')
 const { optionNumbers, requireOptions, valueNumber } = require('./options.js')
 
 const COMMANDS = ['check', 'plan', 'canon', 'match', 'run', 'replay', 'rest']
-const CHECK_ALL = 'check --all'
-// What the library calls, by its number.
-const CALLS = [...COMMANDS, CHECK_ALL]
 const NEWLINE = 10
 
 // The second document of a command that takes one alone.
@@ -25,7 +22,7 @@ const OF_OUTPUT = [...OF_REPLAY, 'strict', 'form']
 
 /** The pair of the status and the text of a command over the bytes of documents. */
 function callCommand(command, batch, second, options) {
-  return library.call(CALLS.indexOf(command), batch, second, ...optionNumbers(options))
+  return library.call(COMMANDS.indexOf(command), batch, second, ...optionNumbers(options))
 }
 
 /** The text that a command writes; throws what else it returns. */
@@ -48,10 +45,9 @@ function check(batch) {
 
 function faults(batch) {
   const document = documentBytes(batch)
-  const [status, text] = callCommand(CHECK_ALL, document, documentBytes(NONE), {})
-  if (status === REFUSED) return splitLines(text).map((line) => readFault(line, [document]))
-  if (status !== DONE) throw callError(CHECK_ALL, status, text)
-  return []
+  const [status, text, numbers] = library.faults(document)
+  if (status !== DONE && status !== REFUSED) throw callError('check --all', status, text)
+  return listedFaults(document, text.toString(), numbers)
 }
 
 function plan(batch) {

@@ -7,23 +7,25 @@ const explanations = require('./explanations.json')
 const library = require('../library/index.js')
 
 const NUMBERS = 3 // of an odb_position
+const OF_FAULT = 6 + NUMBERS // of an odb_fault: a start and a length for each of three words, and a position
 
 const DONE = 0
 const REFUSED = 1
 const OUT_OF_MEMORY = 4
 
 class Fault extends Error {
-  // The bytes of the document, if there is one, and where the place is in it, once that was asked for.
+  // The bytes of the document, if there is one, and where the place is in it, once that is known.
   #document
   #position
 
-  constructor(code, faultName, place, document) {
+  constructor(code, faultName, place, document, position) {
     super(`${code} ${faultName} ${place}`)
     this.name = 'Fault'
     this.code = code
     this.faultName = faultName
     this.place = place
     this.#document = document
+    this.#position = position
   }
 
   get line() {
@@ -86,6 +88,15 @@ function readFault(line, documents) {
   return new Fault(code, name, place, documents[isInBatch ? 0 : documents.length - 1])
 }
 
+/** The faults whose words lie in a text of ASCII, by the numbers of each: all faults of a batch. */
+function listedFaults(batch, text, numbers) {
+  return Array.from({ length: numbers.length / OF_FAULT }, (_, i) => {
+    const own = numbers.subarray(OF_FAULT * i, OF_FAULT * (i + 1))
+    const words = [0, 2, 4].map((at) => text.slice(own[at], own[at] + own[at + 1]))
+    return new Fault(...words, batch, [...own.subarray(6)])
+  })
+}
+
 /** What a call over documents throws that is not done. */
 function callError(name, status, text, ...documents) {
   if (status === REFUSED) return readFault(text.toString().trimEnd(), documents)
@@ -93,4 +104,4 @@ function callError(name, status, text, ...documents) {
   return errorWithCode('ERR_ODB_STATUS', `${name} returned the status ${status}`)
 }
 
-module.exports = { DONE, Fault, REFUSED, Refused, callError, errorWithCode, readFault }
+module.exports = { DONE, Fault, REFUSED, Refused, callError, errorWithCode, listedFaults }

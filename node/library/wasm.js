@@ -1,7 +1,7 @@
 'use strict'
 
 // The calls of the library in a WebAssembly module, for any engine: they take and return what those of the addon do, as the heads
-// of odb_batch.c, requests.c and runs.c have them. Pointers and sizes are BigInts there, and numbers here.
+// of odb_batch.c, lists.c and runs.c have them. Pointers and sizes are BigInts there, and numbers here.
 
 const DONE = 0
 const OUT_OF_MEMORY = 4
@@ -20,12 +20,12 @@ const COMMANDS = [
   ['odb_run_as', 2, 'mode', 'width', 'form'],
   ['odb_replay_as', 2, 'mode', 'width', 'order', 'trace', 'form'],
   ['odb_rest', 2, 'mode', 'form'],
-  ['odb_check_all_as', 1, 'form'],
 ]
 
 const WORD = 8 // bytes of a pointer or a size
-const NUMBERS = 15 // words of an odb_request
+const OF_REQUEST = 15 // words of an odb_request
 const OF_POSITION = 3 // words of an odb_position
+const OF_FAULT = 6 + OF_POSITION // words of an odb_fault
 const NONE = 2 ** 32 - 1 // each half of ODB_NONE
 const SHORTEST = 32 // how short a request may be in a document,
 const MOST = 10000 // and how many a batch may have
@@ -134,13 +134,32 @@ class Instance {
 const NOTHING = new Uint8Array()
 const totalLength = (documents) => documents.reduce((sum, { length }) => sum + length, 0)
 
-/** The numbers of the requests at a place, as the addon returns them. */
-function requestNumbers(instance, at, count) {
-  const halves = instance.numbers(at, 2 * NUMBERS * count)
-  return Float64Array.from({ length: NUMBERS * count }, (_, i) => {
+/** The numbers in so many words at a place, as the addon returns them. */
+function listedNumbers(instance, at, words) {
+  const halves = instance.numbers(at, 2 * words)
+  return Float64Array.from({ length: words }, (_, i) => {
     const [low, high] = [halves[2 * i], halves[2 * i + 1]]
     return low === NONE && high === NONE ? -1 : high * 2 ** 32 + low
   })
+}
+
+/** Has a call list what a batch has, in structs of so many words. */
+function callList(use, seed, name, width, batch) {
+  const answer = use((instance) => instance.with((take) => {
+    const [given, count] = [instance.put(take, [batch]), take(WORD)]
+    let room = Math.min(Math.floor(batch.length / SHORTEST) + 1, MOST)
+    let list = take(room * width * WORD)
+    instance.numbers(count, 2).fill(0)
+    const [status, text] = instance.writeText(take, batch.length + MORE, (words) => {
+      if (instance.word(count) > room) {
+        room = instance.word(count)
+        list = take(room * width * WORD)
+      }
+      return instance.call(name, ...given, ...words, list, BigInt(room), count, seed)
+    })
+    return [status, text, listedNumbers(instance, list, width * instance.word(count))]
+  }))
+  return answer ?? [OUT_OF_MEMORY, Buffer.from(NOTHING), new Float64Array()]
 }
 
 /** The calls that keep nothing. `use` does work with an instance; `seed` is that of the tables of names. */
@@ -168,22 +187,8 @@ function commandCalls(use, seed) {
       return status ?? OUT_OF_MEMORY
     },
 
-    requests(batch) {
-      const answer = use((instance) => instance.with((take) => {
-        const [given, count] = [instance.put(take, [batch]), take(WORD)]
-        let room = Math.min(Math.floor(batch.length / SHORTEST) + 1, MOST)
-        let requests = take(room * NUMBERS * WORD)
-        const [status, text] = instance.writeText(take, batch.length + MORE, (words) => {
-          if (instance.word(count) > room) {
-            room = instance.word(count)
-            requests = take(room * NUMBERS * WORD)
-          }
-          return instance.call('odb_requests', ...given, ...words, requests, BigInt(room), count, seed)
-        })
-        return [status, text, requestNumbers(instance, requests, status === DONE ? instance.word(count) : 0)]
-      }))
-      return answer ?? [OUT_OF_MEMORY, Buffer.from(NOTHING), new Float64Array()]
-    },
+    requests: (batch) => callList(use, seed, 'odb_requests', OF_REQUEST, batch),
+    faults: (batch) => callList(use, seed, 'odb_faults', OF_FAULT, batch),
   }
 }
 

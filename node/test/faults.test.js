@@ -3,7 +3,10 @@
 const assert = require('node:assert/strict')
 const { test } = require('node:test')
 const { Fault, Run, check, faults, match, plan, replay, requests, rest, run } = require('..')
+const library = require('../library/index.js')
 
+// So many faults that the call is repeated with more room.
+const MORE_THAN_GUESSED = 9000
 const ONE = '{"requests": [{"id":"a", "method":"get", "url":"A"}]}'
 // Faults on a line of their own, after characters of two, three and four bytes.
 const MANY = `{"@note": "ä€📚", "requests": [
@@ -34,6 +37,12 @@ test('all faults of a batch, with their positions', () => {
     ['F14', '/requests/2', 3, 8, second + 7],
     ['F15', '/requests/2', 3, 8, second + 7],
   ])
+})
+
+test('where they are is found with them', (t) => {
+  t.mock.method(library, 'where', () => assert.fail('a place is looked up'))
+  const found = faults(`{"requests": [7${'\n,7'.repeat(MORE_THAN_GUESSED - 1)}]}`)
+  assert.deepEqual(found.map((it) => it.line), Array.from({ length: MORE_THAN_GUESSED }, (_, i) => i + 1))
 })
 
 test('the first is the one that a check throws', () => {

@@ -6,7 +6,7 @@ from typing import Iterator, Literal, Optional, Sequence, Union, get_args, overl
 
 from ._native import library
 from ._native.calls import (
-    MAX_WIDTH, MORE, Mode, mode_number, option_number, policy_numbers, read_fault, read_text, status_error,
+    MAX_WIDTH, MORE, Mode, mode_number, option_number, policy_numbers, read_faults, read_text, status_error,
 )  # fmt: skip
 from .documents.encoding import Document, Events, Report, Start, document_bytes, events_bytes
 from .errors.faults import Fault
@@ -143,13 +143,7 @@ def faults(batch: Document) -> tuple[Fault, ...]:
     Raises:
         MemoryError: An allocation failed.
     """
-    document = document_bytes(batch)
-    status, text = library.call("odb_check_all", (document,), (), len(document) + MORE)
-    if status == library.DONE:
-        return ()
-    if status == library.REFUSED:
-        return tuple(read_fault(line, document) for line in text.splitlines())
-    raise status_error("odb_check_all", status)
+    return read_faults(document_bytes(batch))
 
 
 def _planned(line: str) -> PlannedRequest:

@@ -8,8 +8,11 @@ from hypothesis import given
 from hypothesis import strategies as st
 
 from odb_batch import Fault, Report, Run, Start, check, faults, match, plan, replay, requests, rest, run
+from odb_batch._native import library
 from support.strategies import batches
 
+# So many faults that the call is repeated with more room.
+MORE_THAN_GUESSED = 9_000
 ONE = b'{"requests": [{"id":"a", "method":"get", "url":"A"}]}'
 # Faults on a line of their own, after characters of two, three and four bytes.
 MANY = """{"@note": "\u00e4\u20ac\U0001f4da", "requests": [
@@ -45,6 +48,11 @@ class TestFaults:
 
     def test_a_document_that_is_no_json_has_one(self):
         assert stand(faults(b"[7,]")) == [("F02", "batch", 1, 4, 3)]
+
+    def test_where_they_are_is_found_with_them(self, monkeypatch):
+        monkeypatch.setattr(library, "call_where", None)
+        found = faults(b'{"requests": [7%s]}' % (b"\n,7" * (MORE_THAN_GUESSED - 1)))
+        assert [(it.place, it.line) for it in found] == [(f"/requests/{i}", i + 1) for i in range(MORE_THAN_GUESSED)]
 
     def test_they_are_no_exceptions_of_a_call(self):
         assert all(it.__traceback__ is None for it in faults(b"{}"))

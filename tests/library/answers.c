@@ -18,8 +18,7 @@
 #define MOST_REQUESTS 10000
 #define MOST_STEPS 60
 #define LONGEST_BATCH 100000 /* of a live run */
-#define CHECK_ALL 7          /* no command of a file */
-#define PARTS (sizeof(odb_request) / sizeof(size_t))
+#define WORDS(type) (sizeof(type) / sizeof(size_t))
 #define COUNT(array) (sizeof(array) / sizeof *(array))
 
 typedef struct bytes {
@@ -106,8 +105,6 @@ static uint32_t answer_once(const call *it, uint32_t form)
     case 5:
         return odb_replay_as(a.at, a.size, b.at, b.size, it->mode, it->width, it->order, it->trace, form,
                              text, text_size, &length, seed);
-    case CHECK_ALL:
-        return odb_check_all_as(a.at, a.size, form, text, text_size, &length, seed);
     default:
         return odb_rest(a.at, a.size, b.at, b.size, it->mode, form, text, text_size, &length, seed);
     }
@@ -132,27 +129,44 @@ static uint32_t answer(const call *it, uint32_t form)
     }
 }
 
-static void print_requests(bytes batch)
+/* A call that lists what a batch has. */
+typedef uint32_t lister(bytes batch, void *items, size_t room, size_t *count);
+
+static uint32_t list_requests(bytes batch, void *items, size_t room, size_t *count)
 {
-    static odb_request found[MOST_REQUESTS];
-    static double numbers[MOST_REQUESTS * PARTS];
-    size_t count = 0;
-    long before = live_blocks;
-    uint32_t status = odb_requests(batch.at, batch.size, text, text_size, &length, found, MOST_REQUESTS, &count, seed);
-    expect_blocks(before);
-    if (status == ODB_SMALL_BUFFER) {
-        grow(length);
-        print_requests(batch);
-        return;
+    return odb_requests(batch.at, batch.size, text, text_size, &length, items, room, count, seed);
+}
+
+static uint32_t list_faults(bytes batch, void *items, size_t room, size_t *count)
+{
+    return odb_faults(batch.at, batch.size, text, text_size, &length, items, room, count, seed);
+}
+
+/* Prints what a call lists, in structs of so many sizes and positions. */
+static void print_list(bytes batch, lister *list, size_t words)
+{
+    static size_t *items, room;
+    static double *numbers;
+    size_t count;
+    for (;;) {
+        long before = live_blocks;
+        uint32_t status = list(batch, items, room / words, &count);
+        expect_blocks(before);
+        if (status != ODB_SMALL_BUFFER) {
+            for (size_t i = 0; i < count * words; i++)
+                numbers[i] = items[i] == ODB_NONE ? -1 : (double)items[i];
+            uint32_t head[] = {status, (uint32_t)length};
+            print_line(head, COUNT(head), numbers, count * words * sizeof *numbers);
+            return;
+        }
+        if (length > text_size)
+            grow(length);
+        if (count * words > room) {
+            room = count * words;
+            items = allocated(items, room * sizeof *items);
+            numbers = allocated(numbers, room * sizeof *numbers);
+        }
     }
-    for (size_t i = 0; i < count; i++) {
-        size_t parts[PARTS];
-        memcpy(parts, &found[i], sizeof parts);
-        for (size_t k = 0; k < PARTS; k++)
-            numbers[i * PARTS + k] = parts[k] == ODB_NONE ? -1 : (double)parts[k];
-    }
-    uint32_t head[] = {status, (uint32_t)length};
-    print_line(head, 2, numbers, count * PARTS * sizeof *numbers);
 }
 
 /* Prints what a call answers in each form. */
@@ -183,9 +197,8 @@ static void print_answers(bytes file)
     call it;
     while (next_call(&file, &it)) {
         print_forms(&it);
-        print_requests(it.batch);
-        it.command = CHECK_ALL;
-        print_forms(&it);
+        print_list(it.batch, list_requests, WORDS(odb_request));
+        print_list(it.batch, list_faults, WORDS(odb_fault));
         print_places(it.batch);
     }
 }

@@ -94,6 +94,24 @@ static int all_faults_in_json(void)
     return odb_check_all_as(bytes(batch), strlen(batch), ODB_JSON, text, sizeof text, &length, 7) == ODB_REFUSED;
 }
 
+/* Asks for all faults of a batch, with where they are. */
+static uint32_t ask_for_faults(void)
+{
+    static odb_fault found[CHAIN];
+    size_t count;
+    return odb_faults(bytes(batch), strlen(batch), text, sizeof text, &length, found, CHAIN, &count, 7);
+}
+
+static int no_faults(void)
+{
+    return is_done(ask_for_faults());
+}
+
+static int faults(void)
+{
+    return ask_for_faults() == ODB_REFUSED;
+}
+
 /* Looks for the document, which is read for that, and for its first request. */
 static int find(void)
 {
@@ -356,6 +374,7 @@ static void measure_deep(void)
     measure("a check of a deep body without a seed", check_without_a_seed);
     measure("a check of a deep body in JSON", check_in_json);
     measure("a check of a deep body for all faults", check_for_all_faults);
+    measure("no faults of a deep body", no_faults);
     measure("where a deep body is", find);
     measure("a plan of a deep body", plan);
     measure("a plan of a deep body in JSON", plan_in_json);
@@ -380,6 +399,7 @@ static void measure_deep(void)
     measure("a check of a body that is too deep", refused);
     measure("a check of a body that is too deep in JSON", refused_in_json);
     measure("all faults of a body that is too deep", all_faults_in_json);
+    measure("where the faults of a body that is too deep are", faults);
     measure("where a body is too deep", find);
 }
 
@@ -391,6 +411,7 @@ static void measure_chain(void)
     measure("a check of a chain without a seed", check_without_a_seed);
     measure("a check of a chain in JSON", check_in_json);
     measure("a check of a chain for all faults", check_for_all_faults);
+    measure("no faults of a chain", no_faults);
     measure("a plan of a chain", plan);
     measure("a plan of a chain in JSON", plan_in_json);
     measure("a canonical text of a chain in JSON", canon_in_json);

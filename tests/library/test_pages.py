@@ -40,14 +40,14 @@ def skip_before(tool, word, pattern, *wanted):
 
 IN_C = {
     "page.c": ONE, "live.c": '{"responses":[{"body":{},"id":"a","status":200}]}\n', "requests.c": "9.990",
-    "where.c": "line 2, column 7\n",
+    "faults.c": "1:14: F10\n2:1: F10\n2:3: F10\n",
 }  # fmt: skip
 
 
 @pytest.mark.parametrize("source, wanted", IN_C.items())
 def test_c(source, wanted, library, environment, tmp_path):
     lay_out(tmp_path, f"{PAGES}/live.c", f"{PAGES}/requests.c")
-    lay_out(tmp_path, f"{PAGES}/where.c", where_inc=block("c", 3))
+    lay_out(tmp_path, f"{PAGES}/faults.c", faults_inc=block("c", 3))
     lay_out(tmp_path, page_c=block("c"), run_inc=block("c", 1), requests_inc=block("c", 2))
     flags = ["-std=c99", *STRICT, f"-I{ROOT}/include", f"-L{library}"]
     run("cc", *flags, "-o", "page", source, "-lodb_batch", cwd=tmp_path)

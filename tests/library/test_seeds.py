@@ -35,10 +35,11 @@ CALLS += [
     ("odb_check_all_as", ("batch",), (LINES,), "check"),
     ("odb_match_with", contents.KINDS["match"], (STOP, STRICT, LINES), "match"),
     ("odb_rest", contents.KINDS["match"], (STOP, LINES), None),
+    ("odb_faults", ("batch",), (), None),
     ("odb_requests", ("batch",), (), None),
     ("odb_run_open", ("batch", "events"), POLICY, "run"),
 ]
-WRITTEN = {"odb_rest": NOTHING_LEFT, "odb_requests": ""}
+WRITTEN = {"odb_rest": NOTHING_LEFT, "odb_faults": "", "odb_requests": ""}
 # The calls from Python to C for each of them, the first of which is it: then its text is copied; of a run the response is
 # asked, copied, and the run closed. Before all of them the version is asked.
 FOREIGN, BEFORE = {"odb_run_open": 5}, 1

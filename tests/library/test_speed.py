@@ -1,6 +1,8 @@
 """What calls in process take, and that they answer right: a check in C, in Python and by a process, and a live run beside a
 replay by the program. bench/calls.py measures their times. Instructions are judged, which callgrind counts:
 
+- of all faults of a batch with where they are beside those of the check that writes their lines alone; both are run by a
+  program that reads the batch, so what it takes to start is in both.
 - of a check of 1 KB beside those of `Value::from_slice`, `Batch::read` and the drop of the value in it. The check of the names and
   all that the call adds is the rest.
 - of a live run with all its calls beside those of the same replay by the program: what a thousand requests add to a
@@ -8,6 +10,7 @@ replay by the program. bench/calls.py measures their times. Instructions are jud
   of the time of a replay and a quarter of that of a run: so twice the instructions are some 1.5 times the time.
 """
 
+import json
 import os
 import re
 
@@ -20,7 +23,7 @@ from support.instructions import counts_of, instructions
 from support.program import ROOT
 
 FEW_REQUESTS = 1_000
-MOST_OF_CHECK, MOST_OF_RUN = 1.3, 2
+MOST_OF_CHECK, MOST_OF_RUN, MOST_OF_FAULTS = 1.3, 2, 1.5
 DROP = r"odb_(?:command|engine)::serde_json\S*Value\+Destruct::drop"
 # What the library is made of, with the names of its functions.
 NAMED = os.path.join(ROOT, "crates", "odb_ffi", "out", "odb_batch.o")
@@ -69,6 +72,16 @@ def test_a_check_costs_little_more_than_reading_the_batch(compiled, tmp_path):
     counts, _ = counts_of(tmp_path, compiled("speed", NAMED), tmp_path / "batch", "0")
     listing = run("callgrind_annotate", "--inclusive=yes", "--threshold=100", counts)
     assert_within(counted(listing, "odb_check"), sum(counted(listing, name) for name in READING), MOST_OF_CHECK)
+
+
+@pytest.mark.slow
+@pytest.mark.needs("valgrind", "callgrind_annotate")
+def test_where_all_faults_are_costs_half_of_finding_them(compiled, tmp_path):
+    path, binary = tmp_path / "batch", compiled("faults_speed")
+    path.write_text(json.dumps({"requests": [{"id": f"r{i}", "method": "get", "url": "$b"} for i in range(MOST_REQUESTS)]}))
+    (of_faults, found), (of_check, listed) = (instructions(tmp_path, binary, path, it) for it in ("faults", "check"))
+    assert [found, listed] == [f"{MOST_REQUESTS}\n"] * 2
+    assert_within(of_faults, of_check, MOST_OF_FAULTS)
 
 
 @pytest.mark.slow

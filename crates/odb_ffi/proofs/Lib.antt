@@ -1,5 +1,6 @@
 mod AddressLemmas
 mod AnswerLemmas
+mod FaultLemmas
 mod OutcomeLemmas
 mod PositionLemmas
 mod RequestLemmas

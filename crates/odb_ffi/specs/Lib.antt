@@ -4,7 +4,9 @@ pub mod Options
 pub mod Positions
 pub mod Live
 pub mod Units
+pub mod Lists
 pub mod Requests
+pub mod Faults
 pub mod Rests
 pub mod Places
 pub mod Handles

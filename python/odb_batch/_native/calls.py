@@ -13,6 +13,9 @@ _MODES: tuple[str, ...] = get_args(Mode)
 MAX_WIDTH = 10_000
 #: How much longer than its documents a text is thought to be; a longer one takes a second call.
 MORE = 256
+# How short a request may be in a document, and how many a batch may have.
+_SHORTEST = 32
+_MAX_REQUESTS = 10_000
 
 
 def option_number(values: tuple[str, ...], name: str, value: str) -> int:
@@ -58,6 +61,27 @@ def read_fault(line: bytes, *documents: bytes) -> Fault:
         return Fault(code, name, place)
     document = documents[0 if place == "batch" or place.startswith("/requests/") else -1]
     return Fault(code, name, place).in_document(document, partial(_position, document, place))
+
+
+def likely_count(batch: bytes) -> int:
+    """Returns a guess of how many requests a batch has, or faults if each has one; more take a second call."""
+    return min(len(batch) // _SHORTEST + 1, _MAX_REQUESTS)
+
+
+def read_faults(batch: bytes) -> tuple[Fault, ...]:
+    """Returns all faults of a batch, with where they are."""
+    status, text, found = library.call_faults(batch, len(batch) + MORE, likely_count(batch))
+    if status not in (library.DONE, library.REFUSED):
+        raise status_error("odb_faults", status)
+    words = text.decode()
+    return tuple(_listed_fault(batch, words, numbers) for numbers in found)
+
+
+def _listed_fault(batch: bytes, text: str, numbers: tuple[int, ...]) -> Fault:
+    """Returns the fault whose words lie there in a text of ASCII."""
+    code, code_length, name, name_length, place, place_length, line, column, offset = numbers
+    fault = Fault(text[code : code + code_length], text[name : name + name_length], text[place : place + place_length])
+    return fault.in_document(batch, partial(Position, line, column, offset))
 
 
 def _position(document: bytes, place: str) -> Optional[Position]:

@@ -17,10 +17,13 @@ DONE, REFUSED, WRONG_OPTION, OUT_OF_MEMORY, SMALL_BUFFER = 0, 1, 2, 4, 5
 NONE = 2 ** (8 * ctypes.sizeof(ctypes.c_size_t)) - 1
 
 # How many numbers an odb_request has: a start and a length for each of seven parts, and a position.
-_NUMBERS = 15
+_OF_REQUEST = 15
 
 # How many numbers an odb_position has: a line, a column and an offset.
 _OF_POSITION = 3
+
+# How many numbers an odb_fault has: a start and a length for each of three words, and a position.
+_OF_FAULT = 6 + _OF_POSITION
 
 # The version that this package is made for; the library may have another patch.
 MAJOR, MINOR = 0, 2
@@ -37,6 +40,7 @@ _NUMBER = [ctypes.c_uint32]
 _SIZE = ctypes.POINTER(ctypes.c_size_t)
 _TEXT = [ctypes.c_void_p, ctypes.c_size_t, _SIZE]
 _SEEDED = [*_TEXT, ctypes.c_uint64]
+_LIST = [ctypes.c_void_p, ctypes.c_size_t, _SIZE, ctypes.c_uint64]
 _RUN = [ctypes.POINTER(Handle)]
 _PLACE = ctypes.POINTER(ctypes.c_uint32)
 _POSITIONS = [ctypes.POINTER(ctypes.c_uint32), ctypes.c_size_t, _SIZE]
@@ -60,7 +64,8 @@ _PARAMETERS: dict[str, list[Any]] = {
     "odb_run_as": [*_BYTES, *_BYTES, *_NUMBER * 3, *_SEEDED],
     "odb_replay_as": [*_BYTES, *_BYTES, *_NUMBER * 5, *_SEEDED],
     "odb_where": [*_BYTES, *_BYTES, ctypes.c_void_p],
-    "odb_requests": [*_BYTES, *_TEXT, ctypes.c_void_p, ctypes.c_size_t, _SIZE, ctypes.c_uint64],
+    "odb_faults": [*_BYTES, *_TEXT, *_LIST],
+    "odb_requests": [*_BYTES, *_TEXT, *_LIST],
     "odb_run_open": [*_BYTES, *_BYTES, *_NUMBER * 2, *_RUN, *_SEEDED],
     "odb_run_ready": [*_RUN, *_POSITIONS],
     "odb_run_running": [*_RUN, *_POSITIONS],
@@ -166,19 +171,29 @@ def call(name: str, documents: tuple[bytes, ...], options: tuple[Any, ...], room
         room = length.value
 
 
-def call_requests(batch: bytes, room: int, most: int) -> tuple[int, bytes, list[tuple[int, ...]]]:
-    """The status of a call for the requests of a batch, the text, and the numbers of each request. `room` and `most` are
-    guesses of how long the text is, and how many requests there are."""
+def _call_list(name: str, width: int, batch: bytes, room: int, most: int) -> tuple[int, bytes, list[tuple[int, ...]]]:
+    """Calls a function that lists what a batch has: its status, the text, and so many numbers for each. `room` and `most`
+    are guesses of how long the text and the list are."""
+    function: Callable[..., int] = getattr(LIBRARY, name)
     length, count = ctypes.c_size_t(), ctypes.c_size_t()
+    sizes = ctypes.byref(length), ctypes.byref(count)
     while True:
-        text, numbers = ctypes.create_string_buffer(room), (ctypes.c_size_t * (_NUMBERS * max(most, 1)))()
-        status = LIBRARY.odb_requests(
-            batch, len(batch), text, room, ctypes.byref(length), numbers, most, ctypes.byref(count), _SEED
-        )
+        text, numbers = ctypes.create_string_buffer(room), (ctypes.c_size_t * (width * max(most, 1)))()
+        status = function(batch, len(batch), text, room, sizes[0], numbers, most, sizes[1], _SEED)
         if status != SMALL_BUFFER:
-            found = iter(numbers[: _NUMBERS * count.value])
-            return status, ctypes.string_at(text, length.value), list(zip(*[found] * _NUMBERS))
+            found = iter(numbers[: width * count.value])
+            return status, ctypes.string_at(text, length.value), list(zip(*[found] * width))
         room, most = max(length.value, room), max(count.value, most)
+
+
+def call_requests(batch: bytes, room: int, most: int) -> tuple[int, bytes, list[tuple[int, ...]]]:
+    """The status of a call for the requests of a batch, the text, and the numbers of each request."""
+    return _call_list("odb_requests", _OF_REQUEST, batch, room, most)
+
+
+def call_faults(batch: bytes, room: int, most: int) -> tuple[int, bytes, list[tuple[int, ...]]]:
+    """The status of a call for the faults of a batch, the text, and the numbers of each fault."""
+    return _call_list("odb_faults", _OF_FAULT, batch, room, most)
 
 
 def call_where(document: bytes, place: bytes) -> tuple[int, list[int]]:

@@ -5,13 +5,9 @@ from dataclasses import dataclass
 from typing import Optional, Sequence
 
 from .._native import library
-from .._native.calls import MORE, read_fault, status_error
+from .._native.calls import MORE, likely_count, read_fault, status_error
 from ..values import Value
 from .encoding import Document, document_bytes
-
-# How short a request may be in a document, and how many a batch may have.
-_SHORTEST = 32
-_MAX_REQUESTS = 10_000
 
 
 @dataclass(frozen=True)
@@ -77,9 +73,7 @@ def requests(batch: Document) -> tuple[Request, ...]:
         MemoryError: An allocation failed.
     """
     document = document_bytes(batch)
-    status, text, parts = library.call_requests(
-        document, len(document) + MORE, min(len(document) // _SHORTEST + 1, _MAX_REQUESTS)
-    )
+    status, text, parts = library.call_requests(document, len(document) + MORE, likely_count(document))
     if status == library.REFUSED:
         raise read_fault(text, document)
     if status != library.DONE:

@@ -54,7 +54,8 @@ class Fault(OdbError, ValueError):
     """A document is refused: by its first fault, or by one of all that :func:`faults` returns.
 
     Its text is the code, the name and the place, as ``F41 ForwardName /requests/0``. Where that begins in the document, as
-    ``line``, ``column`` and ``offset`` say, is looked up when one of them is asked for; a fault keeps its document for that.
+    ``line``, ``column`` and ``offset`` say, :func:`faults` finds for all faults at once; of a fault that is raised it is looked
+    up when one of them is asked for. A fault keeps its document for that.
     In a document that is not JSON (F02) they are those of the first byte that cannot be there, or of the end. Of a mapping
     they are those in the JSON that ``json`` writes of it. They are None for a fault that a live run has found.
 

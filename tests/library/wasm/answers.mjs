@@ -2,7 +2,6 @@
 // to be the same for each form of the library, and those of ../answers.c. For Node and for browsers.
 
 const FORMS = [0, 1]
-const CHECK_ALL = 7
 const PLACES = ['batch', '/requests/0', '/requests/7']
 const NUMBERS = 8 // before the documents of a call, each of 32 bits
 const MOST_REQUESTS = 10000
@@ -64,14 +63,15 @@ function* forms(library, ...values) {
   }
 }
 
-/** The lines of the answers to the calls, and of the requests, all faults and some places of their batches. */
+/** The lines of the answers to the calls, and of the requests, the faults and some places of their batches. */
 function* answers(library, file) {
   for (const { numbers: [command, ...options], batch, second } of callsOf(file)) {
     yield* forms(library, command, batch, second, ...options)
-    const [status, text, parts] = library.requests(batch)
-    expectFreed()
-    yield lineOf([status, text.length], new Uint8Array(parts.buffer))
-    yield* forms(library, CHECK_ALL, batch, second, ...options)
+    for (const name of ['requests', 'faults']) {
+      const [status, text, parts] = library[name](batch)
+      expectFreed()
+      yield lineOf([status, text.length], new Uint8Array(parts.buffer))
+    }
     for (const place of PLACES) {
       const numbers = new Float64Array(3)
       const status = library.where(batch, bytesOf(place), numbers)
