@@ -98,6 +98,17 @@ everywhere('takes no memory for a body that a write has lost', { maxSize: 1000, 
   assert.deepEqual([a.status, a.body, b.status, b.body?.length], [201, undefined, 200, 600])
 })
 
+everywhere('takes memory for the bytes of a body alone', { maxSize: 1000 }, async ({ events, responses }) => {
+  events.on('chunks', (req, res) => {
+    res.writeHead(200, { 'Content-Type': 'text/plain' })
+    for (let k = 0; k < 10; k++) res.write('x'.repeat(50))
+    res.end()
+  })
+  events.on('whole', (req, res) => res.writeHead(200, { 'Content-Type': 'text/plain' }).end('y'.repeat(480)))
+  const { a, b } = await responses(batch(['a', 'get', 'chunks'], ['b', 'get', 'whole']))
+  assert.deepEqual([a.status, a.body?.length, b.status], [200, 500, 200])
+})
+
 test('has a budget that is closed take and give nothing', () => {
   const whole = new BodyBudget(10)
   const part = new BodyBudget(10, whole)
