@@ -5,6 +5,7 @@
 const assert = require('node:assert/strict')
 const { EventEmitter, once } = require('node:events')
 const { test } = require('node:test')
+const { BodyBudget } = require('../middleware/body_budget.js')
 const { batch: mounted } = require('../middleware/index.js')
 const { batch } = require('./performing.js')
 const { PATH, express, listening, serving } = require('./serving.js')
@@ -81,6 +82,42 @@ everywhere('takes no memory for answers that fail', { maxSize: 1000, timeout: 50
   }
 })
 
+everywhere('takes no memory for a body that a write has lost', { maxSize: 1000, width: 2 }, async ({ events, responses }) => {
+  let written
+  events.on('long', (req, res) => {
+    res.writeHead(201, { 'Content-Type': 'text/plain' }).write('x'.repeat(600))
+    res.write('x'.repeat(600))
+    written = res
+  })
+  events.on('whole', async (req, res) => {
+    await new Promise(setImmediate) // what is written passes at the end of a turn
+    res.writeHead(200, { 'Content-Type': 'text/plain' }).end('y'.repeat(600))
+    written.end()
+  })
+  const { a, b } = await responses(batch(['a', 'post', 'long'], ['b', 'get', 'whole']))
+  assert.deepEqual([a.status, a.body, b.status, b.body?.length], [201, undefined, 200, 600])
+})
+
+everywhere('takes memory for the bytes of a body alone', { maxSize: 1000 }, async ({ events, responses }) => {
+  events.on('chunks', (req, res) => {
+    res.writeHead(200, { 'Content-Type': 'text/plain' })
+    for (let k = 0; k < 10; k++) res.write('x'.repeat(50))
+    res.end()
+  })
+  events.on('whole', (req, res) => res.writeHead(200, { 'Content-Type': 'text/plain' }).end('y'.repeat(480)))
+  const { a, b } = await responses(batch(['a', 'get', 'chunks'], ['b', 'get', 'whole']))
+  assert.deepEqual([a.status, a.body?.length, b.status], [200, 500, 200])
+})
+
+test('has a budget that is closed take and give nothing', () => {
+  const whole = new BodyBudget(10)
+  const part = new BodyBudget(10, whole)
+  assert.equal(part.take(4), true)
+  part.close()
+  part.giveBack(4)
+  assert.deepEqual([part.take(1), whole.take(10), whole.take(1)], [false, true, false])
+})
+
 test('takes no memory for an answer that comes after the end of its batch', { timeout: WAITS }, async () => {
   const late = new EventEmitter()
   const answer = { statusCode: 200, headers: { 'content-type': 'text/plain' }, rawPayload: Buffer.alloc(600, 'x') }
@@ -101,7 +138,7 @@ test('takes no memory for an answer that comes after its time', { timeout: WAITS
   const inject = async ({ url }) => {
     if (url.endsWith('late')) await once(late, 'answer')
     else late.emit('answer')
-    await new Promise(setImmediate)
+    for (let k = 0; url.endsWith('soon') && k < 5; k++) await new Promise(setImmediate) // after the late one
     return answer
   }
   const mount = mounted({ inject }, { path: PATH, maxSize: 1000, timeout: 500, log: () => {} })

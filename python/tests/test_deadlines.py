@@ -9,7 +9,7 @@ import pytest
 
 from odb_batch import Stop, perform, perform_async
 from odb_batch.driver import threads
-from odb_batch.driver.waits import Places
+from odb_batch.driver.waits import Deadline, Places
 from support.performing import Clock, Ledger, Memory, gets, shown
 
 
@@ -71,6 +71,13 @@ class TestTasks:
 
         found = asyncio.run(perform_async(gets("a", "b"), hang, width=1, timeout=0.01, deadline=600))
         assert shown(found) == {"a": 504, "b": 504}
+
+    def test_it_bounds_a_longer_timeout(self):
+        async def main():
+            ends = Deadline(600)
+            return [ends.end(timeout) == ends.at for timeout in (7200, None, 1)]
+
+        assert asyncio.run(main()) == [True, True, False]
 
     def test_a_request_is_not_sent_after_it(self):
         """Where the loop was busy until then."""

@@ -3,6 +3,7 @@ the reasons in the log for those that do not come.
 """
 
 import gzip
+import itertools
 import json
 import random
 import re
@@ -106,7 +107,11 @@ def test_an_answer_that_is_compressed_is_read(raw, front, kind, body):
 
 
 def test_several_members_of_gzip_are_one_body(raw, front):
-    service = raw(b"Content-Encoding: gzip", body=gzip.compress(b'{"a":') + gzip.compress(b"1}"))
+    from odb_batch.gateway._decoding import Decoder
+
+    body = gzip.compress(b'{"a":') + gzip.compress(b"1}")
+    assert b"".join(itertools.islice(Decoder("gzip").parts(body), 9)) == b'{"a":1}'  # a gateway would stand still over a defect
+    service = raw(b"Content-Encoding: gzip", body=body)
     assert front("--upstream", service.url).batch({"method": "post", "url": "x"})["r0"]["body"] == {"a": 1}
 
 

@@ -69,13 +69,14 @@ def test_a_credential_that_an_option_names(pair):
     assert [names(seen, ["X-Token", "X-Other"]) for seen in (orders, main)] == [{"x-other"}] * 2
 
 
-def test_a_group_has_the_credentials_that_all_of_its_routes_get(upstream, front):
+@pytest.mark.parametrize("urls", [("Orders", "Lines"), ("Lines", "Orders")])
+def test_a_group_has_the_credentials_that_all_of_its_routes_get(upstream, front, urls):
     service = upstream(lambda seen: answered(seen))
     routes = [word for name in ("Orders", "Lines") for word in ("--route", f"/odata/{name}={service.url}/v2/{name}")]
     sent = ["--send", "Cookie=/odata/Orders", "--send", "Cookie=/odata/Lines", "--send", "Authorization=/odata/Lines"]
     post = {"method": "post", "atomicityGroup": "g"}
     it = front(*routes, *sent, "--groups", "forward")
-    it.statuses({"url": "Orders", **post}, {"url": "Lines", **post}, headers={**CONTINUE, **SECRETS})
+    it.statuses(*({"url": url, **post} for url in urls), headers={**CONTINUE, **SECRETS})
     assert [names(seen.headers) for seen in service.seen] == [{"cookie"}]
 
 

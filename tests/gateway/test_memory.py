@@ -1,5 +1,6 @@
 """What batches and their answers hold in memory: reserved as it is read, from one budget, and given back."""
 
+import contextlib
 import json
 import socket
 import threading
@@ -139,18 +140,38 @@ def test_memory_for_less_than_one_batch(capsys):
     assert capsys.readouterr().err.splitlines()[-1] == line
 
 
-def test_a_client_that_does_not_read_is_not_waited_for_for_ever(upstream, front, monkeypatch):
+@pytest.fixture
+def long(upstream, front):
+    """A gateway whose answers are longer than what a connection holds of which the client does not read."""
     from aiohttp import web
 
-    from odb_batch.gateway import _application
+    return front("--upstream", upstream(lambda seen: web.Response(body=b"x" * 12_000_000)).url)
 
-    monkeypatch.setattr(_application, "_WRITE_SECONDS", 0.5)
-    it = front("--upstream", upstream(lambda seen: web.Response(body=b"x" * 12_000_000)).url)
+
+@contextlib.contextmanager
+def unread(it):
+    """A client that has sent a batch, and reads no answer by itself."""
     with socket.socket() as client:
         client.setsockopt(socket.SOL_SOCKET, socket.SO_RCVBUF, 4096)
+        client.settimeout(SECONDS)
         client.connect(("127.0.0.1", it.port))
         head = f"POST /odata/$batch HTTP/1.1\r\nHost: a\r\nContent-Type: application/json\r\nContent-Length: {len(ONE)}\r\n\r\n"
         client.sendall((head + ONE).encode())
-        until(lambda: not is_free(it))
-        until(lambda: is_free(it))
-    assert "batches_running 0" in it.metrics()
+        yield client
+
+
+def test_a_client_that_does_not_read_is_not_waited_for_for_ever(long, monkeypatch):
+    from odb_batch.gateway import _application
+
+    monkeypatch.setattr(_application, "_WRITE_SECONDS", 0.5)
+    with unread(long):
+        until(lambda: not is_free(long))
+        until(lambda: is_free(long))
+    assert "batches_running 0" in long.metrics()
+
+
+def test_memory_is_held_until_the_answer_is_sent(long):
+    with unread(long) as client:
+        assert client.recv(1) == b"H"  # of HTTP/1.1
+        assert not is_free(long)
+    until(lambda: is_free(long))

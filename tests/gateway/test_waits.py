@@ -52,6 +52,17 @@ def test_a_service_that_hangs_keeps_no_other_waiting(slow, upstream, front, even
     assert waiting_at(it, hanging) == 0
 
 
+def test_a_group_waits_for_a_connection_to_its_service(slow, front, event):
+    service = slow()
+    it = front("--upstream", service.url, "--connections", "1", "--groups", "forward")
+    with ThreadPoolExecutor(1) as clients:
+        clients.submit(it.statuses, {"url": "slow"}, {"method": "post", "url": "x", "atomicityGroup": "g"})
+        until(lambda: service.seen and (waiting_at(it, service) or len(service.seen) > 1))
+        seen = list(service.paths)
+        event.set()
+    assert (seen, service.paths) == (["/odata/slow"], ["/odata/slow", "/$batch"])
+
+
 def test_a_connection_is_not_waited_for_for_ever(slow, running):
     it = running("--upstream", slow().url, "--connections", "1", "--timeout", "1")
     first, second, third = it.batch(*[{"url": "slow"}] * 3).values()

@@ -96,6 +96,8 @@ class Deadline:
 
     def end(self, timeout: Optional[float]) -> Optional[float]:
         """Returns when a request has to be over that starts now, or None; raises TimeoutError if that has passed."""
+        if timeout is None and self.at is None:
+            return None
         now = self._clock()
         if self.at is not None and self.at <= now:
             raise asyncio.TimeoutError("the deadline of the batch has passed")

@@ -108,7 +108,7 @@ class GatewayBatch:
         try:
             route, url = self._targets.pop(request.id, None) or self._routes.target(request.url)
             headers = self._headers_for([route], url, self._batch_request.headers.for_request(request.headers))
-            answer = await self._exchange(route, replace(request, url=url, headers=headers))
+            answer = await self._exchange(route, PreparedRequest(request.id, request.method, url, headers, request.body))
         except Refusal as refusal:
             self._counts.fault(error_code(refusal.answer))
             raise
@@ -117,7 +117,7 @@ class GatewayBatch:
     def _headers_for(self, routes: Collection[Route], url: str, headers: Dict[str, str]) -> Dict[str, str]:
         """Returns the headers of a request to a URL: those that the service of its routes gets, and the gateway's."""
         kept = self._upstream.credentials.headers_for(routes, headers)
-        return {**kept, **self._forwarded, "host": urlsplit(url).netloc}
+        return {"accept-encoding": "identity", **kept, **self._forwarded, "host": urlsplit(url).netloc}
 
     def _public_answer(self, sent: str, answer: Answer) -> Answer:
         """Returns an answer with the URLs in its headers as clients see them."""

@@ -167,7 +167,7 @@ class UpstreamClient:
         """Returns the answer of a service; raises Refusal if there is no room for it, or it cannot be shown."""
         session = self.session(request.method, journal is not None)
         options: Dict[str, Any] = {
-            "headers": {"accept-encoding": "identity", **request.headers},
+            "headers": request.headers,
             "data": request.body or None,
             "allow_redirects": False,
             "trace_request_ctx": journal,

@@ -45,6 +45,8 @@ _USUALLY_DROPPED = frozenset({"cache-control", "date", "pragma", "user-agent"})
 # The headers of which the log has a line; a client chooses names, so they are not many.
 _WARNED: set[str] = set()
 _WARNED_LOCK, _MAX_WARNED = threading.Lock(), 100
+# What a header may have for a value: Latin-1 without control characters but a tab (RFC 9110, section 5.5).
+_IS_FIELD_VALUE = re.compile("[\t -~\xa0-\xff]*").fullmatch
 _PREFERENCES = re.compile(r'(?:[^,"]|"[^"]*"?)+')
 # The preferences that are for the batch alone.
 _OF_BATCH = frozenset({"callback", "continue-on-error", "respond-async", "wait"})
@@ -189,7 +191,7 @@ class HeaderPolicy:
             if name not in self._allowed and not name.startswith(_ALLOWED_PREFIXES):
                 _warn_of(name)
                 raise Refusal(400, "HeaderNotAllowed", f"A request of a batch may not have the header {name}", name)
-            if not _is_field_value(value):
+            if _IS_FIELD_VALUE(value) is None:
                 raise Refusal(400, "BadHeader", f"The header {name} has a character that it may not have", name)
             headers[name] = ", ".join([value, *self._prefer]) if name == "prefer" else value
         return headers
@@ -218,8 +220,3 @@ def _require_identity(headers: Mapping[str, str]) -> None:
 
 def _is_inherited(name: str) -> bool:
     return name not in _NOT_INHERITED and not name.startswith(_NOT_INHERITED_PREFIXES)
-
-
-def _is_field_value(value: str) -> bool:
-    """Whether a header may have a value: Latin-1 without control characters but a tab (RFC 9110, section 5.5)."""
-    return all(character == "\t" or " " <= character <= "~" or "\xa0" <= character <= "\xff" for character in value)

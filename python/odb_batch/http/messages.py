@@ -106,8 +106,9 @@ def header_dict(pairs: Iterable[tuple[str, str]]) -> dict[str, str]:
             raise TypeError(f"a header has a name and a value, which are strings, not {name!r} and {value!r}")
         # As the library folds names: in ASCII alone.
         name = name.lower() if name.isascii() else name
-        separator = "; " if name == "cookie" else ", "
-        found[name] = f"{found[name]}{separator}{value}" if name in found else value
+        if name in found:
+            value = f"{found[name]}{'; ' if name == 'cookie' else ', '}{value}"
+        found[name] = value
     return found
 
 
@@ -160,10 +161,7 @@ def validate_answer(answered: Any) -> Answer:
 def _legible_headers(headers: dict[str, str]) -> dict[str, str]:
     """Returns headers that a document can have. Bytes that a client has read by surrogateescape are Latin-1 (RFC 9110,
     section 5.5); a header with any other half of a surrogate pair is left out."""
-    for name, value in headers.items():
-        if not (name.isascii() and value.isascii()):
-            break
-    else:
+    if "".join(headers).isascii() and "".join(headers.values()).isascii():
         return headers
     found = {}
     for name, value in headers.items():
