@@ -81,7 +81,7 @@ def _listed_fault(batch: bytes, text: str, numbers: tuple[int, ...]) -> Fault:
     """Returns the fault whose words lie there in a text of ASCII."""
     code, code_length, name, name_length, place, place_length, line, column, offset = numbers
     fault = Fault(text[code : code + code_length], text[name : name + name_length], text[place : place + place_length])
-    return fault.in_document(batch, partial(Position, line, column, offset))
+    return fault.at(batch, Position(line, column, offset))
 
 
 def _position(document: bytes, place: str) -> Optional[Position]:

@@ -2,7 +2,7 @@
 
 import json
 import pkgutil
-from functools import cache, cached_property
+from functools import cache
 from typing import Callable, NamedTuple, Optional
 
 from .findings import describe
@@ -66,6 +66,8 @@ class Fault(OdbError, ValueError):
 
     place: str
     _document: Optional[bytes] = None
+    # Where it is, or until that is asked for what looks it up.
+    _found: Optional[Position] = None
     _locate: Optional[Callable[[], Optional[Position]]] = None
     # Whether its text is for who has not written the document: the message in place of the name and the place.
     _is_of_builder = False
@@ -77,6 +79,11 @@ class Fault(OdbError, ValueError):
     def in_document(self, document: bytes, locate: Callable[[], Optional[Position]]) -> "Fault":
         """Notes the document that has the fault, and what looks up where; returns the fault itself."""
         self._document, self._locate = document, locate
+        return self
+
+    def at(self, document: bytes, position: Position) -> "Fault":
+        """Notes the document that has the fault, and where; returns the fault itself."""
+        self._document, self._found = document, position
         return self
 
     def of_builder(self) -> "Fault":
@@ -102,24 +109,30 @@ class Fault(OdbError, ValueError):
         found = "" if self._document is None else describe(self.code, self._document, self.place)
         return f"{found}{self.name}: {' '.join(self.explanation.split())}"
 
-    @cached_property
     def _position(self) -> Optional[Position]:
-        return None if self._locate is None else self._locate()
+        locate = self._locate
+        if locate is not None:
+            self._found = locate()
+            self._locate = None
+        return self._found
 
     @property
     def line(self) -> Optional[int]:
         """The line of the document in which the element begins, from 1."""
-        return self._position and self._position.line
+        position = self._position()
+        return position and position.line
 
     @property
     def column(self) -> Optional[int]:
         """The column in that line, from 1, in characters."""
-        return self._position and self._position.column
+        position = self._position()
+        return position and position.column
 
     @property
     def offset(self) -> Optional[int]:
         """How many bytes of the document come before the element."""
-        return self._position and self._position.offset
+        position = self._position()
+        return position and position.offset
 
 
 class Refused(OdbError):
