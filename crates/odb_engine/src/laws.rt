@@ -59,9 +59,10 @@ pub fn one_document()
 {}
 
 /// Two texts that a task may write for the same bytes of a batch document and of a second document are equal,
-/// and so are the ends: for each task with its options, but a full plan, in each form, and also if one of the documents is
+/// and so are the ends: for each task with its options, but a full plan and a rest, in each form, and also if one of the documents is
 /// refused. Likewise for a line of a log, with one document or with two. So what a task writes is a function of
-/// the bytes and the form. A full plan has places of bodies, of which no law states that they are the only ones.
+/// the bytes and the form. A full plan has places of bodies, and a rest has bodies, of which no law states that they are the only
+/// ones.
 ///
 /// The relation `OfDocuments` is that of [`crate::answer_task`], and `OfWholeLine` that of [`crate::answer_line`]. `left` is
 /// what the second reader has left.
@@ -86,17 +87,18 @@ pub fn one_text()
 }
 
 /// What a task over two documents writes of a line `[batch, second]` is what it writes of the two documents, and
-/// it ends alike: for `match`, `replay` and `run` with their options, in each form.
+/// it ends alike: for `match`, `replay` and `run` with their options, in each form. Not for `rest`, whose bodies are those of
+/// the bytes: of a line it takes those of the batch in the line.
 ///
 /// The two documents are in memory, or the second is all that a reader has left. `IsLineOf` asks that the line
 /// itself is a document too: so it has at most 16,777,216 bytes, and what is in it nests at most 126 deep.
 pub fn every_pair()
     ensures memory { (task : Task) (form : Form) (batch second line text : List ℕ) (ended : Ended)
-        → takes_second task ≡ true → IsLineOf batch second line
+        → takes_second task ≡ true → takes_bytes task ≡ false → IsLineOf batch second line
         → (OfWholeLine task line form ended text)
         ↔ (OfDocuments task (InMemory second) batch form ended text) }
     ensures readers { (task : Task) (form : Form) (batch second line text : List ℕ) (ended : Ended)
-        → takes_second task ≡ true → IsLineOf batch second line
+        → takes_second task ≡ true → takes_bytes task ≡ false → IsLineOf batch second line
         → (OfWholeLine task line form ended text)
         ↔ (OfDocuments task (ByReader (Some second)) batch form ended text) }
 {}

@@ -5,7 +5,6 @@ pub mod Positions
 pub mod Live
 pub mod Units
 pub mod Requests
-pub mod Rests
 pub mod Places
 pub mod Handles
 pub mod Sessions
