@@ -1,11 +1,15 @@
 -- What a task writes of a line with two documents is what it writes of the two documents.
-use Rattle.std.proofs.Common.{◌≡◌, ◌∙◌, ◌↔◌, Bool, true, false, ℕ, List, [], Some, inl, inr, refl, sym, subst}
+use Rattle.std.proofs.Common.{◌≡◌, ◌∙◌, ◌↔◌, Bool, true, false, ℕ, List, [], length, ◌-◌, ◌≤◌, drop, Some, inl, inr, refl, sym, subst, arith}
 use Rattle.std.proofs.lemmas.Bool.{false≢true, true≢false}
+use Rattle.std.proofs.lemmas.List.{length-drop, length-take}
 use Rattle.serde_json.specs.Data.{Data, array, item, no_items}
 use Rattle.odb_doc.specs.declared.fault.Place.{Place}
 use Rattle.odb_doc.specs.declared.fault.Place.TheVariants as places
 use Rattle.odb_doc.specs.Documents.{IsDocument}
 use Rattle.odb_doc.specs.batch.Records.{Record}
+use Rattle.odb_spans.specs.Positions.{IsTextAt}
+use Rattle.odb_spans.specs.Spans.{bytes_of}
+use Rattle.odb_spans.specs.declared.span.Span.{Span}
 use Rattle.odb_sched.specs.run.Choosing.{AllowsOrder}
 use Rattle.odb_engine.specs.declared.ending.Ended.{Ended}
 use Rattle.odb_engine.specs.declared.form.Form.{Form}
@@ -21,7 +25,7 @@ use Rattle.odb_engine.specs.Replays.{ReplaysValue}
 use Rattle.odb_engine.specs.Rests.{RestsValue}
 use Rattle.odb_engine.specs.Runs.{RunsValue}
 use Rattle.odb_engine.specs.Accepted.{written_alike}
-use Rattle.odb_engine.specs.Tasks.{AnswersPair, InLine, IsLineOf, OfDocuments, OfLine, OfTask, OfWholeLine, lists_all, takes_bytes, takes_second}
+use Rattle.odb_engine.specs.Tasks.{AnswersPair, InLine, IsLineOf, OfDocuments, OfLine, OfTask, OfWholeLine, WritesPair, WritesParts, lists_all, takes_bytes, takes_second}
 use Rattle.odb_engine.proofs.EngineLemmas.{answers-weaker, of-value}
 use Rattle.odb_engine.proofs.LawLemmas.{refused_no_value}
 use Rattle.odb_engine.proofs.MemoryLemmas.{one_value, whole-document}
@@ -150,3 +154,47 @@ whole-documents task takes given batch form ended text = (
   subst (λ (all : Bool). Lists all (Answers (OfTask task batch given) batch) (AreFaultsIn batch) form ended text) (second-alone task takes),
   subst (λ (all : Bool). Lists all (Answers (OfTask task batch given) batch) (AreFaultsIn batch) form ended text) (sym (second-alone task takes)),
 )
+
+-- ---- a task that takes the bytes of the batch
+
+-- the text of a value in a document is a document
+part-document : (line : List ℕ) (value d : Data) (span : Span) → IsDocument line value → IsTextAt line span d → IsDocument (bytes_of line span) d
+part-document line value d span is at = (omega (arith, is.0, length-take (span.end - span.start) (drop span.start line), length-drop span.start line), at.reads)
+
+module _ (task : Task) (takes : takes_second task ≡ true) (bytes : takes_bytes task ≡ true) (line : List ℕ) (batch second : Data) (is : IsDocument line (array (item batch (item second no_items)))) (form : Form) (ended : Ended) (text : List ℕ) where
+  abbrev both : Data
+  both = array (item batch (item second no_items))
+
+  abbrev OfBoth : Data → WritesIn
+  OfBoth = AnswersPair true (OfTask task) line
+
+  taken-parts : WritesPair true (OfTask task) line both form ended text → WritesParts task line both form ended text
+  taken-parts y =
+      let first = y.taken.first in
+      let other = y.taken.other in
+      let parts = y.taken.parts in
+      let same = sym parts.is ∙ y.pair in
+      let document = bytes_of line first in
+      let answer = bytes_of line other in
+      let one = part-document line both y.first first is (subst (IsTextAt line first) (first-one parts.batch parts.second y.first y.second same) parts.first_text) in
+      let two = part-document line both y.second other is (subst (IsTextAt line other) (second-one parts.batch parts.second y.first y.second same) parts.other_text) in
+      let so = subst (λ b. AnswersValue (OfTask task b (InHand y.second)) y.first form ended text) y.taken.is y.so in
+      record {
+        first = first;
+        other = other;
+        parts = parts;
+        so =
+            (whole-documents task takes (InMemory answer) document form ended text).1
+            (of-value places.Batch (AnswersValue (OfTask task document (InMemory answer))) document y.first one form ended text
+            (answers-weaker (OfTask task document (InHand y.second)) (OfTask task document (InMemory answer)) y.first form ended text (λ requests. in-memory document answer y.second two form ended text requests task) so));
+      }
+
+  pub parts-to : OfWholeLine task line form ended text → WritesParts task line both form ended text
+  parts-to so = at (value-of places.Batch OfBoth line both is form ended text here)
+    where
+      here : OfDocument places.Batch OfBoth line form ended text
+      here = subst (λ (b : Bool). InLine true b (OfTask task) line form ended text) bytes (subst (λ (two : Bool). InLine two (takes_bytes task) (OfTask task) line form ended text) takes ((whole-line task takes line form ended text).0 so))
+
+      at : OfBoth both form ended text → WritesParts task line both form ended text
+      at (inl x) = absurd (x.is.none batch second refl)
+      at (inr y) = taken-parts y

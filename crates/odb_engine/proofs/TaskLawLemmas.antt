@@ -1,5 +1,5 @@
 -- What a task may write is one text: of a batch and a second document, and of a line.
-use Rattle.std.proofs.Common.{◌≡◌, ◌∙◌, Bool, true, false, false≢true, true≢false, List, [], ℕ, Option, None, Some, inl, inr, sym, ap, subst}
+use Rattle.std.proofs.Common.{◌≡◌, ◌∙◌, Bool, true, false, true≢false, List, [], ℕ, Option, None, Some, inl, inr, sym, ap, subst}
 use Rattle.serde_json.specs.Data.{Data, Items, null, boolean, number, string, array, object, item, no_items}
 use Rattle.odb_doc.specs.Documents.{IsJson}
 use Rattle.odb_doc.specs.declared.fault.Place.{Place}
@@ -54,7 +54,7 @@ second-one a b c d same = ap (λ v. head (tail (elements v))) same
 
 -- the bytes that are taken of a line with two documents are those of the first
 pub first-json : (takes : Bool) (line : List ℕ) (first second : Data) (bytes : List ℕ) → IsTakenOf takes line (array (item first (item second no_items))) bytes → takes ≡ true → IsJson bytes first
-first-json false line first second bytes taken same = absurd (false≢true same)
+first-json false line first second bytes taken same = absurd (true≢false (sym same))
 first-json true line first second bytes taken same =
     let parts = taken.parts in
     subst (IsJson bytes) (sym (first-one first second parts.batch parts.second parts.is)) (subst (λ b. IsJson b parts.batch) (sym taken.is) parts.first_text.reads)

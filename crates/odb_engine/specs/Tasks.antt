@@ -128,6 +128,13 @@ OfLine task = InLine (takes_second task) (takes_bytes task) (OfTask task)
 abbrev pub OfWholeLine : Task → List ℕ → WritesIn
 OfWholeLine task line = Lists (lists_all task) (OfLine task line) (AreFaultsIn line)
 
+-- the two documents lie in a line with this value, and this is written of them
+pub record WritesParts (task : Task) (line : List ℕ) (value : Data) (form : Form) (ended : Ended) (text : List ℕ) : Type 0 where
+  pub first : Span
+  pub other : Span
+  pub parts : spans.ArePartsOf line first other value
+  pub so : OfDocuments task (InMemory (bytes_of line other)) (bytes_of line first) form ended text
+
 -- the line holds the values of two documents, as an array
 pub record IsLineOf (batch second line : List ℕ) : Type 0 where
   pub batch_value : Data

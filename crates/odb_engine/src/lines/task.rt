@@ -54,7 +54,7 @@ fn taken_of(line: &[u8], takes: bool) -> &[u8]
         return &[];
     }
     match documents_in(line) {
-        Some((first, _)) => first.bytes_in(line),
+        Some(both) => both.0.bytes_in(line),
         None => &[],
     }
 }

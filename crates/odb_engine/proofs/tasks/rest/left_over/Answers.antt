@@ -51,5 +51,5 @@ returns-clause-found c =
     let listed = entries c.in_ok-read.read in
     let table = c.in_ok-table.table in
     let all = c.in_ok-decided.ensures in
-    λ form. found-rest mode form document batch (view c.args.value) listed (places table) (statuses table) (string_bytes c.in_ok-rest_text.field-0) _ c.in_ok-rest.rest (c.in_ok-read.ensures.good, c.in_ok-read.ensures.responses)
-    (subst (Fits batch) all c.in_ok-table.ensures.fits) (subst (λ es. IsTableOf batch es (places table) (statuses table)) all c.in_ok-table.ensures.table) c.in_ok-rest.ensures.rest c.in_ok-rest_text.ensures c.in_ok-push_str.ensures.bytes
+    λ form. found-rest mode form document batch (view c.args.value) listed (places table) (statuses table) (string_bytes c.in_ok-text.text) _ c.in_ok-rest.rest (c.in_ok-read.ensures.good, c.in_ok-read.ensures.responses)
+    (subst (Fits batch) all c.in_ok-table.ensures.fits) (subst (λ es. IsTableOf batch es (places table) (statuses table)) all c.in_ok-table.ensures.table) c.in_ok-rest.ensures.rest c.in_ok-text.ensures c.in_ok-push_str.ensures.bytes
