@@ -9,7 +9,6 @@ from hypothesis import event, example, given
 
 from support.calls import OF_LOGS, OPTIONS, ORDERS, Trial, trials
 from support.helps import Texts, read_helps
-from support.pages import WITH_LINES
 from support.profiles import share
 
 examples = share(len(OPTIONS))
@@ -79,6 +78,5 @@ def test_each_option_is_tried(program):
     helps = read_helps(Texts(program))[1]
     for command, options in OPTIONS.items():
         listed = {option.long[2:]: option.values for option in helps[command].options}
-        logs = OF_LOGS if command in WITH_LINES else ()
-        assert set(listed) == {*options, *logs, "help"}, f"the options of {command}"
+        assert set(listed) == {*options, *OF_LOGS, "help"}, f"the options of {command}"
         assert tuple(listed.get("order", ORDERS)) == ORDERS

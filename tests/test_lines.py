@@ -12,7 +12,7 @@ from hypothesis import strategies as st
 
 from support import rules, rules_of_runs, strategies
 from support.calls import ALONE, SECONDS, call, options_of, words_of
-from support.pages import WITH_LINES
+from support.pages import OF_BATCHES
 from support.profiles import share
 
 LONG_BYTES = 16_777_216
@@ -22,7 +22,7 @@ ACCEPTED = b"ok 1 requests 0 groups\n"
 TOO_LONG = b"fault F01 TooLong batch\n"
 OPTIONS = {
     "check": ("json", "all"), "plan": ("json", "full"), "replay": ("json", "stop", "width", "order"),
-    "run": ("json", "stop", "width"),
+    "run": ("json", "stop", "width"), "rest": ("json", "stop"),
 }  # fmt: skip
 
 
@@ -64,7 +64,7 @@ def answered(program, command, words, log):
     return call(program, [command, "--lines", *words], given=log)
 
 
-@pytest.mark.parametrize("command", WITH_LINES)
+@pytest.mark.parametrize("command", OF_BATCHES)
 @share(40)
 @given(data=st.data())
 def test_log_is_answered_as_its_lines_are(program, command, data):

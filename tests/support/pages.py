@@ -9,9 +9,8 @@ import re
 import shlex
 from dataclasses import dataclass, field
 
-# The commands that take a log, those that read a batch, and all commands.
-WITH_LINES = ("check", "plan", "replay", "canon", "match", "run")
-OF_BATCHES = (*WITH_LINES, "rest")
+# The commands that read a batch, or a log of batches, and all commands.
+OF_BATCHES = ("check", "plan", "replay", "canon", "match", "run", "rest")
 COMMANDS = (*OF_BATCHES, "explain", "completions", "man", "help")
 SOMETHING = "..."
 STREAMS = ("input", "output", "errors")

@@ -107,12 +107,13 @@ def write(folder, examples):
 def write_logs(folder, examples):
     """Writes logs: of batches, and of batches with a second document, each with a line that is refused."""
     texts = []
-    for name in ("batch_usual.json", "outcomes_lent.json"):
+    for name in ("batch_usual.json", "outcomes_lent.json", "responses_busy.json"):
         with open(os.path.join(examples, name), encoding="utf-8") as file:
             texts.append(json.dumps(json.load(file)))
-    batch, outcomes = texts
-    for name, lines in (("log.jsonl", [batch, "", batch]), ("pairs.jsonl", [f"[{batch},{outcomes}]", f"[{batch}]"])):
-        with open(os.path.join(folder, name), "w", encoding="utf-8") as file:
+    batch, outcomes, busy = texts
+    logs = {"log": [batch, "", batch], "pairs": [f"[{batch},{outcomes}]", f"[{batch}]"], "busy": [f"[{batch},{busy}]", f"[{busy}]"]}
+    for name, lines in logs.items():
+        with open(os.path.join(folder, f"{name}.jsonl"), "w", encoding="utf-8") as file:
             file.write("".join(line + "\n" for line in lines))
 
 
@@ -168,6 +169,7 @@ def trials():
         trial("check --all --lines --where --number log.jsonl", 1),
         trial("replay --lines pairs.jsonl --order wide --json", 1),
         trial("match --lines --flush pairs.jsonl", 1),
+        trial("rest --lines --where --number busy.jsonl", 1),
         trial("explain NotWhole"),
         trial("explain F41 P1 S4"),
         trial("explain"),

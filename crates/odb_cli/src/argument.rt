@@ -9,8 +9,6 @@ pub enum Kind {
     Any,
     /// A word that may be absent, else one of these.
     MaybeOneOf(&'static [&'static str]),
-    /// A word that has to be given.
-    Required,
     /// A word that has to be given, one of these.
     OneOf(&'static [&'static str]),
     /// A batch, which has to be given; with --lines a log, which may be absent.

@@ -27,20 +27,9 @@ impl<'a> Origin<'a> {
     }
 }
 
-/// What a command does on its documents.
-#[derive(Clone, Copy)]
-pub enum Action {
-    /// A task, which may also be done on each line of a log.
-    Task(Task),
-    /// Write the rest of a batch, by whether an error stops the service.
-    Rest(Mode),
-}
-
 /// How a log is answered.
 #[derive(Clone, Copy)]
 pub struct LogOptions {
-    /// What is done on each line.
-    pub task: Task,
     /// Whether each answer is written at once.
     pub flush: bool,
     /// Whether each fault has the number of its line.
@@ -50,10 +39,11 @@ pub struct LogOptions {
 /// A command over documents.
 #[derive(Clone, Copy)]
 pub struct Job<'a> {
-    pub action: Action,
+    /// What is done on the documents, or on each line of the log.
+    pub task: Task,
     /// Where the batch is read, or the log.
     pub first: Origin<'a>,
-    /// Where the second document is read, if the action takes one.
+    /// Where the second document is read, if the task takes one.
     pub second: Origin<'a>,
     /// The form in which a result or a fault is printed.
     pub form: Form,
@@ -61,7 +51,7 @@ pub struct Job<'a> {
     pub located: bool,
     /// Whether nothing is printed: only the exit status reports it.
     pub quiet: bool,
-    /// How a log is answered, if something is done on each of its lines.
+    /// How a log is answered, if the task is done on each of its lines.
     pub log: Option<LogOptions>,
 }
 
@@ -156,6 +146,9 @@ fn task_of(name: &str, args: &ArgMatches<'_>) -> Result<Option<Task>, BadArgumen
             mode: mode_of(args),
             strict: args.get_flag(names::STRICT),
         },
+        names::REST => Task::Rest {
+            mode: mode_of(args),
+        },
         names::REPLAY => Task::Replay {
             policy: policy_of(args)?,
             order: order_of(args),
@@ -169,18 +162,6 @@ fn task_of(name: &str, args: &ArgMatches<'_>) -> Result<Option<Task>, BadArgumen
     Ok(Some(task))
 }
 
-/// Returns what the command of this name does, or `None` if it is not a command over documents.
-fn action_of(name: &str, args: &ArgMatches<'_>) -> Result<Option<Action>, BadArguments> {
-    let action = match name {
-        names::REST => Action::Rest(mode_of(args)),
-        _ => {
-            let task = task_of(name, args)?;
-            return Ok(task.map(Action::Task));
-        }
-    };
-    Ok(Some(action))
-}
-
 /// Returns where this argument is read: a file, or standard input if it is `-` or absent.
 fn origin_of<'a>(args: &ArgMatches<'a>, id: &str) -> Origin<'a> {
     match args.get_str(id) {
@@ -189,27 +170,19 @@ fn origin_of<'a>(args: &ArgMatches<'a>, id: &str) -> Origin<'a> {
     }
 }
 
-/// Returns where the second document is read, if the action takes one.
-fn second_of<'a>(args: &ArgMatches<'a>, action: Action) -> Origin<'a> {
-    let task = match action {
-        Action::Rest(_) => return origin_of(args, names::RESPONSES),
-        Action::Task(task) => task,
-    };
+/// Returns where the second document is read, if the task takes one.
+fn second_of<'a>(args: &ArgMatches<'a>, task: Task) -> Origin<'a> {
     match task {
-        Task::Match { .. } => origin_of(args, names::RESPONSES),
+        Task::Match { .. } | Task::Rest { .. } => origin_of(args, names::RESPONSES),
         Task::Replay { .. } => origin_of(args, names::OUTCOMES),
         Task::Run { .. } => origin_of(args, names::EVENTS),
         Task::Check { .. } | Task::Plan { .. } | Task::Draw | Task::Canon => Origin::Nowhere,
     }
 }
 
-/// Returns how a log is answered, if a command is asked for that. There is no log for a rest.
-fn log_of(args: &ArgMatches<'_>, action: Action) -> Option<LogOptions> {
-    let Action::Task(task) = action else {
-        return None;
-    };
+/// Returns how a log is answered, if a command is asked for that.
+fn log_of(args: &ArgMatches<'_>) -> Option<LogOptions> {
     args.get_flag(names::LINES).then_some(LogOptions {
-        task,
         flush: args.get_flag(names::FLUSH),
         numbered: args.get_flag(names::NUMBER),
     })
@@ -217,10 +190,10 @@ fn log_of(args: &ArgMatches<'_>, action: Action) -> Option<LogOptions> {
 
 /// Returns the form of an answer. A plan, a match and a list of faults of a line of a log are always JSON, and so is
 /// a full plan.
-fn form_of(args: &ArgMatches<'_>, action: Action) -> Form {
-    let is_json = match action {
-        Action::Task(Task::Plan { full: true }) => true,
-        Action::Task(Task::Check { all: true } | Task::Plan { .. } | Task::Match { .. }) => {
+fn form_of(args: &ArgMatches<'_>, task: Task) -> Form {
+    let is_json = match task {
+        Task::Plan { full: true } => true,
+        Task::Check { all: true } | Task::Plan { .. } | Task::Match { .. } => {
             args.get_flag(names::LINES)
         }
         _ => false,
@@ -232,17 +205,17 @@ fn form_of(args: &ArgMatches<'_>, action: Action) -> Form {
     }
 }
 
-/// Returns this action on the documents that the arguments name.
-fn job_of<'a>(args: &ArgMatches<'a>, action: Action) -> Result<Job<'a>, BadArguments> {
-    let log = log_of(args, action);
+/// Returns this task on the documents that the arguments name.
+fn job_of<'a>(args: &ArgMatches<'a>, task: Task) -> Result<Job<'a>, BadArguments> {
+    let log = log_of(args);
     let job = Job {
-        action,
+        task,
         first: origin_of(args, names::FILE),
         second: match log {
-            None => second_of(args, action),
+            None => second_of(args, task),
             Some(_) => Origin::Nowhere,
         },
-        form: form_of(args, action),
+        form: form_of(args, task),
         located: args.get_flag(names::WHERE),
         quiet: args.get_flag(names::QUIET),
         log,
@@ -281,8 +254,8 @@ fn asked_by<'a>(
     name: &str,
     args: &ArgMatches<'a>,
 ) -> Result<CommandLine<'a>, BadArguments> {
-    match action_of(name, args)? {
-        Some(action) => Ok(CommandLine::Answer(job_of(args, action)?)),
+    match task_of(name, args)? {
+        Some(task) => Ok(CommandLine::Answer(job_of(args, task)?)),
         None => Ok(CommandLine::Print(text_of(alloc, name, args)?)),
     }
 }
@@ -301,7 +274,7 @@ impl<'a> CommandLine<'a> {
         match found.subcommand() {
             Some((name, matches)) => asked_by(alloc, name, matches),
             None => {
-                let check = Action::Task(Task::Check { all: false });
+                let check = Task::Check { all: false };
                 Ok(CommandLine::Answer(job_of(&found, check)?))
             }
         }

@@ -54,12 +54,6 @@ const BATCH: Argument = Argument {
     ..FILE
 };
 
-const BATCH_ALONE: Argument = Argument {
-    kind: Kind::Required,
-    help: "The batch document; `-` is standard input",
-    ..FILE
-};
-
 const OUTCOMES: Argument = Argument {
     id: names::OUTCOMES,
     kind: Kind::Second,
@@ -70,11 +64,6 @@ const RESPONSES: Argument = Argument {
     id: names::RESPONSES,
     kind: Kind::Second,
     help: "The response document of the service; `-` is standard input",
-};
-
-const RESPONSES_ALONE: Argument = Argument {
-    kind: Kind::Required,
-    ..RESPONSES
 };
 
 const EVENTS: Argument = Argument {
@@ -273,11 +262,14 @@ const RUN: Row = Row {
 const REST: Row = Row {
     name: names::REST,
     about: "Print what may be sent again of a batch by a service's responses, as a batch of its own",
-    usage: "odb_batch rest [OPTIONS] <FILE> <RESPONSES>",
+    usage: "odb_batch rest [OPTIONS] <FILE> <RESPONSES>\n       \
+        odb_batch rest [OPTIONS] --lines [FILE]",
     notes: "Example: odb_batch rest batch.json responses.json\n\n\
         Exit status: 0 for a batch, which may be empty, 1 for a fault of a document, responses that do not fit or \
         a reference without a Location, 2 for wrong arguments, 3 if a file or the output fails, 4 if out of memory",
-    arguments: &[BATCH_ALONE, RESPONSES_ALONE, LEFT_OUT, FAULT, WHERE, QUIET],
+    arguments: &[
+        BATCH, RESPONSES, LEFT_OUT, FAULT, PAIRS, FLUSH, NUMBER, WHERE, QUIET,
+    ],
 };
 
 pub const EXPLAIN: Row = Row {

@@ -3,13 +3,12 @@
 ghost use Rattle.std.specs.Prelude.{◌≡◌, false};
 ghost use Rattle.odb_engine.specs.Inputs.{IsFresh};
 
-use crate::command_line::{Action, Job};
+use crate::command_line::Job;
 use crate::devices::{open, writer_of};
 use crate::ending::{Status, finish};
 use odb_check::Seed;
 use odb_engine::{
-    Disposal, Ended, EngineFault, Form, Names, PairWork, Setup, answer_task, locate_batch,
-    locate_pair, rest_batch,
+    Disposal, Ended, EngineFault, Form, Names, Setup, answer_task, locate_batch, locate_pair,
 };
 use odb_io::{Input, Output};
 use std::alloc::Global;
@@ -58,35 +57,14 @@ fn locate<I: Read, S: Read, W: Write>(
     requires second { IsFresh second.old }
     requires output { output.old.failed ≡ false }
 {
-    let name = job.first.name();
-    let work = match job.action {
-        Action::Rest(mode) => PairWork::Rest(mode),
-        Action::Task(task) if task.takes_second() => PairWork::Task(task),
-        Action::Task(task) => return locate_batch(alloc, first, output, name, task, setup),
-    };
     let names = Names {
-        batch: name,
+        batch: job.first.name(),
         second: job.second.name(),
     };
-    locate_pair(alloc, first, second, output, names, work, setup)
-}
-
-/// Does a job on its documents.
-fn answer<I: Read, S: Read, W: Write>(
-    alloc: Global,
-    setup: Setup,
-    job: Job<'_>,
-    first: &mut Input<I>,
-    second: &mut Input<S>,
-    output: &mut Output<W>,
-) -> Result<Ended, EngineFault>
-    requires first { IsFresh first.old }
-    requires second { IsFresh second.old }
-    requires output { output.old.failed ≡ false }
-{
-    match job.action {
-        Action::Task(task) => answer_task(alloc, first, second, output, task, setup),
-        Action::Rest(mode) => rest_batch(alloc, first, second, output, mode, setup),
+    if job.task.takes_second() {
+        locate_pair(alloc, first, second, output, names, job.task, setup)
+    } else {
+        locate_batch(alloc, first, output, names.batch, job.task, setup)
     }
 }
 
@@ -110,7 +88,7 @@ pub fn answer_documents<R: Runtime + AllocGlobal>(
     let ended = if job.located {
         locate(alloc, setup, job, &mut first, &mut second, &mut output)
     } else {
-        answer(alloc, setup, job, &mut first, &mut second, &mut output)
+        answer_task(alloc, &mut first, &mut second, &mut output, job.task, setup)
     };
     finish(rt, ended)
 }

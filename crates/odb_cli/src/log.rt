@@ -28,7 +28,7 @@ fn command_of<'n>(
         ..environment.setup(job.form)
     };
     let located = job.located.then_some(job.first.name());
-    NumberedLines::new(options.task, setup, options.numbered, located)
+    NumberedLines::new(job.task, setup, options.numbered, located)
 }
 
 /// Answers each line of a reader, and flushes the output at the end.

@@ -56,7 +56,7 @@ fn add_argument(page: &mut Page, argument: &Argument) {
 /// Adds an argument as the heading of its command shows it.
 fn add_use(page: &mut Page, argument: &Argument) {
     let (before, after) = match argument.kind {
-        Kind::Required | Kind::OneOf(_) => (" ", ""),
+        Kind::OneOf(_) => (" ", ""),
         Kind::Any => (" [", " ..]"),
         _ => (" [", "]"),
     };

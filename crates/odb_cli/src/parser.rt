@@ -13,7 +13,6 @@ fn arg_of<'a>(alloc: Global, argument: &Argument) -> Result<Arg<'a>, AllocError>
         Kind::Optional => Ok(arg),
         Kind::Any => Ok(arg.action(ArgAction::Append).num_args(0..)),
         Kind::MaybeOneOf(words) => Ok(arg.value_parser(words)),
-        Kind::Required => Ok(arg.required(true)),
         Kind::OneOf(words) => Ok(arg.required(true).value_parser(words)),
         Kind::Batch => arg.required_unless_present(LINES),
         Kind::Second => arg.required_unless_present(LINES)?.conflicts_with(LINES),

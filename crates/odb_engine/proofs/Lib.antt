@@ -25,7 +25,6 @@ mod ByteLemmas
 mod LineLemmas
 mod EachLineLemmas
 mod EachLineLawLemmas
-mod FullPlanLemmas
 mod AllFaultLemmas
 mod FirstFaultLemmas
 mod VerdictLemmas

@@ -1,11 +1,15 @@
 -- What a task writes of a line with two documents is what it writes of the two documents.
-use Rattle.std.proofs.Common.{◌≡◌, ◌∙◌, ◌↔◌, Bool, true, false, ℕ, List, [], Some, inl, inr, refl, sym, subst}
+use Rattle.std.proofs.Common.{◌≡◌, ◌∙◌, ◌↔◌, Bool, true, false, ℕ, List, [], length, ◌-◌, ◌≤◌, drop, Some, inl, inr, refl, sym, subst, arith}
 use Rattle.std.proofs.lemmas.Bool.{false≢true, true≢false}
+use Rattle.std.proofs.lemmas.List.{length-drop, length-take}
 use Rattle.serde_json.specs.Data.{Data, array, item, no_items}
 use Rattle.odb_doc.specs.declared.fault.Place.{Place}
 use Rattle.odb_doc.specs.declared.fault.Place.TheVariants as places
 use Rattle.odb_doc.specs.Documents.{IsDocument}
 use Rattle.odb_doc.specs.batch.Records.{Record}
+use Rattle.odb_spans.specs.Positions.{IsTextAt}
+use Rattle.odb_spans.specs.Spans.{bytes_of}
+use Rattle.odb_spans.specs.declared.span.Span.{Span}
 use Rattle.odb_sched.specs.run.Choosing.{AllowsOrder}
 use Rattle.odb_engine.specs.declared.ending.Ended.{Ended}
 use Rattle.odb_engine.specs.declared.form.Form.{Form}
@@ -18,9 +22,10 @@ use Rattle.odb_engine.specs.Contents.Given.{ByReader, InHand, InMemory}
 use Rattle.odb_engine.specs.Inputs.{IsDocumentOf}
 use Rattle.odb_engine.specs.Matches.{MatchesValue}
 use Rattle.odb_engine.specs.Replays.{ReplaysValue}
+use Rattle.odb_engine.specs.Rests.{RestsValue}
 use Rattle.odb_engine.specs.Runs.{RunsValue}
 use Rattle.odb_engine.specs.Accepted.{written_alike}
-use Rattle.odb_engine.specs.Tasks.{AnswersPair, InLine, IsLineOf, OfDocuments, OfLine, OfTask, OfWholeLine, lists_all, takes_bytes, takes_second}
+use Rattle.odb_engine.specs.Tasks.{AnswersPair, InLine, IsLineOf, OfDocuments, OfLine, OfTask, OfWholeLine, WritesPair, WritesParts, lists_all, takes_bytes, takes_second}
 use Rattle.odb_engine.proofs.EngineLemmas.{answers-weaker, of-value}
 use Rattle.odb_engine.proofs.LawLemmas.{refused_no_value}
 use Rattle.odb_engine.proofs.MemoryLemmas.{one_value, whole-document}
@@ -32,7 +37,7 @@ value-of : (place : Place) (P : Data → WritesIn) (bytes : List ℕ) (value : D
 value-of place P bytes value is form ended text (inl x) = absurd (refused_no_value place bytes x.refusal (λ _. Unit {0}) x.is (record { value = value; document = is; holds = tt }))
 value-of place P bytes value is form ended text (inr has) = subst (λ v. P v form ended text) (one_value bytes has.value value has.document is) has.holds
 
--- ---- a task over two documents takes no bytes, and lists no faults
+-- ---- a task over two documents lists no faults
 
 pub second-alone : (task : Task) → takes_second task ≡ true → lists_all task ≡ false
 second-alone (tasks.Check all) takes = absurd (false≢true takes)
@@ -40,17 +45,9 @@ second-alone (tasks.Plan full) takes = refl
 second-alone tasks.Draw takes = refl
 second-alone tasks.Canon takes = refl
 second-alone (tasks.Match mode strict) takes = refl
+second-alone (tasks.Rest mode) takes = refl
 second-alone (tasks.Replay policy order traced) takes = refl
 second-alone (tasks.Run policy) takes = refl
-
-pub values-alone : (task : Task) → takes_second task ≡ true → takes_bytes task ≡ false
-values-alone (tasks.Check all) takes = refl
-values-alone (tasks.Plan full) takes = absurd (false≢true takes)
-values-alone tasks.Draw takes = refl
-values-alone tasks.Canon takes = refl
-values-alone (tasks.Match mode strict) takes = refl
-values-alone (tasks.Replay policy order traced) takes = refl
-values-alone (tasks.Run policy) takes = refl
 
 module _ (document second : List ℕ) (value : Data) (is : IsDocument second value) (form : Form) (ended : Ended) (text : List ℕ) (batch : List Record) where
   -- by a second document in memory as by its value
@@ -60,6 +57,7 @@ module _ (document second : List ℕ) (value : Data) (is : IsDocument second val
   in-memory tasks.Draw so = so
   in-memory tasks.Canon so = so
   in-memory (tasks.Match mode strict) so = of-value places.Responses (MatchesValue mode strict batch) second value is form ended text so
+  in-memory (tasks.Rest mode) so = of-value places.Responses (RestsValue mode document batch) second value is form ended text so
   in-memory (tasks.Replay policy order traced) so = of-value places.Outcomes (ReplaysValue (AllowsOrder order) policy traced batch) second value is form ended text so
   in-memory (tasks.Run policy) so = of-value places.Events (RunsValue policy batch) second value is form ended text so
 
@@ -69,6 +67,7 @@ module _ (document second : List ℕ) (value : Data) (is : IsDocument second val
   in-hand tasks.Draw so = so
   in-hand tasks.Canon so = so
   in-hand (tasks.Match mode strict) so = value-of places.Responses (MatchesValue mode strict batch) second value is form ended text so
+  in-hand (tasks.Rest mode) so = value-of places.Responses (RestsValue mode document batch) second value is form ended text so
   in-hand (tasks.Replay policy order traced) so = value-of places.Outcomes (ReplaysValue (AllowsOrder order) policy traced batch) second value is form ended text so
   in-hand (tasks.Run policy) so = value-of places.Events (RunsValue policy batch) second value is form ended text so
 
@@ -82,6 +81,7 @@ module _ (document second : List ℕ) (value : Data) (is : IsDocument second val
   by-reader tasks.Draw so = so
   by-reader tasks.Canon so = so
   by-reader (tasks.Match mode strict) so = (second, whole, so)
+  by-reader (tasks.Rest mode) so = (second, whole, so)
   by-reader (tasks.Replay policy order traced) so = (second, whole, so)
   by-reader (tasks.Run policy) so = (second, whole, so)
 
@@ -91,39 +91,46 @@ module _ (document second : List ℕ) (value : Data) (is : IsDocument second val
   of-reader tasks.Draw so = so
   of-reader tasks.Canon so = so
   of-reader (tasks.Match mode strict) (bytes, gives, so) = subst (λ b. OfDocument places.Responses (MatchesValue mode strict batch) b form ended text) (one_document second bytes second gives whole) so
+  of-reader (tasks.Rest mode) (bytes, gives, so) = subst (λ b. OfDocument places.Responses (RestsValue mode document batch) b form ended text) (one_document second bytes second gives whole) so
   of-reader (tasks.Replay policy order traced) (bytes, gives, so) =
       subst (λ b. OfDocument places.Outcomes (ReplaysValue (AllowsOrder order) policy traced batch) b form ended text) (one_document second bytes second gives whole) so
   of-reader (tasks.Run policy) (bytes, gives, so) = subst (λ b. OfDocument places.Events (RunsValue policy batch) b form ended text) (one_document second bytes second gives whole) so
 
-module _ (task : Task) (takes : takes_second task ≡ true) (batch second line : List ℕ) (is : IsLineOf batch second line) (form : Form) (ended : Ended) (text : List ℕ) where
+module _ (task : Task) (takes : takes_second task ≡ true) (alone : takes_bytes task ≡ false) (batch second line : List ℕ) (is : IsLineOf batch second line) (form : Form) (ended : Ended) (text : List ℕ) where
   -- whatever the bytes are
   alike : (document other : List ℕ) (given : Given) (requests : List Record) → OfTask task document given requests form ended text → OfTask task other given requests form ended text
-  alike document other given requests = written_alike task document other (λ bytes. absurd (true≢false (sym bytes ∙ values-alone task takes))) given requests form ended text
+  alike document other given requests = written_alike task document other (λ bytes. absurd (true≢false (sym bytes ∙ alone))) given requests form ended text
 
-  abbrev OfPairs : List Record → Data → WritesIn
-  OfPairs requests value = OfTask task [] (InHand value) requests
+  abbrev OfPairs : Data → WritesIn
+  OfPairs = AnswersPair false (OfTask task) line
+
+  -- the line of such a task
+  line-to : OfLine task line form ended text → OfDocument places.Batch OfPairs line form ended text
+  line-to so = subst (λ (bytes : Bool). InLine true bytes (OfTask task) line form ended text) alone (subst (λ (two : Bool). InLine two (takes_bytes task) (OfTask task) line form ended text) takes so)
+
+  line-from : OfDocument places.Batch OfPairs line form ended text → OfLine task line form ended text
+  line-from so = subst (λ (two : Bool). InLine two (takes_bytes task) (OfTask task) line form ended text) (sym takes) (subst (λ (bytes : Bool). InLine true bytes (OfTask task) line form ended text) (sym alone) so)
 
   abbrev pair : Data
   pair = array (item is.batch_value (item is.second_value no_items))
 
   pub pair-to : OfLine task line form ended text → Answers (OfTask task batch (InMemory second)) batch form ended text
-  pair-to so = at (value-of places.Batch (AnswersPair OfPairs) line pair is.line_is form ended text (subst (λ two. InLine two (OfTask task) line form ended text) takes so))
+  pair-to so = at (value-of places.Batch OfPairs line pair is.line_is form ended text (line-to so))
     where
-      at : AnswersPair OfPairs pair form ended text → Answers (OfTask task batch (InMemory second)) batch form ended text
+      at : OfPairs pair form ended text → Answers (OfTask task batch (InMemory second)) batch form ended text
       at (inl x) = absurd (x.is.none is.batch_value is.second_value refl)
       at (inr y) =
           let first = first-one is.batch_value is.second_value y.first y.second y.pair in
           let other = second-one is.batch_value is.second_value y.first y.second y.pair in
-          let so = subst (λ v. AnswersValue (λ requests. OfPairs requests v) is.batch_value form ended text) (sym other) (subst (λ v. AnswersValue (λ requests. OfPairs requests y.second) v form ended text) (sym first) y.so) in
+          let so = subst (λ v. AnswersValue (OfTask task y.document (InHand v)) is.batch_value form ended text) (sym other) (subst (λ v. AnswersValue (OfTask task y.document (InHand y.second)) v form ended text) (sym first) y.so) in
           of-value places.Batch (AnswersValue (OfTask task batch (InMemory second))) batch is.batch_value is.batch_is form ended text
-          (answers-weaker (λ requests. OfPairs requests is.second_value) (OfTask task batch (InMemory second)) is.batch_value form ended text (λ requests so. in-memory batch second is.second_value is.second_is form ended text requests task (alike [] batch (InHand is.second_value) requests so)) so)
+          (answers-weaker (OfTask task y.document (InHand is.second_value)) (OfTask task batch (InMemory second)) is.batch_value form ended text (λ requests so. in-memory batch second is.second_value is.second_is form ended text requests task (alike y.document batch (InHand is.second_value) requests so)) so)
 
   pub pair-from : Answers (OfTask task batch (InMemory second)) batch form ended text → OfLine task line form ended text
   pair-from so =
-      let here = answers-weaker (OfTask task batch (InMemory second)) (λ requests. OfPairs requests is.second_value) is.batch_value form ended text (λ requests so. alike batch [] (InHand is.second_value) requests (in-hand batch second is.second_value is.second_is form ended text requests task so))
+      let here = answers-weaker (OfTask task batch (InMemory second)) (OfTask task [] (InHand is.second_value)) is.batch_value form ended text (λ requests so. alike batch [] (InHand is.second_value) requests (in-hand batch second is.second_value is.second_is form ended text requests task so))
       (value-of places.Batch (AnswersValue (OfTask task batch (InMemory second))) batch is.batch_value is.batch_is form ended text so) in
-      subst (λ two. InLine two (OfTask task) line form ended text) (sym takes)
-      (of-value places.Batch (AnswersPair OfPairs) line pair is.line_is form ended text (inr (record { first = is.batch_value; second = is.second_value; pair = refl; so = here })))
+      line-from (of-value places.Batch OfPairs line pair is.line_is form ended text (inr (record { first = is.batch_value; second = is.second_value; pair = refl; document = []; taken = refl; so = here })))
 
   pub readers-to : OfLine task line form ended text → Answers (OfTask task batch (ByReader (Some second))) batch form ended text
   readers-to so = of-value places.Batch (AnswersValue (OfTask task batch (ByReader (Some second)))) batch is.batch_value is.batch_is form ended text
@@ -147,3 +154,47 @@ whole-documents task takes given batch form ended text = (
   subst (λ (all : Bool). Lists all (Answers (OfTask task batch given) batch) (AreFaultsIn batch) form ended text) (second-alone task takes),
   subst (λ (all : Bool). Lists all (Answers (OfTask task batch given) batch) (AreFaultsIn batch) form ended text) (sym (second-alone task takes)),
 )
+
+-- ---- a task that takes the bytes of the batch
+
+-- the text of a value in a document is a document
+part-document : (line : List ℕ) (value d : Data) (span : Span) → IsDocument line value → IsTextAt line span d → IsDocument (bytes_of line span) d
+part-document line value d span is at = (omega (arith, is.0, length-take (span.end - span.start) (drop span.start line), length-drop span.start line), at.reads)
+
+module _ (task : Task) (takes : takes_second task ≡ true) (bytes : takes_bytes task ≡ true) (line : List ℕ) (batch second : Data) (is : IsDocument line (array (item batch (item second no_items)))) (form : Form) (ended : Ended) (text : List ℕ) where
+  abbrev both : Data
+  both = array (item batch (item second no_items))
+
+  abbrev OfBoth : Data → WritesIn
+  OfBoth = AnswersPair true (OfTask task) line
+
+  taken-parts : WritesPair true (OfTask task) line both form ended text → WritesParts task line both form ended text
+  taken-parts y =
+      let first = y.taken.first in
+      let other = y.taken.other in
+      let parts = y.taken.parts in
+      let same = sym parts.is ∙ y.pair in
+      let document = bytes_of line first in
+      let answer = bytes_of line other in
+      let one = part-document line both y.first first is (subst (IsTextAt line first) (first-one parts.batch parts.second y.first y.second same) parts.first_text) in
+      let two = part-document line both y.second other is (subst (IsTextAt line other) (second-one parts.batch parts.second y.first y.second same) parts.other_text) in
+      let so = subst (λ b. AnswersValue (OfTask task b (InHand y.second)) y.first form ended text) y.taken.is y.so in
+      record {
+        first = first;
+        other = other;
+        parts = parts;
+        so =
+            (whole-documents task takes (InMemory answer) document form ended text).1
+            (of-value places.Batch (AnswersValue (OfTask task document (InMemory answer))) document y.first one form ended text
+            (answers-weaker (OfTask task document (InHand y.second)) (OfTask task document (InMemory answer)) y.first form ended text (λ requests. in-memory document answer y.second two form ended text requests task) so));
+      }
+
+  pub parts-to : OfWholeLine task line form ended text → WritesParts task line both form ended text
+  parts-to so = at (value-of places.Batch OfBoth line both is form ended text here)
+    where
+      here : OfDocument places.Batch OfBoth line form ended text
+      here = subst (λ (b : Bool). InLine true b (OfTask task) line form ended text) bytes (subst (λ (two : Bool). InLine two (takes_bytes task) (OfTask task) line form ended text) takes ((whole-line task takes line form ended text).0 so))
+
+      at : OfBoth both form ended text → WritesParts task line both form ended text
+      at (inl x) = absurd (x.is.none batch second refl)
+      at (inr y) = taken-parts y

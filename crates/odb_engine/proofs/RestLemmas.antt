@@ -34,7 +34,7 @@ use Rattle.odb_engine.specs.Contents.{IsAskedFor}
 use Rattle.odb_engine.specs.Contents.Content.{Bytes}
 use Rattle.odb_engine.specs.Halts.{Refuses, HaltsBy}
 use Rattle.odb_engine.specs.Matches.{IsFaultOfResponses, Lists, Misfits, decided}
-use Rattle.odb_engine.specs.Rests.{EndsLine, LacksLocations, RestsValue}
+use Rattle.odb_engine.specs.Rests.{LacksLocations, RestsValue}
 use Rattle.odb_engine.proofs.EngineLemmas.{reports, halted-by, halt-fault}
 
 -- the response document has a fault
@@ -64,11 +64,11 @@ rest-location mode form document batch value entries places statuses fault lists
       }),
     ))
 
--- the text of the rest
-pub found-rest : (mode : Mode) (form : Form) (document : List ℕ) (batch : List Record) (value : Data) (entries : List Entry) (places statuses text : List ℕ) (rest : Rest) → Lists value entries → Fits batch (decided mode batch entries)
-    → IsTableOf batch (decided mode batch entries) places statuses → IsRestOf batch statuses (recorded value places) rest → ((d : Data) → IsBatchIn document d batch → IsTextOf document d batch rest text)
-    → RestsValue mode document batch value form Done text
-found-rest mode form document batch value entries places statuses text rest lists fits table is written = inr (
+-- the text of the rest, and a newline
+pub found-rest : (mode : Mode) (form : Form) (document : List ℕ) (batch : List Record) (value : Data) (entries : List Entry) (places statuses line text : List ℕ) (rest : Rest) → Lists value entries → Fits batch (decided mode batch entries)
+    → IsTableOf batch (decided mode batch entries) places statuses → IsRestOf batch statuses (recorded value places) rest → ((d : Data) → IsBatchIn document d batch → IsTextOf document d batch rest line)
+    → text ≡ line ++ newline ∷ [] → RestsValue mode document batch value form Done text
+found-rest mode form document batch value entries places statuses line text rest lists fits table is written same = inr (
   entries,
   lists,
   inr (record {
@@ -76,7 +76,7 @@ found-rest mode form document batch value entries places statuses text rest list
     places = places;
     statuses = statuses;
     table = table;
-    writes = inr (record { rest = rest; rest_is = is; text_is = written; ends = refl });
+    writes = inr (record { rest = rest; rest_is = is; line = line; line_is = written; ends = refl; prints = same });
   }),
 )
 
@@ -95,7 +95,3 @@ accepted-answers P bytes value batch form ended text document shaped is good wri
 pub asked-after : {S : Type 0} (was_read : Type 0) (bytes : List ℕ) (old new : S) → was_read → (new ≡ old) ⊎ Accepts bytes (λ _. Unit {0}) → IsAskedFor was_read (Bytes bytes) old new
 asked-after was_read bytes old new was (inl same) = inl same
 asked-after was_read bytes old new was (inr accepts) = inr (was, accepts)
-
--- the text of the rest and a newline
-pub ends-line : (P : WritesIn) (form : Form) (text line : List ℕ) → P form Done text → line ≡ text ++ newline ∷ [] → EndsLine P form Done line
-ends-line P form text line so same = (text, so, same)

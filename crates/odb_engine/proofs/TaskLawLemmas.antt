@@ -1,6 +1,7 @@
 -- What a task may write is one text: of a batch and a second document, and of a line.
 use Rattle.std.proofs.Common.{◌≡◌, ◌∙◌, Bool, true, false, true≢false, List, [], ℕ, Option, None, Some, inl, inr, sym, ap, subst}
 use Rattle.serde_json.specs.Data.{Data, Items, null, boolean, number, string, array, object, item, no_items}
+use Rattle.odb_doc.specs.Documents.{IsJson}
 use Rattle.odb_doc.specs.declared.fault.Place.{Place}
 use Rattle.odb_doc.specs.declared.fault.Place.TheVariants as places
 use Rattle.odb_doc.specs.declared.recorded.outcome.Outcome.{Outcome}
@@ -16,7 +17,7 @@ use Rattle.odb_engine.specs.Cascade.{Answers, AnswersValue, IsOne, OfDocument, W
 use Rattle.odb_engine.specs.Forms.{fault_text}
 use Rattle.odb_engine.specs.Contents.{Given, OfGiven}
 use Rattle.odb_engine.specs.Contents.Given.{ByReader, InHand, InMemory}
-use Rattle.odb_engine.specs.Tasks.{AnswersPair, InLine, OfDocuments, OfLine, OfPair, OfTask, OfWholeLine, lists_all, takes_bytes, takes_second}
+use Rattle.odb_engine.specs.Tasks.{AnswersPair, InLine, IsTakenOf, OfDocuments, OfLine, OfPair, OfTask, OfWholeLine, lists_all, takes_bytes, takes_second}
 use Rattle.odb_engine.specs.Matches.{MatchesValue}
 use Rattle.odb_engine.specs.Replays.{ReplaysValue}
 use Rattle.odb_engine.specs.Runs.{RunsValue}
@@ -51,21 +52,30 @@ first-one a b c d same = ap (λ v. head (elements v)) same
 pub second-one : (a b c d : Data) → array (item a (item b no_items)) ≡ array (item c (item d no_items)) → b ≡ d
 second-one a b c d same = ap (λ v. head (tail (elements v))) same
 
--- one text is written of a line with two documents, if one is of each batch and each second document
-module _ (law : AreFunctional) (P : List Record → Data → WritesIn) (form : Form) (one : (batch : List Record) → HasGoodNames batch → (second : Data) → IsOne (P batch second form)) where
-  pair-value : (value : Data) → IsOne (AnswersPair P value form)
-  pair-value value a b s t (inl x) (inl y) = (x.ends ∙ sym y.ends, x.prints ∙ ap (fault_text form) (x.is.is ∙ sym y.is.is) ∙ sym y.prints)
-  pair-value value a b s t (inl x) (inr y) = absurd (x.is.none y.first y.second y.pair)
-  pair-value value a b s t (inr x) (inl y) = absurd (y.is.none x.first x.second x.pair)
-  pair-value value a b s t (inr x) (inr y) =
+-- the bytes that are taken of a line with two documents are those of the first
+pub first-json : (takes : Bool) (line : List ℕ) (first second : Data) (bytes : List ℕ) → IsTakenOf takes line (array (item first (item second no_items))) bytes → takes ≡ true → IsJson bytes first
+first-json false line first second bytes taken same = absurd (true≢false (sym same))
+first-json true line first second bytes taken same =
+    let parts = taken.parts in
+    subst (IsJson bytes) (sym (first-one first second parts.batch parts.second parts.is)) (subst (λ b. IsJson b parts.batch) (sym taken.is) parts.first_text.reads)
+
+-- one text is written of a line with two documents whose bytes are not taken, if one is of each batch and each second document
+module _ (law : AreFunctional) (P : List ℕ → Given → List Record → WritesIn) (form : Form) (one : (batch : List Record) → HasGoodNames batch → (second : Data) → IsOne (P [] (InHand second) batch form)) where
+  pair-value : (line : List ℕ) (value : Data) → IsOne (AnswersPair false P line value form)
+  pair-value line value a b s t (inl x) (inl y) = (x.ends ∙ sym y.ends, x.prints ∙ ap (fault_text form) (x.is.is ∙ sym y.is.is) ∙ sym y.prints)
+  pair-value line value a b s t (inl x) (inr y) = absurd (x.is.none y.first y.second y.pair)
+  pair-value line value a b s t (inr x) (inl y) = absurd (y.is.none x.first x.second x.pair)
+  pair-value line value a b s t (inr x) (inr y) =
       let same = sym x.pair ∙ y.pair in
       let first = first-one x.first x.second y.first y.second same in
       let second = second-one x.first x.second y.first y.second same in
-      value_one law (λ requests. P requests y.second) form (λ batch good. one batch good y.second) y.first a b s t
-      (subst (λ d. AnswersValue (λ requests. P requests y.second) d form a s) first (subst (λ d. AnswersValue (λ requests. P requests d) x.first form a s) second x.so)) y.so
+      let xs = subst (λ bytes. AnswersValue (P bytes (InHand x.second)) x.first form a s) x.taken x.so in
+      let ys = subst (λ bytes. AnswersValue (P bytes (InHand y.second)) y.first form b t) y.taken y.so in
+      value_one law (P [] (InHand y.second)) form (λ batch good. one batch good y.second) y.first a b s t
+      (subst (λ d. AnswersValue (P [] (InHand y.second)) d form a s) first (subst (λ d. AnswersValue (P [] (InHand d)) x.first form a s) second xs)) ys
 
-  pub pair-one : (line : List ℕ) → IsOne (OfPair P line form)
-  pair-one line = document_one places.Batch (AnswersPair P) line form pair-value
+  pub pair-one : (line : List ℕ) → IsOne (OfPair false P line form)
+  pair-one line = document_one places.Batch (AnswersPair false P line) line form (pair-value line)
 
 -- the laws that the tasks stand on
 pub record AreOneText : Type 0 where
@@ -99,6 +109,7 @@ task-one law tasks.Draw alone document form given known batch good a b s t x y =
 task-one law tasks.Canon alone document form given known batch good a b s t x y = canonical_one batch form a b s t x y
 task-one law (tasks.Match mode strict) alone document form given known batch good a b s t x y =
     given-one given known places.Responses (MatchesValue mode strict batch) form (λ value. matches_value_one law.matching mode strict batch value form) a b s t x y
+task-one law (tasks.Rest mode) alone document form given known batch good a b s t x y = absurd (true≢false alone)
 task-one law (tasks.Replay policy order traced) alone document form given known batch good a b s t x y =
     given-one given known places.Outcomes (ReplaysValue (AllowsOrder order) policy traced batch) form (λ value. replays_value_one order (law.order order) law.recorded policy traced batch value form) a b s t x y
 task-one law (tasks.Run policy) alone document form given known batch good a b s t x y = given-one given known places.Events (RunsValue policy batch) form (λ value. runs_value_one law.causes law.history policy batch good value form) a b s t x y
@@ -110,8 +121,9 @@ pub documents-one : AreOneText → (task : Task) → takes_bytes task ≡ false 
 documents-one law task alone form given known bytes = written-one law.batch (lists_all task) (Answers (OfTask task bytes given) bytes) bytes form (answers-one law task alone form given known bytes)
 
 pub line-one : AreOneText → (task : Task) → takes_bytes task ≡ false → (form : Form) (line : List ℕ) → IsOne (OfWholeLine task line form)
-line-one law task alone form line = written-one law.batch (lists_all task) (OfLine task line) line form (at (takes_second task))
+line-one law task alone form line = written-one law.batch (lists_all task) (OfLine task line) line form
+    (subst (λ (takes : Bool). IsOne (InLine (takes_second task) takes (OfTask task) line form)) (sym alone) (at (takes_second task)))
   where
-    at : (two : Bool) → IsOne (InLine two (OfTask task) line form)
+    at : (two : Bool) → IsOne (InLine two false (OfTask task) line form)
     at false = answers-one law task alone form (InMemory []) tt line
-    at true = pair-one law.batch (λ batch second. OfTask task [] (InHand second) batch) form (λ batch good second. task-one law task alone [] form (InHand second) tt batch good) line
+    at true = pair-one law.batch (OfTask task) form (λ batch good second. task-one law task alone [] form (InHand second) tt batch good) line

@@ -28,6 +28,7 @@ lists_accepted (tasks.Plan full) lists document given batch form text so = never
 lists_accepted tasks.Draw lists document given batch form text so = never_lists lists
 lists_accepted tasks.Canon lists document given batch form text so = never_lists lists
 lists_accepted (tasks.Match mode strict) lists document given batch form text so = never_lists lists
+lists_accepted (tasks.Rest mode) lists document given batch form text so = never_lists lists
 lists_accepted (tasks.Replay policy order traced) lists document given batch form text so = never_lists lists
 lists_accepted (tasks.Run policy) lists document given batch form text so = never_lists lists
 
@@ -39,5 +40,6 @@ written_alike (tasks.Plan true) document other same given batch form ended text 
 written_alike tasks.Draw document other same given batch form ended text so = so
 written_alike tasks.Canon document other same given batch form ended text so = so
 written_alike (tasks.Match mode strict) document other same given batch form ended text so = so
+written_alike (tasks.Rest mode) document other same given batch form ended text so = subst (λ bytes. OfTask (tasks.Rest mode) bytes given batch form ended text) (same refl) so
 written_alike (tasks.Replay policy order traced) document other same given batch form ended text so = so
 written_alike (tasks.Run policy) document other same given batch form ended text so = so

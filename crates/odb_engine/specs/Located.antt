@@ -4,7 +4,6 @@ use Rattle.std.specs.Prelude.{◌≡◌, ◌⊎◌, ℕ, List, Bool, true, false
 use Rattle.std.specs.List.{All}
 use Rattle.odb_doc.specs.declared.fault.Place.{Place}
 use Rattle.odb_doc.specs.Refusals.{Printed}
-use Rattle.odb_doc.specs.batch.Records.{Record}
 use Rattle.odb_spans.specs.declared.position.Position.{Position}
 use Rattle.odb_spans.specs.Positions.{Stands, StandsInPair, is_in_batch}
 use Rattle.odb_text.specs.Lines.{PrintedAt, located_line, located_lines}
@@ -13,13 +12,10 @@ use Rattle.odb_engine.specs.declared.ending.Ended.{Ended}
 use Rattle.odb_engine.specs.declared.ending.Ended.TheVariants.{Done, Refused}
 use Rattle.odb_engine.specs.declared.form.Form.{Form}
 use Rattle.odb_engine.specs.declared.form.Form.TheVariants.{Lines, Json}
-use Rattle.odb_engine.specs.declared.tasks.located.pair.PairWork.{PairWork}
-use Rattle.odb_engine.specs.declared.tasks.located.pair.PairWork.TheVariants as pair_works
 use Rattle.odb_engine.specs.AllFaults.{AreFaultsIn}
 use Rattle.odb_engine.specs.Cascade.{Answers, WritesIn}
 use Rattle.odb_engine.specs.Contents.Given.{InMemory}
 use Rattle.odb_engine.specs.Forms.{fault_text}
-use Rattle.odb_engine.specs.Rests.{EndsLine, RestsIn}
 use Rattle.odb_engine.specs.declared.tasks.task.Task.{Task}
 use Rattle.odb_engine.specs.Tasks.{OfLine, OfTask, lists_all, takes_second}
 
@@ -112,11 +108,6 @@ abbrev pub IsInEither : List ℕ → List ℕ → List ℕ → List ℕ → Wher
 IsInEither batch_name batch second_name second place name position =
     (name ≡ (if is_in_batch place then batch_name else second_name)) × Stands (if is_in_batch place then batch else second) place position
 
--- what is written of the requests of a batch document by a second document
-abbrev pub OfPairWork : PairWork → List ℕ → List ℕ → List Record → WritesIn
-OfPairWork (pair_works.Task task) batch second requests = OfTask task batch (InMemory second) requests
-OfPairWork (pair_works.Rest mode) batch second requests = EndsLine (RestsIn mode batch second requests)
-
 -- what is written of both documents, with where a fault is
-abbrev pub LocatesPair : PairWork → List ℕ → List ℕ → List ℕ → List ℕ → WritesIn
-LocatesPair work batch_name batch second_name second = Locates (Answers (OfPairWork work batch second) batch) (IsInEither batch_name batch second_name second)
+abbrev pub LocatesPair : Task → List ℕ → List ℕ → List ℕ → List ℕ → WritesIn
+LocatesPair task batch_name batch second_name second = Locates (Answers (OfTask task batch (InMemory second)) batch) (IsInEither batch_name batch second_name second)

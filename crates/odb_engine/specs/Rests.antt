@@ -2,7 +2,6 @@
 -- 19.4).
 use Rattle.std.specs.Prelude.{◌≡◌, ◌⊎◌, ◌++◌, ◌∷◌, ℕ, List, [], Bool, Some}
 use Rattle.serde_json.specs.Data.{Data}
-use Rattle.odb_doc.specs.declared.fault.Place.TheVariants as places
 use Rattle.odb_doc.specs.batch.Records.{Record}
 use Rattle.odb_doc.specs.Refusals.{Printed}
 use Rattle.odb_check.specs.Texts.{newline}
@@ -16,10 +15,8 @@ use Rattle.odb_send.specs.Texts.{IsTextOf}
 use Rattle.odb_send.specs.Units.{AreMarksOf, IsInRest}
 use Rattle.odb_send.specs.Parts.{IsBatchIn}
 use Rattle.odb_engine.specs.declared.ending.Ended.{Ended}
-use Rattle.odb_engine.specs.declared.ending.Ended.TheVariants.{Done, Refused}
-use Rattle.odb_engine.specs.Cascade.{Answers, Reports, WritesIn}
-use Rattle.odb_engine.specs.Contents.{Given, OfGiven}
-use Rattle.odb_engine.specs.Contents.Given.{InMemory}
+use Rattle.odb_engine.specs.declared.ending.Ended.TheVariants.{Done}
+use Rattle.odb_engine.specs.Cascade.{Reports, WritesIn}
 use Rattle.odb_engine.specs.Matches.{OfResponses}
 
 -- a request of the rest lacks a Location, and this is the least fault
@@ -28,12 +25,14 @@ pub record LacksLocations (batch : List Record) (value : Data) (places statuses 
   pub least : (units : List Bool) → AreMarksOf batch (IsInRest batch statuses) units → RefusesRest fault batch units (recorded value places)
   pub is : rest_row fault ≡ Some refusal
 
--- the text is that of the rest
+-- the text is that of the rest, and a newline
 pub record PrintsRest (document : List ℕ) (batch : List Record) (value : Data) (places statuses : List ℕ) (ended : Ended) (text : List ℕ) : Type 0 where
   pub rest : Rest
   pub rest_is : IsRestOf batch statuses (recorded value places) rest
-  pub text_is : (d : Data) → IsBatchIn document d batch → IsTextOf document d batch rest text
+  pub line : List ℕ
+  pub line_is : (d : Data) → IsBatchIn document d batch → IsTextOf document d batch rest line
   pub ends : ended ≡ Done
+  pub prints : text ≡ line ++ newline ∷ []
 
 -- what is written of the rest of a batch, by the place and the status of the response to each request
 abbrev pub WritesRest : List ℕ → List Record → Data → List ℕ → List ℕ → WritesIn
@@ -42,20 +41,3 @@ WritesRest document batch value places statuses form ended text = Reports (Lacks
 -- what is written of the batch in a document and the value of a response document, by whether an error stops the service
 abbrev pub RestsValue : Mode → List ℕ → List Record → Data → WritesIn
 RestsValue mode document batch value = OfResponses (WritesRest document batch value) mode batch value
-
--- the same of the response document that is given
-abbrev pub RestsBy : Mode → List ℕ → Given → List Record → WritesIn
-RestsBy mode document given batch = OfGiven given places.Responses (RestsValue mode document batch)
-
--- the same of the bytes of a response document
-abbrev pub RestsIn : Mode → List ℕ → List ℕ → List Record → WritesIn
-RestsIn mode document responses = RestsBy mode document (InMemory responses)
-
--- a result has a newline after it, and a fault is as it was
-abbrev pub EndsLine : WritesIn → WritesIn
-EndsLine P form Done written = (text : List ℕ) × P form Done text × (written ≡ text ++ newline ∷ [])
-EndsLine P form Refused written = P form Refused written
-
--- what the command writes of a batch document and of the response document that is given
-abbrev pub Rests : Mode → List ℕ → Given → WritesIn
-Rests mode document given = EndsLine (Answers (RestsBy mode document given) document)

@@ -6,6 +6,8 @@ use Rattle.odb_doc.specs.Documents.{IsDocument}
 use Rattle.odb_doc.specs.batch.Records.{Record}
 use Rattle.odb_doc.specs.Refusals.{Printed}
 use Rattle.odb_spans.specs.Positions as spans
+use Rattle.odb_spans.specs.Spans.{bytes_of}
+use Rattle.odb_spans.specs.declared.span.Span.{Span}
 use Rattle.odb_sched.specs.run.Choosing.{AllowsOrder}
 use Rattle.odb_engine.specs.declared.ending.Ended.{Ended}
 use Rattle.odb_engine.specs.declared.form.Form.{Form}
@@ -19,6 +21,7 @@ use Rattle.odb_engine.specs.Contents.Given.{InHand, InMemory}
 use Rattle.odb_engine.specs.FullPlans.{ShowsPlaces}
 use Rattle.odb_engine.specs.Matches.{MatchesValue}
 use Rattle.odb_engine.specs.Replays.{ReplaysValue}
+use Rattle.odb_engine.specs.Rests.{RestsValue}
 use Rattle.odb_engine.specs.Runs.{RunsValue}
 
 -- the plan, or the full plan of the batch in these bytes
@@ -33,6 +36,7 @@ OfTask (tasks.Plan full) document second batch = PlansBy full document batch
 OfTask tasks.Draw document second batch = Drawings batch
 OfTask tasks.Canon document second batch = Canonical batch
 OfTask (tasks.Match mode strict) document second batch = OfGiven second places.Responses (MatchesValue mode strict batch)
+OfTask (tasks.Rest mode) document second batch = OfGiven second places.Responses (RestsValue mode document batch)
 OfTask (tasks.Replay policy order traced) document second batch = OfGiven second places.Outcomes (ReplaysValue (AllowsOrder order) policy traced batch)
 OfTask (tasks.Run policy) document second batch = OfGiven second places.Events (RunsValue policy batch)
 
@@ -43,6 +47,7 @@ takes_second (tasks.Plan full) = false
 takes_second tasks.Draw = false
 takes_second tasks.Canon = false
 takes_second (tasks.Match mode strict) = true
+takes_second (tasks.Rest mode) = true
 takes_second (tasks.Replay policy order traced) = true
 takes_second (tasks.Run policy) = true
 
@@ -53,6 +58,7 @@ takes_bytes (tasks.Plan full) = full
 takes_bytes tasks.Draw = false
 takes_bytes tasks.Canon = false
 takes_bytes (tasks.Match mode strict) = false
+takes_bytes (tasks.Rest mode) = true
 takes_bytes (tasks.Replay policy order traced) = false
 takes_bytes (tasks.Run policy) = false
 
@@ -63,6 +69,7 @@ lists_all (tasks.Plan full) = false
 lists_all tasks.Draw = false
 lists_all tasks.Canon = false
 lists_all (tasks.Match mode strict) = false
+lists_all (tasks.Rest mode) = false
 lists_all (tasks.Replay policy order traced) = false
 lists_all (tasks.Run policy) = false
 
@@ -79,33 +86,54 @@ pub record IsNoPair (value : Data) (refusal : Printed) : Type 0 where
   pub none : (first second : Data) → ¬ value ≡ spans.pair first second
   pub is : refusal ≡ not_pair
 
--- what is written of an array of two values: of the first as a batch document, and by the second
-pub record WritesPair (P : List Record → Data → WritesIn) (value : Data) (form : Form) (ended : Ended) (text : List ℕ) : Type 0 where
+-- the bytes are those of the first of the two documents in a line with this value
+pub record IsFirstIn (line : List ℕ) (value : Data) (bytes : List ℕ) : Type 0 where
+  pub first : Span
+  pub other : Span
+  pub parts : spans.ArePartsOf line first other value
+  pub is : bytes ≡ bytes_of line first
+
+-- the same, or no bytes if they are not taken
+abbrev pub IsTakenOf : Bool → List ℕ → Data → List ℕ → Type 0
+IsTakenOf false line value bytes = bytes ≡ []
+IsTakenOf true line value bytes = IsFirstIn line value bytes
+
+-- what is written of a line whose value is an array of two: of the first as a batch document, with its bytes if they are taken, and by the second
+pub record WritesPair (takes : Bool) (P : List ℕ → Given → List Record → WritesIn) (line : List ℕ) (value : Data) (form : Form) (ended : Ended) (text : List ℕ) : Type 0 where
   pub first : Data
   pub second : Data
   pub pair : value ≡ spans.pair first second
-  pub so : AnswersValue (λ requests. P requests second) first form ended text
+  pub document : List ℕ
+  pub taken : IsTakenOf takes line value document
+  pub so : AnswersValue (P document (InHand second)) first form ended text
 
 -- what is written of the two documents in the value of a line
-abbrev pub AnswersPair : (List Record → Data → WritesIn) → Data → WritesIn
-AnswersPair P value form ended text = Reports (IsNoPair value) form ended text ⊎ WritesPair P value form ended text
+abbrev pub AnswersPair : Bool → (List ℕ → Given → List Record → WritesIn) → List ℕ → Data → WritesIn
+AnswersPair takes P line value form ended text = Reports (IsNoPair value) form ended text ⊎ WritesPair takes P line value form ended text
 
 -- the same of the bytes of a line
-abbrev pub OfPair : (List Record → Data → WritesIn) → List ℕ → WritesIn
-OfPair P = OfDocument places.Batch (AnswersPair P)
+abbrev pub OfPair : Bool → (List ℕ → Given → List Record → WritesIn) → List ℕ → WritesIn
+OfPair takes P line = OfDocument places.Batch (AnswersPair takes P line) line
 
 -- what is written of a line: of the document in it, or of the two documents in it
-abbrev pub InLine : Bool → (List ℕ → Given → List Record → WritesIn) → List ℕ → WritesIn
-InLine false P line = Answers (P line (InMemory [])) line
-InLine true P line = OfPair (λ batch second. P [] (InHand second) batch) line
+abbrev pub InLine : Bool → Bool → (List ℕ → Given → List Record → WritesIn) → List ℕ → WritesIn
+InLine false takes P line = Answers (P line (InMemory [])) line
+InLine true takes P line = OfPair takes P line
 
 -- what a task writes of a line: the result, or the first fault
 abbrev pub OfLine : Task → List ℕ → WritesIn
-OfLine task = InLine (takes_second task) (OfTask task)
+OfLine task = InLine (takes_second task) (takes_bytes task) (OfTask task)
 
 -- what a task writes of a line: the result, or the faults
 abbrev pub OfWholeLine : Task → List ℕ → WritesIn
 OfWholeLine task line = Lists (lists_all task) (OfLine task line) (AreFaultsIn line)
+
+-- the two documents lie in a line with this value, and this is written of them
+pub record WritesParts (task : Task) (line : List ℕ) (value : Data) (form : Form) (ended : Ended) (text : List ℕ) : Type 0 where
+  pub first : Span
+  pub other : Span
+  pub parts : spans.ArePartsOf line first other value
+  pub so : OfDocuments task (InMemory (bytes_of line other)) (bytes_of line first) form ended text
 
 -- the line holds the values of two documents, as an array
 pub record IsLineOf (batch second line : List ℕ) : Type 0 where

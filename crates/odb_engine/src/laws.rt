@@ -12,7 +12,10 @@ ghost use Rattle.odb_sched.specs.declared.policy.Policy.{Policy};
 ghost use Rattle.odb_sched.specs.run.Runs.{event_position};
 ghost use Rattle.odb_sched.specs.run.State.{after, size};
 ghost use Rattle.odb_sched.specs.run.Steps.{may_come};
+ghost use Rattle.serde_json.specs.Data.{Data};
+ghost use Rattle.odb_doc.specs.Documents.{IsDocument};
 ghost use Rattle.odb_doc.specs.Refusals.{Printed};
+ghost use Rattle.odb_spans.specs.Positions.{pair};
 ghost use Rattle.odb_engine.specs.AllFaults.{AreFaultsIn};
 ghost use Rattle.odb_engine.specs.Cascade.{Accepts, Answers, IsLeast, IsOne};
 ghost use Rattle.odb_engine.specs.FirstFault.{IsFirstFault, PrintsFirst, Rule};
@@ -21,7 +24,7 @@ ghost use Rattle.odb_engine.specs.declared.form.Form.{Form};
 ghost use Rattle.odb_engine.specs.Contents.Given.{ByReader, InMemory};
 ghost use Rattle.odb_engine.specs.Inputs.{IsDocumentOf};
 ghost use Rattle.odb_engine.specs.declared.tasks.task.Task.{Task};
-ghost use Rattle.odb_engine.specs.Tasks.{IsLineOf, OfDocuments, OfWholeLine, takes_bytes, takes_second};
+ghost use Rattle.odb_engine.specs.Tasks.{IsLineOf, OfDocuments, OfWholeLine, WritesParts, takes_bytes, takes_second};
 ghost use Rattle.odb_engine.specs.Live.{Live, Opens, RecordsOneMore, Shows, with_run};
 ghost use Rattle.odb_engine.specs.declared.ending.Ended.TheVariants.{Done};
 ghost use Rattle.odb_engine.specs.ReadAgain.{IsReadAgain};
@@ -59,9 +62,10 @@ pub fn one_document()
 {}
 
 /// Two texts that a task may write for the same bytes of a batch document and of a second document are equal,
-/// and so are the ends: for each task with its options, but a full plan, in each form, and also if one of the documents is
+/// and so are the ends: for each task with its options, but a full plan and a rest, in each form, and also if one of the documents is
 /// refused. Likewise for a line of a log, with one document or with two. So what a task writes is a function of
-/// the bytes and the form. A full plan has places of bodies, of which no law states that they are the only ones.
+/// the bytes and the form. A full plan has places of bodies, and a rest has bodies, of which no law states that they are the only
+/// ones.
 ///
 /// The relation `OfDocuments` is that of [`crate::answer_task`], and `OfWholeLine` that of [`crate::answer_line`]. `left` is
 /// what the second reader has left.
@@ -86,19 +90,24 @@ pub fn one_text()
 }
 
 /// What a task over two documents writes of a line `[batch, second]` is what it writes of the two documents, and
-/// it ends alike: for `match`, `replay` and `run` with their options, in each form.
+/// it ends alike: for `match`, `replay` and `run` with their options, in each form. What `rest` writes of a line is what it
+/// writes of the two documents as they lie in the line (`parts`): its bodies are bytes of the batch.
 ///
 /// The two documents are in memory, or the second is all that a reader has left. `IsLineOf` asks that the line
 /// itself is a document too: so it has at most 16,777,216 bytes, and what is in it nests at most 126 deep.
 pub fn every_pair()
     ensures memory { (task : Task) (form : Form) (batch second line text : List ℕ) (ended : Ended)
-        → takes_second task ≡ true → IsLineOf batch second line
+        → takes_second task ≡ true → takes_bytes task ≡ false → IsLineOf batch second line
         → (OfWholeLine task line form ended text)
         ↔ (OfDocuments task (InMemory second) batch form ended text) }
     ensures readers { (task : Task) (form : Form) (batch second line text : List ℕ) (ended : Ended)
-        → takes_second task ≡ true → IsLineOf batch second line
+        → takes_second task ≡ true → takes_bytes task ≡ false → IsLineOf batch second line
         → (OfWholeLine task line form ended text)
         ↔ (OfDocuments task (ByReader (Some second)) batch form ended text) }
+    ensures parts { (task : Task) (form : Form) (line text : List ℕ) (batch second : Data) (ended : Ended)
+        → takes_second task ≡ true → takes_bytes task ≡ true → IsDocument line (pair batch second)
+        → OfWholeLine task line form ended text
+        → WritesParts task line (pair batch second) form ended text }
 {}
 
 /// What a replay without a trace, or a run by recorded events, writes as its result is read again:

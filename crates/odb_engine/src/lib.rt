@@ -14,9 +14,8 @@
 //! Another command is a relation in specs/, a variant of [`Task`], and a function in a file of its own that
 //! returns its text. [`answer_in_memory`] returns what a task writes of documents in memory, and [`answer_lines`]
 //! does an [`EachLine`] on each line of an input. `live` opens a run that its caller drives, and
-//! [`requests_in`] returns what is to be sent of each request, and [`rest_in`] what may be sent again of a batch.
-//! [`rest_batch`] is a command over readers, and no task;
-//! [`answer_located`], [`locate_batch`] and [`locate_pair`] do the same, and report each fault with where it is in its
+//! [`requests_in`] returns what is to be sent of each request.
+//! [`answer_located`], [`locate_batch`] and [`locate_pair`] do a task, and report each fault with where it is in its
 //! document.
 #![tactic(auto)]
 
@@ -40,8 +39,7 @@ pub use lines::{EachLine, LineCommand, LineInput, answer_lines};
 pub use live::{LiveRun, open_run, requests_in};
 pub use setup::Setup;
 pub use tasks::{
-    Answer, Command, Document, Names, PairWork, Source, Task, answer_in_memory, answer_line,
-    answer_located, answer_task, canon_batch, check_batch, faults_in, locate_batch, locate_pair,
-    match_batch, plan_batch, plan_of, replay_batch, rest_batch, rest_in, rest_written, run_batch,
-    text_of,
+    Answer, Command, Document, Names, Source, Task, answer_in_memory, answer_line, answer_located,
+    answer_task, canon_batch, check_batch, faults_in, locate_batch, locate_pair, match_batch,
+    plan_batch, plan_of, replay_batch, run_batch, text_of,
 };

@@ -7,7 +7,6 @@ pub mod Units
 pub mod Lists
 pub mod Requests
 pub mod Faults
-pub mod Rests
 pub mod Places
 pub mod Handles
 pub mod Sessions

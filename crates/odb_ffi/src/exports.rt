@@ -18,14 +18,12 @@ ghost use Rattle.odb_sched.specs.declared.policy.Mode.TheVariants as modes;
 ghost use Rattle.odb_engine.specs.declared.form.Form.TheVariants as forms;
 ghost use Rattle.odb_engine.specs.declared.tasks.task.Task.TheVariants as tasks;
 ghost use Rattle.odb_ffi.specs.Options as options;
-ghost use Rattle.odb_ffi.specs.Rests.{RestLine};
 ghost use Rattle.odb_ffi.specs.Returns.{Does, Returns, ReturnsBy};
 
 use crate::answer::{answer, answer_as, wrong_option};
 use crate::options::{match_of, mode_of, replay_of, run_of};
-use crate::rest::rest_as;
 use odb_engine::Form::Lines;
-use odb_engine::Task::{Canon, Check, Match, Plan};
+use odb_engine::Task::{Canon, Check, Match, Plan, Rest};
 use odb_sched::Mode;
 use std::alloc::Global;
 
@@ -271,11 +269,20 @@ pub extern "C" fn odb_rest(
 ) -> u32
     ensures { ReturnsBy (options.IsMode mode)
         (λ mode. ReturnsBy (options.IsForm form)
-        (λ form. Returns (RestLine mode batch.now responses.now form)))
+        (λ form. Returns (Does (tasks.Rest mode) form batch.now responses.now)))
         result text_length.new text.old text.new }
 {
     match mode_of(mode) {
-        Some(mode) => rest_as(alloc, batch, responses, mode, form, seed, text, text_length),
+        Some(mode) => answer_as(
+            alloc,
+            batch,
+            responses,
+            Rest { mode },
+            form,
+            seed,
+            text,
+            text_length,
+        ),
         None => wrong_option(text_length),
     }
 }

@@ -1,5 +1,5 @@
 -- A pair of documents in a line.
-use Rattle.std.proofs.Common.{◌≡◌, ◌∙◌, ℕ, ◌≤◌, true, false, cond, List, [], Some, Result, Ok, Err, IfOk, refl, sym, ap, subst, arith}
+use Rattle.std.proofs.Common.{◌≡◌, ◌∙◌, ℕ, ◌≤◌, length, true, false, cond, List, [], Option, None, Some, Result, Ok, Err, IfOk, IfSome, refl, sym, ap, subst, arith}
 use Rattle.std.specs.declared.alloc.AllocError.{AllocError}
 use Rattle.json.specs.Json as json
 use Rattle.json.specs.Tree.{depth}
@@ -7,8 +7,9 @@ use Rattle.serde_json.specs.Data.{Data, number, array, object, no_items, item, n
 use Rattle.serde_json.specs.Read.{max_depth, number_of, of_items, of_json, of_members}
 use Rattle.odb_doc.specs.Documents.{IsJson}
 use Rattle.odb_doc.specs.declared.fault.Place.{Place}
-use Rattle.odb_spans.specs.Parts.{HasValue, IsPairOf}
-use Rattle.odb_spans.specs.Positions.{BeginsInPair, BeginsInPart, IsTextAt, is_in_batch, pair}
+use Rattle.odb_spans.specs.Parts.{GivesPair, HasValue, IsPairOf}
+use Rattle.odb_spans.specs.Positions.{ArePartsOf, BeginsInPair, BeginsInPart, IsTextAt, is_in_batch, pair}
+use Rattle.odb_spans.specs.Spans.{IsWithin}
 use Rattle.odb_spans.specs.Walks.{IsStart}
 use Rattle.odb_spans.specs.declared.span.Span.{Span}
 use Rattle.odb_spans.proofs.DataLemmas.{item-read, maps-to}
@@ -72,13 +73,6 @@ tree-of-pair (json.array js) batch second e =
     let same : h.value ≡ item batch (item second no_items) = cc (h.is) in
     two-read js batch second (h.some ∙ ap Some same)
 
-record ArePartsOf (line : List ℕ) (first second : Span) (d : Data) : Type 0 where
-  pub one : Data
-  pub two : Data
-  pub is : d ≡ pair one two
-  pub first_text : IsTextAt line first one
-  pub second_text : IsTextAt line second two
-
 module _ (line : List ℕ) (start : ℕ) (at : IsStart line start) where
   -- the line is no pair where it was not found to be one
   pub no-pair : ((one two : json.Json) → HasValue line start (json.array (two_items one two)) [] → ⊥) → (batch second : Data) → IsJson line (pair batch second) → ⊥
@@ -87,32 +81,33 @@ module _ (line : List ℕ) (start : ℕ) (at : IsStart line start) where
       let two = tree-of-pair top.tree batch second top.reads in
       none two.one two.two (subst (λ j. HasValue line start j []) two.is (whole line start (pair batch second) top is.0 at))
 
-  module _ (first second : Span) (is_pair : (j : json.Json) → HasValue line start j [] → IsPairOf line first second j) where
-    parts : (d : Data) → IsJson line d → ArePartsOf line first second d
+  module _ (first second : Span) (order : first.end ≤ second.start) (is_pair : (j : json.Json) → HasValue line start j [] → IsPairOf line first second j) where
+    pub parts : (d : Data) → IsJson line d → ArePartsOf line first second d
     parts d is =
         let top = tree-of line d is.1 in
         let found = is_pair top.tree (whole line start d top is.0 at) in
         let read = pair-read found.one found.two d (ap of_json (sym found.is) ∙ top.reads) in
         let shallow : depth (json.array (two_items found.one found.two)) ≤ max_depth = subst (λ j. depth j ≤ max_depth) found.is top.shallow in
         record {
-          one = read.first;
-          two = read.second;
+          batch = read.first;
+          second = read.second;
           is = read.is;
+          order = order;
           first_text = text-at line first found.one read.first found.first_text read.reads (omega (arith, shallow));
-          second_text = text-at line second found.two read.second found.second_text read.more (omega (arith, shallow));
+          other_text = text-at line second found.two read.second found.second_text read.more (omega (arith, shallow));
         }
 
-    module _ (order : first.end ≤ second.start) (place : Place) (offset : ℕ) where
+    module _ (place : Place) (offset : ℕ) where
       in-one : ((batch other : Data) → IsTextAt line first batch → IsTextAt line second other → cond (is_in_batch place) (BeginsInPart line first offset batch place) (BeginsInPart line second offset other place)) → BeginsInPair line offset place
       in-one begins = record {
         pairs = λ batch other is.
             (let found = parts (pair batch other) is in
-            let one : found.one ≡ batch = cc (found.is) in
-            let two : found.two ≡ other = cc (found.is) in
+            let one : found.batch ≡ batch = cc (found.is) in
+            let two : found.second ≡ other = cc (found.is) in
             let one_text = subst (IsTextAt line first) one found.first_text in
-            let two_text = subst (IsTextAt line second) two found.second_text in
+            let two_text = subst (IsTextAt line second) two found.other_text in
             record { first = first; other = second; order = order; first_text = one_text; other_text = two_text; begins = begins batch other one_text two_text });
-        others = λ d is none. (let found = parts d is in absurd (none found.one found.two found.is));
+        others = λ d is none. (let found = parts d is in absurd (none found.batch found.second found.is));
       }
 
       begins-first : is_in_batch place ≡ true → ((d : Data) → IsTextAt line first d → BeginsInPart line first offset d place) → BeginsInPair line offset place
@@ -121,11 +116,24 @@ module _ (line : List ℕ) (start : ℕ) (at : IsStart line start) where
       begins-second : is_in_batch place ≡ false → ((d : Data) → IsTextAt line second d → BeginsInPart line second offset d place) → BeginsInPair line offset place
       begins-second same begins = in-one (λ batch other one two. subst (λ b. cond b (BeginsInPart line first offset batch place) (BeginsInPart line second offset other place)) (sym same) (begins other two))
 
-    module _ (order : first.end ≤ second.start) (place : Place) where
+    module _ (place : Place) where
       pub if-first : (r : Result ℕ AllocError) → is_in_batch place ≡ true → IfOk r (λ offset. (d : Data) → IsTextAt line first d → BeginsInPart line first offset d place) → IfOk r (λ offset. BeginsInPair line offset place)
-      if-first (Ok offset) same begins = begins-first order place offset same begins
+      if-first (Ok offset) same begins = begins-first place offset same begins
       if-first (Err e) same begins = tt
 
       pub if-second : (r : Result ℕ AllocError) → is_in_batch place ≡ false → IfOk r (λ offset. (d : Data) → IsTextAt line second d → BeginsInPart line second offset d place) → IfOk r (λ offset. BeginsInPair line offset place)
-      if-second (Ok offset) same begins = begins-second order place offset same begins
+      if-second (Ok offset) same begins = begins-second place offset same begins
       if-second (Err e) same begins = tt
+
+  -- what was found of the documents of the line
+  pub documents-found : (found : Option (Span × Span)) → GivesPair line start found → IfSome found (λ f. (d : Data) → IsJson line d → ArePartsOf line f.0 f.1 d)
+  documents-found None gives = tt
+  documents-found (Some (first, second)) gives = parts first second gives.2 gives.3
+
+  pub documents-within : (found : Option (Span × Span)) → GivesPair line start found → IfSome found (λ f. IsWithin (length line) (Some f.0) × IsWithin (length line) (Some f.1))
+  documents-within None gives = tt
+  documents-within (Some (first, second)) gives = (gives.0, gives.1)
+
+  pub no-documents : (found : Option (Span × Span)) → GivesPair line start found → found ≡ None → (batch second : Data) → ¬ IsJson line (pair batch second)
+  no-documents None gives same = no-pair gives
+  no-documents (Some found) gives same = absurd (cc (same))

@@ -74,6 +74,15 @@ pub record Stands (document : List ℕ) (place : Place) (position : Position) : 
 abbrev pub pair : Data → Data → Data
 pair batch second = array (item batch (item second no_items))
 
+-- the value is a pair, whose two documents lie at these spans of the line, one after the other
+pub record ArePartsOf (line : List ℕ) (first other : Span) (d : Data) : Type 0 where
+  pub batch : Data
+  pub second : Data
+  pub is : d ≡ pair batch second
+  pub order : first.end ≤ other.start
+  pub first_text : IsTextAt line first batch
+  pub other_text : IsTextAt line other second
+
 -- the place is in the batch, not in the second document
 abbrev pub is_in_batch : Place → Bool
 is_in_batch Batch = true

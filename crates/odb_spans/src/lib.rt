@@ -6,7 +6,7 @@
 //!
 //! A fault names an element by its [`Place`](odb_doc::Place). [`position_of`] returns the [`Position`] at
 //! which the element begins, with its line and column, [`positions_of`] those of many faults, and
-//! [`position_in_pair`] returns it for a line that holds two documents.
+//! [`position_in_pair`] returns it for a line that holds two documents, which [`documents_in`] finds.
 #![tactic(auto)]
 
 mod bodies;
@@ -23,7 +23,7 @@ mod span;
 mod walk;
 
 pub use bodies::bodies_in;
-pub use locate::{is_in_batch, position_in_pair, position_of};
+pub use locate::{documents_in, is_in_batch, position_in_pair, position_of};
 pub use position::Position;
 pub use positions::positions_of;
 pub use span::Span;

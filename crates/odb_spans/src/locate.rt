@@ -1,11 +1,12 @@
 //! Where the element that a place names begins.
 
-ghost use Rattle.std.specs.Prelude.{◌≡◌, ◌≤◌, ◌<◌, ◌+◌, length, slice_get, IfOk, IfSome, OnErr};
+ghost use Rattle.std.specs.Prelude.{◌≡◌, ◌≤◌, ◌<◌, ◌+◌, length, slice_get, IfOk, IfSome, None, OnErr, Some};
 ghost use Rattle.serde_json.specs.Data.{Data};
 ghost use Rattle.odb_doc.specs.Documents.{IsJson};
-ghost use Rattle.odb_spans.specs.Positions.{BeginsIn, BeginsInPair, BeginsInPart, IsTextAt, Stands, StandsInPair, ValueBeginsAt};
+ghost use Rattle.odb_spans.specs.Positions.{ArePartsOf, BeginsIn, BeginsInPair, BeginsInPart, IsTextAt, Stands, StandsInPair, ValueBeginsAt};
 ghost use Rattle.odb_spans.specs.Positions as spec;
 ghost use Rattle.odb_spans.specs.Parts.{FindsElements, GivesPair};
+ghost use Rattle.odb_spans.specs.Spans.{IsWithin};
 
 use crate::byte::has_byte;
 use crate::fault::fault_in;
@@ -133,6 +134,20 @@ fn pair_in(line: &[u8], start: usize) -> Option<(Span, Span)>
         Some(_) => None,
         None => Some((batch, second)),
     }
+}
+
+/// Returns where a batch and a second document lie in a line whose value is an array of both, `None` if it is no such
+/// array. Of a line that is not JSON, too, the spans lie within it.
+///
+/// Costs O(n) for a line of n bytes.
+pub fn documents_in(line: &[u8]) -> Option<(Span, Span)>
+    ensures found { IfSome result (λ found. (d : Data) → IsJson line.now d
+        → ArePartsOf line.now found.0 found.1 d) }
+    ensures within { IfSome result (λ found. IsWithin (length line.now) (Some found.0)
+        × IsWithin (length line.now) (Some found.1)) }
+    ensures none { result ≡ None → (batch second : Data) → ¬ IsJson line.now (spec.pair batch second) }
+{
+    pair_in(line, value_start(line))
 }
 
 /// Returns where the value that a place names begins in a part of a line that is a document.

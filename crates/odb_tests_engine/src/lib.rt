@@ -19,5 +19,3 @@ mod live;
 mod located;
 #[cfg(test)]
 mod requests;
-#[cfg(test)]
-mod rests;

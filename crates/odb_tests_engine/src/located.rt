@@ -1,7 +1,7 @@
 //! Faults with where they are: of a line in memory, and of documents whose readers are slow or fail.
 
 use odb_engine::{
-    Ended, EngineFault, Names, PairWork, Setup, Task, answer_located, locate_batch, locate_pair,
+    Ended, EngineFault, Names, Setup, Task, answer_located, locate_batch, locate_pair,
 };
 use odb_io::{Input, Output};
 use odb_sched::Mode;
@@ -41,7 +41,7 @@ fn matched(
         &mut responses,
         &mut output,
         NAMES,
-        PairWork::Task(task),
+        task,
         Setup::plain(),
     );
     let calls = (batch.into_inner().calls, responses.into_inner().calls);

@@ -38,7 +38,7 @@ pub const FREE: Policy = Policy {
     width: 10_000,
 };
 
-pub const EXAMPLES: [Example; 11] = [
+pub const EXAMPLES: [Example; 12] = [
     (Task::Check { all: false }, "", "ok 2 requests 0 groups\n"),
     (Task::Check { all: true }, "", "ok 2 requests 0 groups\n"),
     (
@@ -107,6 +107,13 @@ pub const EXAMPLES: [Example; 11] = [
         },
         r#"{"responses":[{"id":"1","status":404},{"id":"2","status":424}]}"#,
         "ok 2 responses\n1 404\n2 424\n",
+    ),
+    (
+        Task::Rest {
+            mode: Mode::Continue,
+        },
+        r#"{"responses":[{"id":"1","status":200},{"id":"2","status":503}]}"#,
+        "{\"requests\":[{\"body\":{\"b\":\"\\u20ac\",\"a\":[1]},\"id\":\"2\",\"method\":\"put\",\"url\":\"B\"}]}\n",
     ),
     (
         Task::Run { policy: FREE },

@@ -1,23 +1,24 @@
 //! A task on a line: it holds a batch document, or an array of a batch and a second document.
 
-ghost use Rattle.std.specs.Prelude.{◌≡◌, ◌≢◌, [], true, false, map, None, Err, IfErr, IfSome};
+ghost use Rattle.std.specs.Prelude.{◌≡◌, ◌≢◌, [], true, map, None, Err, IfErr, IfSome};
 ghost use Rattle.serde_json.specs.Data.{Data};
 ghost use Rattle.serde_json.specs.View.{view};
 ghost use Rattle.odb_engine.specs.declared.halt.Halt.TheVariants as halts;
-ghost use Rattle.odb_engine.specs.Contents.Given.{InHand};
+ghost use Rattle.odb_doc.specs.Documents.{IsJson};
 ghost use Rattle.odb_doc.specs.Refusals.{printed};
 ghost use Rattle.odb_engine.specs.AllFaults.{AreFaultsIn};
 ghost use Rattle.odb_engine.specs.Halts.{Found, Halted};
-ghost use Rattle.odb_engine.specs.Tasks.{OfLine, OfPair, OfTask, lists_all, takes_bytes};
+ghost use Rattle.odb_engine.specs.Tasks.{IsTakenOf, OfLine, OfPair, OfTask, lists_all, takes_bytes};
 ghost use Rattle.odb_spans.specs.Positions as spans;
 
 use crate::disposal::DropOrLeak;
 use crate::halt::Halt;
 use crate::input::value_in;
 use crate::setup::Setup;
-use crate::tasks::command::{text_in, text_of};
+use crate::tasks::command::{Command, text_in, text_of};
 use crate::tasks::task::Task;
 use odb_doc::{Place, Refusal};
+use odb_spans::documents_in;
 use serde_json::Value;
 use std::alloc::Global;
 
@@ -44,6 +45,20 @@ fn pair_of(value: Value) -> Option<(Value, Value)>
     Some((first, second))
 }
 
+/// Returns the bytes of the first of the two documents in a line, or none if they are not taken.
+fn taken_of(line: &[u8], takes: bool) -> &[u8]
+    ensures { (first second : Data) → IsJson line.now (spans.pair first second)
+        → IsTakenOf takes line.now (spans.pair first second) result.now }
+{
+    if !takes {
+        return &[];
+    }
+    match documents_in(line) {
+        Some(both) => both.0.bytes_in(line),
+        None => &[],
+    }
+}
+
 /// Returns what a task writes of the two documents in a line.
 fn text_of_pair(
     alloc: Global,
@@ -52,9 +67,7 @@ fn text_of_pair(
     setup: Setup,
     faults: &mut Vec<Refusal>,
 ) -> Result<String, Halt>
-    requires { takes_bytes task ≡ false }
-    ensures found { Found (OfPair (λ batch second. OfTask task [] (InHand second) batch) line.now)
-        setup.form result }
+    ensures found { Found (OfPair (takes_bytes task) (OfTask task) line.now) setup.form result }
     ensures read { result ≢ Err halts.Read }
 {
     let Some((first, mut second)) = pair_of(value_in(alloc, line, Place::Batch)?) else {
@@ -64,10 +77,11 @@ fn text_of_pair(
         value: first,
         disposal: setup.disposal,
     };
+    let document = taken_of(line, task.takes_bytes());
     let mut task = task;
     text_in(
         alloc,
-        &[],
+        document,
         &first.value,
         &mut second,
         &mut task,

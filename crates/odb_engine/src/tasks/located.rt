@@ -28,7 +28,7 @@ use odb_doc::{Place, Refusal};
 use odb_io::{Input, Output};
 use odb_spans::{Position, position_in_pair, position_of, positions_of};
 use odb_text::{Located, all_located_json, located_json, located_line, located_lines};
-pub use pair::{Names, PairWork, locate_pair};
+pub use pair::{Names, locate_pair};
 use std::alloc::{AllocError, Global};
 use std::io::{Read, Write};
 

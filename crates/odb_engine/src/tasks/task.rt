@@ -16,6 +16,7 @@ use crate::tasks::command::{Command, answer_task};
 use crate::tasks::match_responses::matched;
 use crate::tasks::plan::{drawn_text, planned_by};
 use crate::tasks::replay::{Unordered, replayed};
+use crate::tasks::rest::left_over;
 use crate::tasks::run::ran;
 use crate::tasks::source::Source;
 use odb_check::Plan;
@@ -48,6 +49,11 @@ pub enum Task {
         mode: Mode,
         strict: bool,
     },
+    /// Write what may be sent again by the responses of a service, as a batch of its own (OData JSON Format 4.01, sections
+    /// 19.1 and 19.4), with each body as the bytes of the document. The mode is that of `Match`.
+    Rest {
+        mode: Mode,
+    },
     /// Write the response of a run with recorded outcomes, in this order; after the trace of the steps if
     /// `traced` is set.
     Replay {
@@ -68,7 +74,7 @@ impl Task {
     {
         match self {
             Task::Check { .. } | Task::Plan { .. } | Task::Draw | Task::Canon => false,
-            Task::Match { .. } | Task::Replay { .. } | Task::Run { .. } => true,
+            Task::Match { .. } | Task::Rest { .. } | Task::Replay { .. } | Task::Run { .. } => true,
         }
     }
 }
@@ -93,6 +99,7 @@ impl Command for Task {
     fn takes_bytes(&self) -> bool {
         match *self {
             Task::Plan { full } => full,
+            Task::Rest { .. } => true,
             _ => false,
         }
     }
@@ -114,6 +121,10 @@ impl Command for Task {
             Task::Match { mode, strict } => {
                 let responses = second.value(alloc, Place::Responses)?;
                 matched(alloc, plan, responses, mode, strict, setup)
+            }
+            Task::Rest { mode } => {
+                let responses = second.value(alloc, Place::Responses)?;
+                left_over(alloc, document, plan, responses, mode, setup)
             }
             Task::Replay {
                 policy,

@@ -1,17 +1,17 @@
-//! A line with two documents: a task writes of it what it writes of the two documents.
+//! A line with two documents: a task that takes no bytes writes of it what it writes of the two documents.
 
-ghost use Rattle.std.specs.Prelude.{◌≡◌, ◌≤◌, true, IfSome, string_bytes};
+ghost use Rattle.std.specs.Prelude.{◌≡◌, ◌≤◌, false, true, IfSome, string_bytes};
 ghost use Rattle.serde_json.specs.Data.{depth};
 ghost use Rattle.serde_json.specs.View.{view};
 ghost use Rattle.odb_doc.specs.Documents.{IsDocument};
-ghost use Rattle.odb_engine.specs.Tasks.{IsLineOf, takes_second};
+ghost use Rattle.odb_engine.specs.Tasks.{IsLineOf, takes_bytes, takes_second};
 ghost use Rattle.odb_testing.specs.Readings.{AreOne};
 
 use crate::engines::{EXAMPLES, Example};
 use crate::laws::engines::{Written, answered, line_answered};
 use odb_doc::parse;
 use odb_engine::laws::{every_pair, one_text};
-use odb_engine::{Ended, Form, Task};
+use odb_engine::{Command, Ended, Form, Task};
 use odb_testing::{PAIR, Two};
 use serde_json::Value;
 use std::alloc::Global;
@@ -44,9 +44,10 @@ fn apart(alloc: Global, line: &[u8]) -> Option<(String, String)>
     Some((document_of(alloc, &batch)?, document_of(alloc, &second)?))
 }
 
-/// Does a task on a line with two documents, and on the two documents.
+/// Does a task that takes no bytes on a line with two documents, and on the two documents.
 fn of_line_and_of_both(alloc: Global, line: &[u8], task: Task, form: Form) -> Two<Written>
-    requires { takes_second task ≡ true }
+    requires second { takes_second task ≡ true }
+    requires bytes { takes_bytes task ≡ false }
     ensures { AreOne result.0 result.1 }
 {
     one_text();
@@ -60,9 +61,10 @@ fn of_line_and_of_both(alloc: Global, line: &[u8], task: Task, form: Form) -> Tw
     )
 }
 
-/// Whether a task is done, and writes of a line what it writes of the two documents in it, unless it takes only one.
+/// Whether a task is done, and writes of a line what it writes of the two documents in it, unless it takes only one or
+/// their bytes.
 fn is_one(alloc: Global, (task, second, _): Example, form: Form) -> bool {
-    if !task.takes_second() {
+    if !task.takes_second() || task.takes_bytes() {
         return true;
     }
     let Ok(line) = format!(in alloc; "[{PAIR},{second}]") else {

@@ -12,10 +12,11 @@ ghost use Rattle.odb_engine.specs.declared.halt.Halt.TheVariants as halts;
 ghost use Rattle.odb_engine.specs.Engines.{Ends};
 ghost use Rattle.odb_engine.specs.Halts.{Found, Halted};
 ghost use Rattle.odb_engine.specs.Contents.{AskedFor};
+ghost use Rattle.odb_engine.specs.Contents.Given.{InMemory};
 ghost use Rattle.odb_engine.specs.Inputs.{GivesDocument, IsFresh, ReadsFew, SomeDocument};
 ghost use Rattle.odb_engine.specs.Answered.{LocatesEither, LocatesFound};
-ghost use Rattle.odb_engine.specs.Located.{LocatesPair, OfPairWork};
-ghost use Rattle.odb_engine.specs.Rests.{EndsLine, RestsIn};
+ghost use Rattle.odb_engine.specs.Located.{LocatesPair};
+ghost use Rattle.odb_engine.specs.Tasks.{OfTask};
 
 use crate::disposal::DropOrLeak;
 use crate::ending::{Ended, EngineFault};
@@ -26,24 +27,13 @@ use crate::setup::Setup;
 use crate::tasks::answer::Answer;
 use crate::tasks::command::{Command, plan_of};
 use crate::tasks::located::{locate, put_answer};
-use crate::tasks::rest::rest_written;
 use crate::tasks::task::Task;
 use odb_check::Plan;
 use odb_doc::{Batch, Place, Refusal};
 use odb_io::{Input, Output};
-use odb_sched::Mode;
 use odb_spans::is_in_batch;
 use std::alloc::{AllocError, Global};
 use std::io::{Read, Write};
-
-/// What is done on a batch document and a second document.
-#[derive(Clone, Copy, Debug)]
-pub enum PairWork {
-    /// A task that takes a second document.
-    Task(Task),
-    /// Write the rest of the batch, by whether an error stops the service.
-    Rest(Mode),
-}
 
 /// The names of the documents, as faults are reported with them.
 #[derive(Clone, Copy, Debug)]
@@ -52,51 +42,25 @@ pub struct Names<'n> {
     pub second: &'n str,
 }
 
-/// Returns the rest of the batch in a document by the responses in another, and a newline.
-fn rest_text(
-    alloc: Global,
-    document: &[u8],
-    plan: &Plan<'_>,
-    responses: &[u8],
-    mode: Mode,
-    setup: Setup,
-) -> Result<String, Halt>
-    requires document { (d : Data) × IsBatchIn document.now d (plan_records plan.now) }
-    requires seed { IsSeeded setup.seed.number plan.now }
-    ensures found { Found (EndsLine (RestsIn mode document.now responses.now (plan_records plan.now)))
-        setup.form result }
-    ensures read { result ≢ Err halts.Read }
-{
-    let value = value_in(alloc, responses, Place::Responses)?;
-    let mut text = rest_written(alloc, document, plan, value, mode, setup)?;
-    text.push_str("\n")?;
-    Ok(text)
-}
-
-/// Returns what is written of the batch in a document by a second document.
+/// Returns what is written of the batch in a document by a second document in memory.
 fn text_of(
     alloc: Global,
     document: &[u8],
     batch: &Batch<'_>,
     plan: &Plan<'_>,
     second: &[u8],
-    work: PairWork,
+    task: Task,
     setup: Setup,
 ) -> Result<String, Halt>
     requires batch { records batch.now ≡ plan_records plan.now }
     requires document { (d : Data) × IsBatchIn document.now d (plan_records plan.now) }
     requires seed { IsSeeded setup.seed.number plan.now }
-    ensures found { Found (OfPairWork work document.now second.now (plan_records plan.now)) setup.form
+    ensures found { Found (OfTask task document.now (InMemory second.now) (plan_records plan.now)) setup.form
         result }
     ensures read { result ≢ Err halts.Read }
 {
-    match work {
-        PairWork::Task(task) => {
-            let (mut second, mut task) = (second, task);
-            task.text(alloc, document, batch, plan, &mut second, setup)
-        }
-        PairWork::Rest(mode) => rest_text(alloc, document, plan, second, mode, setup),
-    }
+    let (mut second, mut task) = (second, task);
+    task.text(alloc, document, batch, plan, &mut second, setup)
 }
 
 /// The second document, and what was found of both.
@@ -111,13 +75,13 @@ fn read_second<S: Read>(
     alloc: Global,
     document: &[u8],
     second: &mut Input<S>,
-    work: PairWork,
+    task: Task,
     setup: Setup,
 ) -> Result<Second, Halt>
     requires { IsFresh second.old }
     ensures batch { IfErr result (Halted (IsLeast document.now)) }
     ensures second { IfOk result (λ it. GivesDocument (S.remaining second.old.reader) it.bytes.items) }
-    ensures found { IfOk result (λ it. Found (Answers (OfPairWork work document.now it.bytes.items)
+    ensures found { IfOk result (λ it. Found (Answers (OfTask task document.now (InMemory it.bytes.items))
         document.now) setup.form it.found) }
     ensures asked { (second.new ≡ second.old) ⊎ Accepts document.now (λ _. Unit {0}) }
     ensures read { (result ≡ Err halts.Read) ↔ IsTrue second.new.failed }
@@ -139,7 +103,7 @@ fn read_second<S: Read>(
         &batch.value,
         &plan.value,
         &bytes,
-        work,
+        task,
         setup,
     );
     Ok(Second { bytes, found })
@@ -191,18 +155,18 @@ fn answer_second<S: Read>(
     document: &[u8],
     second: &mut Input<S>,
     names: Names<'_>,
-    work: PairWork,
+    task: Task,
     setup: Setup,
 ) -> Result<Answer, Halt>
     requires { IsFresh second.old }
     ensures found { SomeDocument (S.remaining second.old.reader) (λ bytes. IfOk result (λ answer.
-        LocatesPair work names.entry.batch.now document.now names.entry.second.now bytes setup.form
+        LocatesPair task names.entry.batch.now document.now names.entry.second.now bytes setup.form
         answer.ended answer.text.items)) }
     ensures asked { (second.new ≡ second.old) ⊎ Accepts document.now (λ _. Unit {0}) }
     ensures read { (result ≡ Err halts.Read) ↔ IsTrue second.new.failed }
     ensures few { ReadsFew S.remaining second.old second.new }
 {
-    match read_second(alloc, document, second, work, setup) {
+    match read_second(alloc, document, second, task, setup) {
         Ok(found) => Ok(locate_found(alloc, setup.form, names, document, found)?),
         Err(Halt::Refused(refusal)) => {
             Ok(locate_in_either(alloc, setup.form, names, document, &[], refusal)?)
@@ -217,13 +181,13 @@ fn answer_of<R: Read, S: Read>(
     batch: &mut Input<R>,
     second: &mut Input<S>,
     names: Names<'_>,
-    work: PairWork,
+    task: Task,
     setup: Setup,
 ) -> Result<Answer, Halt>
     requires batch { IsFresh batch.old }
     requires second { IsFresh second.old }
     ensures found { SomeDocument (R.remaining batch.old.reader) (λ bytes.
-        SomeDocument (S.remaining second.old.reader) (λ other. IfOk result (λ answer. LocatesPair work
+        SomeDocument (S.remaining second.old.reader) (λ other. IfOk result (λ answer. LocatesPair task
         names.entry.batch.now bytes names.entry.second.now other setup.form answer.ended answer.text.items))
         × AskedFor R.remaining batch.old batch.new bytes second.old second.new) }
     ensures read { (result ≡ Err halts.Read) ↔ (IsTrue batch.new.failed ⊎ IsTrue second.new.failed) }
@@ -231,10 +195,10 @@ fn answer_of<R: Read, S: Read>(
     ensures second { ReadsFew S.remaining second.old second.new }
 {
     let document = read_document(alloc, batch)?;
-    answer_second(alloc, &document, second, names, work, setup)
+    answer_second(alloc, &document, second, names, task, setup)
 }
 
-/// Does a work on the batch in the document of a reader, by the second document of another: writes its result, or the
+/// Does a task on the batch in the document of a reader, by the second document of another: writes its result, or the
 /// least fault with where it is in either document, in the form of the setup: after `NAME:LINE:COLUMN: `, or as the
 /// members `line`, `column` and `offset` of its JSON.
 ///
@@ -250,14 +214,14 @@ pub fn locate_pair<R: Read, S: Read, W: Write>(
     second: &mut Input<S>,
     output: &mut Output<W>,
     names: Names<'_>,
-    work: PairWork,
+    task: Task,
     setup: Setup,
 ) -> Result<Ended, EngineFault>
     requires batch { IsFresh batch.old }
     requires second { IsFresh second.old }
     requires output { output.old.failed ≡ false }
     ensures ends { SomeDocument (R.remaining batch.old.reader) (λ bytes.
-        SomeDocument (S.remaining second.old.reader) (λ other. Ends W.contents (LocatesPair work
+        SomeDocument (S.remaining second.old.reader) (λ other. Ends W.contents (LocatesPair task
         names.entry.batch.now bytes names.entry.second.now other setup.form)
         (IsTrue batch.new.failed ⊎ IsTrue second.new.failed) output.old output.new result)
         × AskedFor R.remaining batch.old batch.new bytes second.old second.new) }
@@ -265,6 +229,6 @@ pub fn locate_pair<R: Read, S: Read, W: Write>(
     ensures batch { ReadsFew R.remaining batch.old batch.new }
     ensures second { ReadsFew S.remaining second.old second.new }
 {
-    let found = answer_of(alloc, batch, second, names, work, setup);
+    let found = answer_of(alloc, batch, second, names, task, setup);
     put_answer(found, output)
 }

@@ -2,4 +2,4 @@ use Rattle.odb_ffi.specs.Returns.ReturnsBy.{Named}
 use Rattle.odb_ffi.proofs.exports.odb_rest.Goals as goal
 
 pub returns-in-Some : goal.returns-in-Some
-returns-in-Some c = Named c.in-Some.mode c.in-Some.ensures.some c.rest_as.ensures
+returns-in-Some c = Named c.in-Some.mode c.in-Some.ensures.some c.answer_as.ensures

@@ -1,19 +1,19 @@
 use Rattle.std.proofs.Common.{◌≡◌, ◌∙◌, true, false, sym, subst, rules}
 use Rattle.std.proofs.lemmas.Bool.{true≢false}
 use Rattle.odb_engine.specs.Halts.{Found}
-use Rattle.odb_engine.specs.Tasks.{InLine, OfTask, takes_second}
-use Rattle.odb_engine.proofs.PairLawLemmas.{second-alone, values-alone}
+use Rattle.odb_engine.specs.Tasks.{InLine, OfTask, takes_bytes, takes_second}
+use Rattle.odb_engine.proofs.PairLawLemmas.{second-alone}
 use Rattle.odb_engine.proofs.lines.task.text_of_line.Goals as goal
 
 pub returns-then-takes_second-clause-found : goal.returns-then-takes_second-clause-found
 returns-then-takes_second-clause-found c =
     let two : takes_second c.args.task ≡ true = search rules in
-    subst (λ two. Found (InLine two (OfTask c.args.task) c.args.line.now) c.args.setup.form c.text_of_pair.result) (sym two) c.text_of_pair.ensures.found
+    subst (λ two. Found (InLine two (takes_bytes c.args.task) (OfTask c.args.task) c.args.line.now) c.args.setup.form c.text_of_pair.result) (sym two) c.text_of_pair.ensures.found
 
 pub returns-clause-found : goal.returns-clause-found
 returns-clause-found c =
     let one : takes_second c.args.task ≡ false = search rules in
-    subst (λ two. Found (InLine two (OfTask c.args.task) c.args.line.now) c.args.setup.form c.text_of.result) (sym one) c.text_of.ensures.found.0.0
+    subst (λ two. Found (InLine two (takes_bytes c.args.task) (OfTask c.args.task) c.args.line.now) c.args.setup.form c.text_of.result) (sym one) c.text_of.ensures.found.0.0
 
 pub returns-then-takes_second-clause-listed : goal.returns-then-takes_second-clause-listed
 returns-then-takes_second-clause-listed c lists =
@@ -22,8 +22,3 @@ returns-then-takes_second-clause-listed c lists =
 
 pub returns-clause-listed : goal.returns-clause-listed
 returns-clause-listed c = c.text_of.ensures.found.0.1
-
-pub text_of_pair-requires : goal.text_of_pair-requires
-text_of_pair-requires c =
-    let two : takes_second c.args.task ≡ true = search rules in
-    values-alone c.args.task two

@@ -1,22 +1,9 @@
-use Rattle.std.proofs.Common.{◌≡◌, true, false, refl, string_bytes, sym, subst}
-use Rattle.std.proofs.lemmas.Bool.{false≢true}
+use Rattle.std.proofs.Common.{string_bytes, sym, subst}
 use Rattle.std.proofs.lemmas.Option.{IfSome_then}
-use Rattle.odb_engine.specs.declared.tasks.task.Task.{Task}
-use Rattle.odb_engine.specs.declared.tasks.task.Task.TheVariants as tasks
 use Rattle.odb_engine.specs.Contents.Given.{InMemory}
-use Rattle.odb_engine.specs.Tasks.{IsLineOf, OfDocuments, takes_bytes, takes_second}
+use Rattle.odb_engine.specs.Tasks.{IsLineOf, OfDocuments}
 use Rattle.odb_testing.proofs.ReadingLemmas.{one_of}
 use Rattle.odb_tests_tasks.proofs.laws.pairs.of_line_and_of_both.Goals as goal
-
--- a task over two documents takes no bytes
-no_bytes : (task : Task) → takes_second task ≡ true → takes_bytes task ≡ false
-no_bytes (tasks.Check all) takes = refl
-no_bytes (tasks.Plan full) takes = absurd (false≢true takes)
-no_bytes tasks.Draw takes = refl
-no_bytes tasks.Canon takes = refl
-no_bytes (tasks.Match mode strict) takes = refl
-no_bytes (tasks.Replay policy order traced) takes = refl
-no_bytes (tasks.Run policy) takes = refl
 
 pub returns : goal.returns
 returns c =
@@ -27,5 +14,5 @@ returns c =
     let second = c.as_bytes-2.result.now in
     let apart = subst (λ b. IsLineOf b (string_bytes c.in-Some.second) line) (sym c.as_bytes.ensures.value) c.in-Some.ensures in
     let pair = subst (λ s. IsLineOf batch s line) (sym c.as_bytes-2.ensures.value) apart in
-    let of_line = IfSome_then c.line_answered.result c.line_answered.ensures (λ it. (c.every_pair.ensures.memory task form batch second line it.1.items it.0 c.requires pair).0) in
-    one_of (λ it. it.0) (λ it. it.1.items) (OfDocuments task (InMemory second) batch form) (c.one_text.ensures.memory task form batch second (no_bytes task c.requires)) c.line_answered.result c.answered.result of_line c.answered.ensures
+    let of_line = IfSome_then c.line_answered.result c.line_answered.ensures (λ it. (c.every_pair.ensures.memory task form batch second line it.1.items it.0 c.requires.second c.requires.bytes pair).0) in
+    one_of (λ it. it.0) (λ it. it.1.items) (OfDocuments task (InMemory second) batch form) (c.one_text.ensures.memory task form batch second c.requires.bytes) c.line_answered.result c.answered.result of_line c.answered.ensures

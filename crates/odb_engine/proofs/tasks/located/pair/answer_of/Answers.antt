@@ -16,7 +16,7 @@ returns-in_err-document-clause-found g c =
     let (bytes, gives) = some-document left in
     let (other, gives_other) = some-document left_second in
     exit-error
-    (λ r. SomeDocument left (λ bytes. SomeDocument left_second (λ other. IfOk r (λ answer. LocatesPair c.args.work c.args.names.batch.now bytes c.args.names.second.now other c.args.setup.form answer.ended answer.text.items))
+    (λ r. SomeDocument left (λ bytes. SomeDocument left_second (λ other. IfOk r (λ answer. LocatesPair c.args.task c.args.names.batch.now bytes c.args.names.second.now other c.args.setup.form answer.ended answer.text.items))
     × AskedFor g.R.Read.remaining c.args.batch.now c.read_document.new.input bytes second second)) _ _ c.from_residual.ensures.1 (bytes, gives, ((other, gives_other, tt), inl refl))
 
 pub returns-clause-found : goal.returns-clause-found
@@ -26,7 +26,7 @@ returns-clause-found g c =
     let new = c.answer_second.new.second in
     let bytes = c.in_ok-document.document.items in
     let was = WasRead g.R.Read.remaining c.args.batch.now c.read_document.new.input in
-    let so = subst (λ (bytes : List ℕ). SomeDocument left_second (λ other. IfOk c.answer_second.result (λ answer. LocatesPair c.args.work c.args.names.batch.now bytes c.args.names.second.now other c.args.setup.form answer.ended answer.text.items))) c.deref.ensures.value
+    let so = subst (λ (bytes : List ℕ). SomeDocument left_second (λ other. IfOk c.answer_second.result (λ answer. LocatesPair c.args.task c.args.names.batch.now bytes c.args.names.second.now other c.args.setup.form answer.ended answer.text.items))) c.deref.ensures.value
     c.answer_second.ensures.found in
     let asked = subst (λ (bytes : List ℕ). (new ≡ old) ⊎ Accepts bytes (λ _. Unit {0})) c.deref.ensures.value c.answer_second.ensures.asked in
     (bytes, c.in_ok-document.ensures.document, (so, asked-after (was bytes) bytes old new c.in_ok-document.ensures.whole asked))

@@ -4,8 +4,9 @@ use Rattle.odb_doc.specs.batch.Batches.{records}
 use Rattle.odb_doc.specs.batch.Records.{Record}
 use Rattle.odb_check.specs.Plans.{plan_records}
 use Rattle.odb_engine.specs.Cascade.{Answers, IsLeast}
+use Rattle.odb_engine.specs.Contents.Given.{InMemory}
 use Rattle.odb_engine.specs.Halts.{Found, Halted, RefusesNamesOf}
-use Rattle.odb_engine.specs.Located.{OfPairWork}
+use Rattle.odb_engine.specs.Tasks.{OfTask}
 use Rattle.odb_engine.proofs.EngineLemmas.{Halted-weaker, exit-error, found-weaker}
 use Rattle.odb_engine.proofs.LiveLemmas.{least-names}
 use Rattle.odb_engine.proofs.RestLemmas.{accepted-answers}
@@ -23,8 +24,8 @@ returns-clause-found g c =
     let bytes = c.args.document.now in
     let form = c.args.setup.form in
     let batch = records c.in_ok-read.field-0 in
-    let P = OfPairWork c.args.work bytes c.in_ok-bytes.bytes.items in
-    let found = subst (λ (second : List ℕ). Found (OfPairWork c.args.work bytes second (plan_records c.in_ok-plan.plan.value)) form c.text_of-found.result) c.deref.ensures.value c.text_of-found.ensures.found in
+    let P = OfTask c.args.task bytes (InMemory c.in_ok-bytes.bytes.items) in
+    let found = subst (λ (second : List ℕ). Found (OfTask c.args.task bytes (InMemory second) (plan_records c.in_ok-plan.plan.value)) form c.text_of-found.result) c.deref.ensures.value c.text_of-found.ensures.found in
     found-weaker (P batch) (Answers P bytes) form c.text_of-found.result
     (λ ended text writes. accepted-answers P bytes _ batch form ended text c.in_ok-value_in.ensures.value c.in_ok-read.ensures.good c.in_ok-read.ensures.records c.in_ok-plan.ensures.good writes)
     (subst (λ (rs : List Record). Found (P rs) form c.text_of-found.result) c.in_ok-plan.ensures.plan found)

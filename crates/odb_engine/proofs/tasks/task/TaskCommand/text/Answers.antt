@@ -1,10 +1,11 @@
-use Rattle.std.proofs.Common.{subst}
+use Rattle.std.proofs.Common.{refl, subst}
 use Rattle.serde_json.specs.View.{view}
 use Rattle.odb_doc.specs.declared.fault.Place.TheVariants as places
 use Rattle.odb_check.specs.Plans.{plan_records}
 use Rattle.odb_sched.specs.run.Choosing.{AllowsOrder}
 use Rattle.odb_engine.specs.Matches.{MatchesValue}
 use Rattle.odb_engine.specs.Replays.{ReplaysValue}
+use Rattle.odb_engine.specs.Rests.{RestsValue}
 use Rattle.odb_engine.specs.Runs.{RunsValue}
 use Rattle.odb_engine.proofs.SourceLemmas.{given-found}
 use Rattle.odb_doc.specs.batch.Batches.{records}
@@ -31,6 +32,14 @@ pub returns-in_ok-responses-in-Match-clause-found : goal.returns-in_ok-responses
 returns-in_ok-responses-in-Match-clause-found g c =
     let P = MatchesValue c.in-Match.mode c.in-Match.strict (plan_records c.args.plan.now) in
     rw c.in-Match.is (given-found (g.S.Source.given c.args.second.now) places.Responses P (view c.in_ok-responses-in-Match.responses) _ c.args.setup.form c.matched.result c.in_ok-responses-in-Match.ensures.value c.matched.ensures.found)
+
+pub left_over-requires-clause-document : goal.left_over-requires-clause-document
+left_over-requires-clause-document g c = c.requires.document (rw c.in-Rest.is refl)
+
+pub returns-in_ok-responses-in-Rest-clause-found : goal.returns-in_ok-responses-in-Rest-clause-found
+returns-in_ok-responses-in-Rest-clause-found g c =
+    let P = RestsValue c.in-Rest.mode c.args.document.now (plan_records c.args.plan.now) in
+    rw c.in-Rest.is (given-found (g.S.Source.given c.args.second.now) places.Responses P (view c.in_ok-responses-in-Rest.responses) _ c.args.setup.form c.left_over.result c.in_ok-responses-in-Rest.ensures.value (c.left_over.ensures.found c.args.setup.form))
 
 pub returns-in_ok-outcomes-in-Replay-clause-found : goal.returns-in_ok-outcomes-in-Replay-clause-found
 returns-in_ok-outcomes-in-Replay-clause-found g c =

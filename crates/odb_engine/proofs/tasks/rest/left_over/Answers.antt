@@ -1,4 +1,4 @@
-use Rattle.std.proofs.Common.{subst}
+use Rattle.std.proofs.Common.{string_bytes, subst}
 use Rattle.serde_json.specs.View.{view}
 use Rattle.odb_check.specs.Plans.{plan_records}
 use Rattle.odb_reply.specs.Fits.{Fits, IsTableOf, places, statuses}
@@ -9,7 +9,7 @@ use Rattle.odb_engine.specs.Matches.{decided}
 use Rattle.odb_engine.specs.Rests.{RestsValue}
 use Rattle.odb_engine.proofs.EngineLemmas.{at-exit}
 use Rattle.odb_engine.proofs.RestLemmas.{found-rest, rest-location, rest-misfit, rest-responses}
-use Rattle.odb_engine.proofs.tasks.rest.rest_written.Goals as goal
+use Rattle.odb_engine.proofs.tasks.rest.left_over.Goals as goal
 
 pub returns-in_err-read-clause-found : goal.returns-in_err-read-clause-found
 returns-in_err-read-clause-found c =
@@ -51,5 +51,5 @@ returns-clause-found c =
     let listed = entries c.in_ok-read.read in
     let table = c.in_ok-table.table in
     let all = c.in_ok-decided.ensures in
-    λ form. found-rest mode form document batch (view c.args.value) listed (places table) (statuses table) _ c.in_ok-rest.rest (c.in_ok-read.ensures.good, c.in_ok-read.ensures.responses)
-    (subst (Fits batch) all c.in_ok-table.ensures.fits) (subst (λ es. IsTableOf batch es (places table) (statuses table)) all c.in_ok-table.ensures.table) c.in_ok-rest.ensures.rest c.in_ok-rest_text.ensures
+    λ form. found-rest mode form document batch (view c.args.value) listed (places table) (statuses table) (string_bytes c.in_ok-text.text) _ c.in_ok-rest.rest (c.in_ok-read.ensures.good, c.in_ok-read.ensures.responses)
+    (subst (Fits batch) all c.in_ok-table.ensures.fits) (subst (λ es. IsTableOf batch es (places table) (statuses table)) all c.in_ok-table.ensures.table) c.in_ok-rest.ensures.rest c.in_ok-text.ensures c.in_ok-push_str.ensures.bytes
