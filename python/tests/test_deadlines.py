@@ -12,6 +12,9 @@ from odb_batch.driver import threads
 from odb_batch.driver.waits import Deadline, Places
 from support.performing import Clock, Ledger, Memory, gets, shown
 
+# A defect has some of them wait for ever.
+pytestmark = pytest.mark.seconds(60)
+
 
 def over(batch, **options):
     """Performs a batch whose requests have no answer, and whose deadline passes once the first is sent."""

@@ -11,6 +11,9 @@ from odb_batch import asgi
 from support.applications import CONTINUE, OverAsgi, batch
 from support.performing import Clock
 
+# A defect has some of them wait for ever.
+pytestmark = pytest.mark.seconds(60)
+
 # Parts of an answer that stands for one without an end: a middleware that does not end it fails its test, and does not hang.
 MANY = 100_000
 START = {"type": "http.response.start", "status": 200, "headers": [(b"content-type", b"text/plain")]}

@@ -12,6 +12,9 @@ from odb_batch import PreparedGroup, Refusal, Report, Start, perform, perform_as
 from odb_batch.driver.waits import Places
 from support.performing import Memory, gets, shown
 
+# A defect has some of them wait for ever.
+pytestmark = pytest.mark.seconds(60)
+
 EIGHT = {"requests": [{"id": f"r{k}", "method": "delete", "url": f"Books({k})"} for k in range(8)]}
 # How long a place is waited for where it has to be free in the end: no test waits for it.
 LONG = 60
@@ -167,6 +170,25 @@ class TestGates:
                               {"id": "c", "method": "get", "url": "http://evil/"}]}  # fmt: skip
         assert over(batch, send, gate=gate) == {"a": 201, "b": 201, "c": 404}
         assert seen == [("POST", "http://host/Books"), ("GET", "http://host/Books(7)/Loans")]
+
+    def test_is_asked_for_the_first_request_of_a_transaction(self):
+        seen, sent = [], []
+
+        def gate(request):
+            seen.append(request.id)
+            return Places(1)
+
+        async def send(request):
+            sent.append(request.id)
+            return (204,)
+
+        @contextlib.asynccontextmanager
+        async def transaction(name):
+            yield
+
+        batch = {"requests": [{**it, "atomicityGroup": "g"} for it in EIGHT["requests"][:3]]}
+        assert set(over(batch, send, gate=gate, transaction=transaction).values()) == {204}
+        assert (seen, sent) == (["r0"], ["r0", "r1", "r2"])
 
     def test_is_asked_for_a_group_that_is_sent_as_one(self):
         seen = []

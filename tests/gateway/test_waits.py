@@ -13,6 +13,9 @@ import pytest
 
 from support.servers import CONTINUE, SECONDS, repeatable, until
 
+# A defect has some of them wait for ever.
+pytestmark = pytest.mark.seconds(150)
+
 
 def code_of(response):
     return response.get("body", {}).get("error", {}).get("code")

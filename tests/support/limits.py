@@ -4,20 +4,21 @@ import signal
 
 import pytest
 
-# More than any test takes beside much other work: those that are known to be slow, and the others.
-SLOW_SECONDS, SECONDS = 900, 180
+SECONDS = 900
 
 
 @pytest.fixture(autouse=True)
 def limit(request):
-    """Fails a test that takes too long; what it has started is ended as it is after any failure."""
-    seconds = SLOW_SECONDS if request.node.get_closest_marker("slow") else SECONDS
+    """Fails a test that takes too long, or longer than its mark `seconds` says; what it has started is ended as it is after any
+    failure."""
+    mark = request.node.get_closest_marker("seconds")
+    seconds = mark.args[0] if mark else SECONDS
 
     def end(*_):
         pytest.fail(f"not finished after {seconds} seconds")
 
     before = signal.signal(signal.SIGALRM, end)
-    signal.setitimer(signal.ITIMER_REAL, seconds, 1)  # and again, where its end waits for what does not come
+    signal.alarm(seconds)
     yield
-    signal.setitimer(signal.ITIMER_REAL, 0)
+    signal.alarm(0)
     signal.signal(signal.SIGALRM, before)
