@@ -17,7 +17,7 @@ DEFECTS = {
     ),
     "a-commit-without-a-body": ("driver/execution", "answer, _ = self._write_body(unit.ids[-1], answer)", "pass", PERFORM, "cannot_be_written"),
     "success-without-an-answer": (
-        "driver/threads", "with transaction(unit.group):\n", "answer = Answer(200)\n            with transaction(unit.group):\n",
+        "driver/threads", "with transaction(unit.group):\n", "answer = Answer(200)\n        with transaction(unit.group):\n",
         PERFORM, "swallows_all",
     ),
     "no-gate": ("asgi", "gate=self._gate()", "gate=None", WSGI_ASGI, "at_once"),
