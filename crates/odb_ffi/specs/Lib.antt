@@ -7,6 +7,7 @@ pub mod Units
 pub mod Lists
 pub mod Requests
 pub mod Faults
+pub mod Targets
 pub mod Places
 pub mod Handles
 pub mod Sessions
