@@ -77,6 +77,13 @@ enum {
     ODB_BAD_STATUS = 22       /* P2: the status is not from 200 to 599 */
 };
 
+/* What `odb_resolve` returns if a request is not sent. */
+enum {
+    ODB_UNREADABLE = 31, /* the URL or the Location has a control character, a text is not UTF-8, or the URL continues no reference */
+    ODB_OUTSIDE = 32,    /* it leads out of the roots */
+    ODB_NO_LOCATION = 33 /* the POST that it refers to was answered without a Location */
+};
+
 /* `mode`: what an error, a status from 400 to 599, does to a run, or to a service whose responses are matched. */
 enum {
     ODB_CONTINUE = 0, /* what depends on the request is skipped */
@@ -248,6 +255,20 @@ typedef struct odb_request {
 uint32_t odb_requests(const uint8_t *batch, size_t batch_size,
                       uint8_t *text, size_t text_size, size_t *text_length,
                       odb_request *requests, size_t requests_size, size_t *count, uint64_t seed);
+
+/* Says where a request of a batch is sent, if at all. `base` is the absolute URL of the folder of `$batch`, as
+ * http://host/odata/, to which `url` is joined (RFC 3986, section 5.2). `roots` has the roots of the service, one a line: absolute
+ * URLs with a host that end with / and have neither user information nor query; another text allows nothing.
+ * Of a request that refers to another one, `url` is what follows the reference, as the `rest` of an odb_request; `sent` is the
+ * absolute URL to which that one was sent, `location` the Location of its answer, or empty, and `post` is 1 if it was a POST, else
+ * 0. Of any other request `sent` is empty.
+ * The text is the URL to which it is sent: it begins with one of the roots, in ASCII and without a fragment, and stays below it,
+ * whether a server decodes its path never, once or twice. Returns ODB_DONE, ODB_SMALL_BUFFER or ODB_OUT_OF_MEMORY; or, with no
+ * text, ODB_UNREADABLE, ODB_OUTSIDE or ODB_NO_LOCATION. Takes O(n) time for texts of n bytes. */
+uint32_t odb_resolve(const uint8_t *base, size_t base_size, const uint8_t *roots, size_t roots_size,
+                     const uint8_t *url, size_t url_size, const uint8_t *sent, size_t sent_size,
+                     const uint8_t *location, size_t location_size, uint32_t post,
+                     uint8_t *text, size_t text_size, size_t *text_length);
 
 /* A live run: a caller starts requests and reports how they ended, and learns what may start then. Requests are
  * named by their positions in the batch, from 0.
@@ -526,6 +547,14 @@ static inline uint32_t odb_inline_requests(ODB_INLINE_IN(batch), ODB_INLINE_TEXT
                         requests ? requests : &no_request, requests ? requests_size : 0, count, seed);
 }
 
+static inline uint32_t odb_inline_resolve(ODB_INLINE_IN(base), ODB_INLINE_IN(roots), ODB_INLINE_IN(url),
+                                          ODB_INLINE_IN(sent), ODB_INLINE_IN(location), uint32_t post, ODB_INLINE_TEXT)
+{
+    uint8_t none = 0;
+    return odb_resolve(ODB_INLINE_SLICE(base), ODB_INLINE_SLICE(roots), ODB_INLINE_SLICE(url), ODB_INLINE_SLICE(sent),
+                       ODB_INLINE_SLICE(location), post, ODB_INLINE_SLICE(text), text_length);
+}
+
 static inline uint32_t odb_inline_run_open(ODB_INLINE_IN(batch), ODB_INLINE_IN(events), uint32_t mode,
                                            uint32_t width, odb_live_run *run, ODB_INLINE_TEXT, uint64_t seed)
 {
@@ -606,6 +635,7 @@ static inline uint32_t odb_inline_run_response(odb_live_run *run, ODB_INLINE_TEX
 #define odb_where odb_inline_where
 #define odb_faults odb_inline_faults
 #define odb_requests odb_inline_requests
+#define odb_resolve odb_inline_resolve
 #define odb_run_open odb_inline_run_open
 #define odb_run_ready odb_inline_run_ready
 #define odb_run_running odb_inline_run_running

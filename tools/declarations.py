@@ -18,7 +18,7 @@ ROOT = os.path.dirname(os.path.dirname(os.path.realpath(__file__)))
 HEADER = "include/odb_batch.h"
 EXPORTS = "crates/odb_ffi/src"
 NAME = "libodb_batch.so.0"
-MOST_BYTES = 700_000
+MOST_BYTES = 720_000
 
 # What a type of Rattle is for C; `alloc` is nothing.
 TYPES = {
@@ -70,6 +70,9 @@ NUMBERS = {
     "ODB_WIDTH_REACHED": r"StartRefusal::WidthReached => (\d+)",
     "ODB_NOT_RUNNING": r"ReportRefusal::NotRunning => (\d+)",
     "ODB_BAD_STATUS": r"ReportRefusal::BadStatus => (\d+)",
+    "ODB_UNREADABLE": r"Refusal::Unreadable => (\d+)",
+    "ODB_OUTSIDE": r"Refusal::Outside => (\d+)",
+    "ODB_NO_LOCATION": r"Refusal::NoLocation => (\d+)",
     "ODB_STATE_WAITING": r"RequestState::Waiting => \((\d+), 0\)",
     "ODB_STATE_READY": r"RequestState::Ready => \((\d+), 0\)",
     "ODB_STATE_RUNNING": r"RequestState::Running => \((\d+), 0\)",

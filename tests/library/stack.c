@@ -120,6 +120,21 @@ static int find(void)
         && is_done(odb_where(bytes(batch), strlen(batch), bytes("/requests/0"), 11, &found));
 }
 
+/* Asks where a request with a long path of dot segments is sent, from a long list of roots. */
+static int resolve(void)
+{
+    static const char base[] = "http://host/odata/";
+    char *end = second;
+    for (int i = 0; i < CHAIN; i++)
+        end = stpcpy(end, "http://other/odata/\n");
+    strcpy(end, base);
+    end = batch;
+    for (int i = 0; i < CHAIN; i++)
+        end = stpcpy(end, "a/../%20./");
+    return is_done(odb_resolve(bytes(base), strlen(base), bytes(second), strlen(second), bytes(batch), strlen(batch), NULL, 0,
+                               NULL, 0, 0, text, sizeof text, &length));
+}
+
 static int plan_in_json(void)
 {
     return is_done(odb_plan_as(bytes(batch), strlen(batch), ODB_JSON, text, sizeof text, &length, 7));
@@ -427,6 +442,7 @@ static void measure_chain(void)
 
 int main(void)
 {
+    measure("where a request is sent", resolve);
     for (size_t at = 0; at < SHAPES; at++) {
         shape = &shapes[at];
         printf("%s\n", shape->name);

@@ -6,3 +6,4 @@ mod PositionLemmas
 mod RequestLemmas
 mod ReturnLemmas
 mod SessionLemmas
+mod TargetLemmas

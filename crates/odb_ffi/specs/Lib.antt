@@ -8,6 +8,7 @@ pub mod Lists
 pub mod Requests
 pub mod Faults
 pub mod Rests
+pub mod Targets
 pub mod Places
 pub mod Handles
 pub mod Sessions

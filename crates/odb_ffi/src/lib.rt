@@ -5,11 +5,12 @@
 //! engine states. A call of a command keeps nothing; a live run is a handle that its caller closes.
 //! `include/odb_batch.h` declares the exports for C.
 //!
-//! [`exports`], [`fault_exports`], [`place_exports`], [`request_exports`], [`run_exports`] and [`unit_exports`] have the exports
-//! alone. What they do over slices and numbers is beside them: `options` and `status` name the numbers, `answer` does a task and
-//! copies a text to the caller's buffer, `rest` gives the rest of a batch, `live` and `units` drive a run, `requests` copies what
-//! is to be sent, and `faults` all faults. [`request`] is one request, [`fault`] one fault, and [`position`] where an element
-//! begins. What needs a pointer is in `address`, [`handle`], `lent` and [`slot`].
+//! [`exports`], [`fault_exports`], [`place_exports`], [`request_exports`], [`resolve_exports`], [`run_exports`] and
+//! [`unit_exports`] have the exports alone. What they do over slices and numbers is beside them: `options` and `status` name the
+//! numbers, `answer` does a task and copies a text to the caller's buffer, `rest` gives the rest of a batch, `live` and `units`
+//! drive a run, `requests` copies what is to be sent, `faults` all faults, and `targets` says where a request is sent. [`request`]
+//! is one request, [`fault`] one fault, and [`position`] where an element begins. What needs a pointer is in `address`,
+//! [`handle`], `lent` and [`slot`].
 //! What holds of every list of calls on a live run is in [`laws`].
 #![tactic(auto)]
 
@@ -33,9 +34,11 @@ mod positions;
 pub mod request;
 pub mod request_exports;
 mod requests;
+pub mod resolve_exports;
 mod rest;
 pub mod run_exports;
 pub mod slot;
 pub mod status;
+mod targets;
 pub mod unit_exports;
 mod units;

@@ -1,12 +1,14 @@
 //! What a call returns.
 
 ghost use Rattle.std.specs.Prelude.{◌≡◌, ◌+◌};
+ghost use Rattle.odb_resolve.specs.Resolutions.{number_of};
 ghost use Rattle.odb_sched.specs.run.Steps.{report_number, start_number};
 ghost use Rattle.odb_ffi.specs.Returns as returns;
 ghost use Rattle.odb_ffi.specs.declared.outcome.NoOutcome.TheVariants as none;
 
 use crate::outcome::NoOutcome;
 use odb_engine::Ended;
+use odb_resolve::Refusal;
 use odb_sched::{ReportRefusal, StartRefusal};
 
 /// The command wrote its result, or the event has come.
@@ -42,6 +44,19 @@ pub fn of_no_outcome(cause: NoOutcome) -> u32
     match cause {
         NoOutcome::Refused => REFUSED,
         NoOutcome::OutOfMemory => OUT_OF_MEMORY,
+    }
+}
+
+/// Returns the status of a request that is not sent: from 31 to 35 for the refusals 1 to 5.
+pub fn of_refusal(refusal: Refusal) -> u32
+    ensures { result ≡ 30 + number_of refusal }
+{
+    match refusal {
+        Refusal::Unreadable => 31,
+        Refusal::Outside => 32,
+        Refusal::NoLocation => 33,
+        Refusal::NoTag => 34,
+        Refusal::NotAnswered => 35,
     }
 }
 
