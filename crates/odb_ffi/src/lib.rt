@@ -8,8 +8,8 @@
 //! [`exports`], [`fault_exports`], [`place_exports`], [`request_exports`], [`resolve_exports`], [`run_exports`] and
 //! [`unit_exports`] have the exports alone. What they do over slices and numbers is beside them: `options` and `status` name the
 //! numbers, `answer` does a task and copies a text to the caller's buffer, `live` and `units` drive a run, `requests` copies what
-//! is to be sent, and `faults` all faults. [`request`] is one request, [`fault`] one fault, and [`position`] where an element
-//! begins. What needs a pointer is in `address`, [`handle`], `lent` and [`slot`].
+//! is to be sent, `faults` all faults, and `targets` says where a request is sent. [`request`] is one request, [`fault`] one
+//! fault, and [`position`] where an element begins. What needs a pointer is in `address`, [`handle`], `lent` and [`slot`].
 //! What holds of every list of calls on a live run is in [`laws`].
 #![tactic(auto)]
 
