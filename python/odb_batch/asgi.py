@@ -67,8 +67,8 @@ class BatchMiddleware:
         root: The path that the URL of each request has to begin with; else the folder of ``path``.
         inspect: Is called with each request before it is dispatched, with its whole URL and all its headers. A
             ``Refusal`` that it raises is the answer.
-        on_request: Is called with each request just before it is dispatched, as ``inspect``. A function that it returns is
-            called with the answer.
+        on_request: Is called with each request just before it is dispatched, as ``inspect``. A function that it
+            returns is called with the answer.
         stop: Is called before a unit begins, as ``event.is_set``. Once it returns true, nothing more starts.
 
     Raises:

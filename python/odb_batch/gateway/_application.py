@@ -262,8 +262,8 @@ class Gateway:
         """Reads a batch, whose bytes are reserved as they come.
 
         Raises:
-            Refusal: They are too many (413), or there is no room for them (503). The batch does not come in time (408), or
-                not to its end (400).
+            Refusal: They are too many (413), or there is no room for them (503). The batch does not come in time (408),
+                or not to its end (400).
         """
         document, content, limit = bytearray(), request.content, self._options.max_size
         timer = asyncio.get_running_loop().call_later(_READ_SECONDS, content.set_exception, asyncio.TimeoutError())

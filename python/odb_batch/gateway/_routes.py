@@ -65,10 +65,10 @@ class Routes:
 
     def __init__(self, routes: Iterable[Route]) -> None:
         self._routes = sorted(routes, key=lambda route: len(route.prefix), reverse=True)
-        self._places: List[Tuple[str, str, Route]] = []
+        self._by_upstream: List[Tuple[str, str, Route]] = []
         for route in sorted(self._routes, key=lambda route: len(route.upstream), reverse=True):
             parts = urlsplit(route.upstream)
-            self._places.append((_host(parts), normalize_path(parts.path), route))
+            self._by_upstream.append((_host(parts), normalize_path(parts.path), route))
 
     def target(self, url: str) -> Tuple[Route, str]:
         """Returns the route of a URL that clients see, and the URL that is sent.
@@ -89,33 +89,33 @@ class Routes:
     def _route(self, path: str) -> Optional[Route]:
         return next((route for route in self._routes if _takes(route.prefix, path)), None)
 
-    def public(self, base: str, sent: str, place: str) -> str:
-        """Returns the URL, as clients see it, of what a service calls by a URL; that itself if no route leads there.
-        One without a host stays without.
+    def public(self, base: str, request_url: str, location: str) -> str:
+        """Returns a URL in the answer of a service as clients see it; that itself if no route leads there. One without a
+        host stays without.
 
         Args:
             base: A URL that clients see.
-            sent: The URL to which the request was sent.
-            place: The URL in the answer, which may be relative to it.
+            request_url: The URL to which the request was sent.
+            location: The URL in the answer, which may be relative to it.
         """
         try:
-            given, found, seen = urlsplit(place), urlsplit(urljoin(sent, place)), urlsplit(base)
-            host = _host(found)
+            given, whole, client = urlsplit(location), urlsplit(urljoin(request_url, location)), urlsplit(base)
+            host = _host(whole)
         except ValueError:
-            return place
-        path = normalize_path(found.path)
-        if host == _host(seen):
+            return location
+        path = normalize_path(whole.path)
+        if host == _host(client):
             # A service that knows the host of the clients may know their paths, too.
             if self._route(path) is not None:
-                return place
-            host = _host(urlsplit(sent))
-        for known, prefix, route in self._places:
+                return location
+            host = _host(urlsplit(request_url))
+        for known, prefix, route in self._by_upstream:
             if known == host and _takes(prefix, path):
                 path = route.prefix + path[len(prefix) :]
                 # Without its host a path that begins with // would name another one.
-                front = seen[:2] if given.netloc or path.startswith("//") else ("", "")
-                return urlunsplit((*front, path, found.query, found.fragment))
-        return place
+                front = client[:2] if given.netloc or path.startswith("//") else ("", "")
+                return urlunsplit((*front, path, whole.query, whole.fragment))
+        return location
 
 
 def _takes(prefix: str, path: str) -> bool:
