@@ -148,7 +148,7 @@ async def measure(places):
 
 def show(found, kinds):
     turns = len(found["flat", CLIENTS[0], kinds[0]])
-    print(f"medians of {turns} turns, load {os.getloadavg()[0]:.1f}; ms: how long half of the batches took, and 99 of 100")
+    print(f"medians of {turns} turn{'s' if turns > 1 else ''}, load {os.getloadavg()[0]:.1f}; ms: how long half of the batches took, and 99 of 100")
     print(f"{'':28}batches/s  share  at least  processor ms  share  half  99 %")
     for shape, clients in itertools.product(("flat", "chain"), CLIENTS):
         for kind in kinds:

@@ -104,6 +104,10 @@ answering: Callable[..., Iterable[bytes]] = wsgi.BatchMiddleware(application, "/
 asgi.BatchMiddleware(asynchronous, "/$batch", transaction=group_async, allowed=["x-dry-run"])
 asgi.BatchMiddleware(asynchronous, "/$batch", transaction=send)  # type: ignore[arg-type]
 wsgi.BatchMiddleware(application, "/$batch", transaction=group_async)  # type: ignore[arg-type]
+asgi.BatchMiddleware(asynchronous, "/$batch", on_request=lambda request: None)
+wsgi.BatchMiddleware(application, "/$batch", on_request=lambda request: lambda answer: print(request.url, answer.status))
+wsgi.BatchMiddleware(application, "/$batch", on_request=print, inspect=print)
+wsgi.BatchMiddleware(application, "/$batch", on_request=lambda request: request.url)  # type: ignore[arg-type,return-value]
 
 
 async def in_a_store(batch: bytes, store: Store) -> bytes:

@@ -11,7 +11,7 @@ from concurrent.futures import ThreadPoolExecutor
 
 import pytest
 
-from odb_batch.gateway import _options
+from odb_batch.gateway import Route, _options
 from odb_batch.gateway._options import options_of
 from support.servers import CONTINUE, JSON, SECONDS, until
 
@@ -69,8 +69,8 @@ def test_routes_as_tables(file):
     text += '[[route]]\nurl = "http://b/v2/B"\nprefix = "/x/B"\nconnections = 2\nsend = ["Authorization", "Cookie"]\n'
     found = options_of(file(text))
     first, second = found.route
-    assert first == ("/x/", "https://a/x/", 1.0, None, "ca.pem", "c.pem", "k.pem")
-    assert second == ("/x/B", "http://b/v2/B", None, 2, "", "", "")
+    assert first == Route("/x/", "https://a/x/", 1.0, None, "ca.pem", "c.pem", "k.pem")
+    assert second == Route("/x/B", "http://b/v2/B", None, 2, "", "", "")
     assert found.send == (("authorization", "/x/B"), ("cookie", "/x/B"))
 
 

@@ -157,15 +157,16 @@ class GatewayBatch:
         targets: Dict[str, Tuple[Route, str]] = {}
         try:
             members = [self._member(request, targets) for request in group.requests]
-            routes = tuple(dict.fromkeys(route for route, _ in targets.values()))
+            routes = {route.prefix: route for route, _ in targets.values()}.values()
             url, *others = {route.service for route in routes}
+            route, *_ = routes
             if others:
                 raise Refusal(501, "SeveralServices", "The requests of an atomicity group go to several services")
             of_service = self._upstream.credentials.headers_for
             members = [replace(member, headers=of_service(routes, member.headers)) for member in members]
             group = replace(group, requests=tuple(members))
             headers = self._headers_for(routes, url, self._batch_request.headers.for_batch())
-            answer = await self._exchange(routes[0], PreparedRequest(group.name, "POST", url, headers, group.batch()))
+            answer = await self._exchange(route, PreparedRequest(group.name, "POST", url, headers, group.batch()))
             if answer.status in (404, 405):
                 self._upstream.failures.write(url, "NoBatch", "no-batch")
                 raise Refusal(502, "NoBatch", f"There is no $batch at {url}")

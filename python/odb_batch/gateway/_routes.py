@@ -1,7 +1,8 @@
 """Where the requests of a batch go: services by the prefixes of paths, and back."""
 
 import re
-from typing import Iterable, List, NamedTuple, Optional, Tuple
+from dataclasses import dataclass
+from typing import Iterable, List, Optional, Tuple
 from urllib.parse import SplitResult, urljoin, urlsplit, urlunsplit
 
 from ..http.batch_request import batch_folder
@@ -23,7 +24,8 @@ def normalize_path(path: str) -> str:
     return _ESCAPE.sub(lambda escape: _UNESCAPED.get(escape[0].upper(), escape[0].upper()), path)
 
 
-class Route(NamedTuple):
+@dataclass(frozen=True)
+class Route:
     """Where the requests go whose path begins with a prefix.
 
     Attributes:

@@ -56,7 +56,7 @@ def _run(options: Options, worker: Optional[Worker] = None) -> int:
 def _report(error: OSError) -> int:
     """Writes why the gateway cannot run; returns the exit status."""
     place = f"{error.filename}: " if error.filename else ""
-    print(f"error: {place}{error.strerror or error}", file=sys.stderr, flush=True)
+    sys.stderr.write(f"error: {place}{error.strerror or error}\n")  # at once: workers may write at the same time
     return UNUSABLE
 
 

@@ -81,7 +81,7 @@ class UpstreamClient:
 
     async def open(self) -> None:
         """Makes what belongs to the running loop; raises OSError if the files of a route cannot be used."""
-        self._route_options = {route: _route_options(route) for route in self._options.routes}
+        self._route_options = {route.prefix: _route_options(route) for route in self._options.routes}
         self._connector = aiohttp.TCPConnector(limit=0, keepalive_timeout=self._options.keep_alive)
         tracing = aiohttp.TraceConfig()
         tracing.on_request_headers_sent.append(_send_once)
@@ -171,7 +171,7 @@ class UpstreamClient:
             "data": request.body or None,
             "allow_redirects": False,
             "trace_request_ctx": journal,
-            **self._route_options[route],
+            **self._route_options[route.prefix],
         }
         async with session.request(request.method, URL(request.url, encoded=True), **options) as response:
             if not 200 <= response.status <= 599:

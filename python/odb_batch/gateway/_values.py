@@ -3,6 +3,7 @@
 import argparse
 import importlib
 import re
+from dataclasses import replace
 from typing import Any, Callable, Dict, List, Mapping, NamedTuple, Tuple, Union, cast
 from urllib.parse import urlsplit
 
@@ -180,4 +181,4 @@ def route_table(given: Mapping[str, Any]) -> Tuple[Route, List[Tuple[str, str]]]
         raise argparse.ArgumentTypeError(f"{plain.prefix}: key without certificate")
     names = given.get("send", [])
     sent = [(header(str(name)), plain.prefix) for name in (names if isinstance(names, list) else [names])]
-    return plain._replace(**limits, **files), sent
+    return replace(plain, **limits, **files), sent

@@ -163,7 +163,7 @@ class PostgresqlStore:
         return parts
 
     async def append(self, parts: Sequence[Part]) -> Set[bytes]:
-        parts = sorted(parts)  # two that wait for each other would be a deadlock
+        parts = sorted(parts, key=lambda part: part.batch)  # two that wait for each other would be a deadlock
         size = sum(len(part.text) for part in parts)
         rows = ((part.batch, part.number, *part.mark, *part.after, part.is_open, part.text) for part in parts)
         kept = {row[0] for row in await self._rows(_APPEND, *map(list, zip(*rows)), size=size)}

@@ -3,7 +3,8 @@
 import math
 import secrets
 import time
-from typing import Callable, List, NamedTuple, Protocol, Sequence, Set, Tuple
+from dataclasses import dataclass
+from typing import Callable, List, Protocol, Sequence, Set, Tuple
 
 #: Who has written a part: a holder, and a number of it for each time that it opens a batch.
 Mark = Tuple[int, int]
@@ -43,7 +44,8 @@ class Lease:
         return clock() >= self.deadline
 
 
-class Part(NamedTuple):
+@dataclass(frozen=True)
+class Part:
     """Events of a batch that are kept together.
 
     Attributes:
