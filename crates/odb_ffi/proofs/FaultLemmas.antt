@@ -1,5 +1,5 @@
 -- Faults in a text that grows.
-use Rattle.std.proofs.Common.{◌≡◌, ◌∙◌, ◌<◌, ◌+◌, ℕ, zero, suc, arith, List, [], ◌∷◌, ◌++◌, length, take, get_or, map, codes, refl, sym, ap, subst, append_assoc}
+use Rattle.std.proofs.Common.{◌≡◌, ◌∙◌, ◌<◌, ◌+◌, ℕ, zero, suc, arith, List, [], ◌∷◌, ◌++◌, length, take, get_or, map, codes, sym, ap, subst, append_assoc}
 use Rattle.std.specs.List.{AllZip}
 use Rattle.std.proofs.lemmas.List.{append-nil, length-append, map-append, take_more}
 use Rattle.odb_doc.specs.declared.refusal.Refusal.{Refusal}
@@ -17,7 +17,7 @@ use Rattle.odb_ffi.specs.declared.request.Part.{Part}
 -- ---- a word
 
 -- a word stays where it is
-pub kept-word : (old more new word : List ℕ) (part : Part) → new ≡ old ++ more → IsWord old word part → IsWord new word part
+kept-word : (old more new word : List ℕ) (part : Part) → new ≡ old ++ more → IsWord old word part → IsWord new word part
 kept-word old more new word part is held = record {
   before = held.before;
   after = held.after ++ more;
@@ -87,10 +87,6 @@ lines-more : (refusals : List Printed) (refusal : Printed) → fault_lines (refu
 lines-more [] refusal = append-nil (fault_line refusal.code refusal.name refusal.place)
 lines-more (first ∷ rest) refusal =
     ap (λ text. fault_line first.code first.name first.place ++ text) (lines-more rest refusal) ∙ sym (append_assoc (fault_line first.code first.name first.place) (fault_lines rest) (fault_line refusal.code refusal.name refusal.place))
-
--- no fault yet
-pub faults-none : (document : List ℕ) → AreFaults document [] [] []
-faults-none document = record { lines = refl; each = tt }
 
 -- R holds of the elements at a place of two lists
 zip-at : {A B : Type 0} (R : A → B → Type 0) (xs : List A) (ys : List B) (k : ℕ) (d : A) (e : B) → AllZip R xs ys → k < length xs → R (get_or xs k d) (get_or ys k e)
