@@ -132,8 +132,8 @@ def false_is_true():
     """A batch that says continue-on-error=false goes on after an error."""
     prepare = odb_batch.wsgi.BatchRequest.__init__
 
-    def preparing(self, *rest):
-        prepare(self, *rest)
+    def preparing(self, *rest, **options):
+        prepare(self, *rest, **options)
         if "continue-on-error" in rest[5].get("prefer", ""):
             self.mode = "continue"
 
