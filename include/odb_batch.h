@@ -387,7 +387,8 @@ uint32_t odb_run_finished(odb_live_run *run);
  * run stays as it is. Takes O(n) time for a text of n bytes: nothing is read again. */
 uint32_t odb_run_response(odb_live_run *run, uint8_t *text, size_t text_size, size_t *text_length);
 
-/* Frees a run. Neither the handle nor a copy of it may be passed to a call any more. */
+/* Frees a run. Neither the handle nor a copy of it may be passed to a call any more. That all its memory is freed is tested, not
+ * proved. */
 void odb_run_close(odb_live_run run);
 
 /* Draws a seed from the random bytes of the system, or returns 0, which is no seed, if it has none. */

@@ -1,2 +1,3 @@
 -- What contracts of the program cite.
 pub mod LineTasks
+pub mod Options

@@ -1,5 +1,9 @@
 //! What the arguments ask for.
 
+ghost use Rattle.std.specs.Prelude.{◌≡◌, ℕ, None, codes, Contains, IfErr, IfOk, IfSome};
+ghost use Rattle.odb_cli.specs.Options.{Asks, AsksForm, AsksJob, AsksLog, AsksMode, AsksOrder, AsksPolicy, AsksTask};
+ghost use Rattle.odb_cli.specs.Options.{IsRefused, IsWidth, TellsFlag, task_names, word_after};
+
 use crate::names;
 use crate::parser::program;
 use clap::{ArgMatches, Error};
@@ -82,6 +86,8 @@ pub enum CommandLine<'a> {
 pub enum BadArguments {
     /// `clap` rejects it, or prints its help or the version.
     Arguments(Error),
+    /// The order is none of the three.
+    Order,
     /// The width is not a decimal number from 1 to 10,000.
     Width,
     /// Both documents are standard input.
@@ -95,17 +101,29 @@ impl From<AllocError> for BadArguments {
 }
 
 /// Parses a width: decimal digits for a number from 1 to 10,000.
-fn width_of(text: &str) -> Option<u32> {
-    if text.is_empty() || !text.bytes().all(|byte| byte.is_ascii_digit()) {
+fn width_of(text: &str) -> Option<u32>
+    ensures some { IfSome result (IsWidth text.now) }
+    ensures none { result ≡ None → (width : ℕ) → ¬ (IsWidth text.now width) }
+{
+    if text.as_bytes().first() == Some(&b'+') {
         return None;
     }
     let width = text.parse::<u32>().ok()?;
     (1..=MAX_WIDTH).contains(&width).then_some(width)
 }
 
+/// Returns whether this option without a value was given.
+fn flag(args: &ArgMatches<'_>, name: &str) -> bool
+    ensures { TellsFlag args.now name.now result }
+{
+    args.get_flag(name)
+}
+
 /// Returns whether an error stops the run, or the service.
-fn mode_of(args: &ArgMatches<'_>) -> Mode {
-    if args.get_flag(names::STOP) {
+fn mode_of(args: &ArgMatches<'_>) -> Mode
+    ensures { AsksMode args.now result }
+{
+    if flag(args, names::STOP) {
         Mode::Stop
     } else {
         Mode::Continue
@@ -113,7 +131,10 @@ fn mode_of(args: &ArgMatches<'_>) -> Mode {
 }
 
 /// Returns the policy that the options of a run ask for.
-fn policy_of(args: &ArgMatches<'_>) -> Result<Policy, BadArguments> {
+fn policy_of(args: &ArgMatches<'_>) -> Result<Policy, BadArguments>
+    ensures ok { IfOk result (AsksPolicy args.now) }
+    ensures err { IfErr result (IsRefused args.now) }
+{
     let mode = mode_of(args);
     let Some(text) = args.get_str(names::WIDTH) else {
         return Ok(Policy::free(mode));
@@ -123,36 +144,44 @@ fn policy_of(args: &ArgMatches<'_>) -> Result<Policy, BadArguments> {
 }
 
 /// Returns the order that the options of a replay ask for.
-fn order_of(args: &ArgMatches<'_>) -> Order {
-    match args.get_str(names::ORDER).unwrap_or(names::FIRST) {
-        names::LAST => Order::Last,
-        names::WIDE => Order::Wide,
-        _ => Order::First,
+fn order_of(args: &ArgMatches<'_>) -> Result<Order, BadArguments>
+    ensures ok { IfOk result (AsksOrder (word_after args.now (codes "order"))) }
+    ensures err { IfErr result (IsRefused args.now) }
+{
+    match args.get_str(names::ORDER) {
+        None | Some(names::FIRST) => Ok(Order::First),
+        Some(names::LAST) => Ok(Order::Last),
+        Some(names::WIDE) => Ok(Order::Wide),
+        Some(_) => Err(BadArguments::Order),
     }
 }
 
 /// Returns the task of the command of this name, or `None` if it is not a command over documents.
-fn task_of(name: &str, args: &ArgMatches<'_>) -> Result<Option<Task>, BadArguments> {
+fn task_of(name: &str, args: &ArgMatches<'_>) -> Result<Option<Task>, BadArguments>
+    ensures some { IfOk result (λ found. IfSome found (AsksTask args.now name.now)) }
+    ensures none { IfOk result (λ found. found ≡ None → ¬ (Contains task_names name.now)) }
+    ensures err { IfErr result (IsRefused args.now) }
+{
     let task = match name {
         names::CHECK => Task::Check {
-            all: args.get_flag(names::ALL),
+            all: flag(args, names::ALL),
         },
-        names::PLAN if args.get_flag(names::DOT) => Task::Draw,
+        names::PLAN if flag(args, names::DOT) => Task::Draw,
         names::PLAN => Task::Plan {
-            full: args.get_flag(names::FULL),
+            full: flag(args, names::FULL),
         },
         names::CANON => Task::Canon,
         names::MATCH => Task::Match {
             mode: mode_of(args),
-            strict: args.get_flag(names::STRICT),
+            strict: flag(args, names::STRICT),
         },
         names::REST => Task::Rest {
             mode: mode_of(args),
         },
         names::REPLAY => Task::Replay {
             policy: policy_of(args)?,
-            order: order_of(args),
-            traced: args.get_flag(names::TRACE),
+            order: order_of(args)?,
+            traced: flag(args, names::TRACE),
         },
         names::RUN => Task::Run {
             policy: policy_of(args)?,
@@ -181,24 +210,28 @@ fn second_of<'a>(args: &ArgMatches<'a>, task: Task) -> Origin<'a> {
 }
 
 /// Returns how a log is answered, if a command is asked for that.
-fn log_of(args: &ArgMatches<'_>) -> Option<LogOptions> {
-    args.get_flag(names::LINES).then_some(LogOptions {
-        flush: args.get_flag(names::FLUSH),
-        numbered: args.get_flag(names::NUMBER),
+fn log_of(args: &ArgMatches<'_>) -> Option<LogOptions>
+    ensures { AsksLog args.now result }
+{
+    flag(args, names::LINES).then_some(LogOptions {
+        flush: flag(args, names::FLUSH),
+        numbered: flag(args, names::NUMBER),
     })
 }
 
 /// Returns the form of an answer. A plan, a match and a list of faults of a line of a log are always JSON, and so is
 /// a full plan.
-fn form_of(args: &ArgMatches<'_>, task: Task) -> Form {
-    let is_json = match task {
+fn form_of(args: &ArgMatches<'_>, task: Task) -> Form
+    ensures { AsksForm args.now task result }
+{
+    let json = flag(args, names::JSON);
+    let in_log = flag(args, names::LINES);
+    let has_json_alone = match task {
         Task::Plan { full: true } => true,
-        Task::Check { all: true } | Task::Plan { .. } | Task::Match { .. } => {
-            args.get_flag(names::LINES)
-        }
+        Task::Check { all: true } | Task::Plan { .. } | Task::Match { .. } => in_log,
         _ => false,
     };
-    if is_json || args.get_flag(names::JSON) {
+    if json || has_json_alone {
         Form::Json
     } else {
         Form::Lines
@@ -206,7 +239,10 @@ fn form_of(args: &ArgMatches<'_>, task: Task) -> Form {
 }
 
 /// Returns this task on the documents that the arguments name.
-fn job_of<'a>(args: &ArgMatches<'a>, task: Task) -> Result<Job<'a>, BadArguments> {
+fn job_of<'a>(args: &ArgMatches<'a>, task: Task) -> Result<Job<'a>, BadArguments>
+    ensures task { IfOk result (λ job. job.task ≡ task) }
+    ensures job { IfOk result (AsksJob args.now) }
+{
     let log = log_of(args);
     let job = Job {
         task,
@@ -216,8 +252,8 @@ fn job_of<'a>(args: &ArgMatches<'a>, task: Task) -> Result<Job<'a>, BadArguments
             Some(_) => Origin::Nowhere,
         },
         form: form_of(args, task),
-        located: args.get_flag(names::WHERE),
-        quiet: args.get_flag(names::QUIET),
+        located: flag(args, names::WHERE),
+        quiet: flag(args, names::QUIET),
         log,
     };
     match (job.first, job.second) {
@@ -253,7 +289,9 @@ fn asked_by<'a>(
     alloc: Global,
     name: &str,
     args: &ArgMatches<'a>,
-) -> Result<CommandLine<'a>, BadArguments> {
+) -> Result<CommandLine<'a>, BadArguments>
+    ensures { IfOk result (Asks args.now name.now) }
+{
     match task_of(name, args)? {
         Some(task) => Ok(CommandLine::Answer(job_of(args, task)?)),
         None => Ok(CommandLine::Print(text_of(alloc, name, args)?)),

@@ -53,6 +53,7 @@ fn print_clap<R: Runtime>(rt: &R, error: &clap::Error) -> Status {
 fn reject<R: Runtime>(rt: &R, wrong: &BadArguments) -> Status {
     let cause = match wrong {
         BadArguments::Arguments(error) => return print_clap(rt, error),
+        BadArguments::Order => "--order must be first, last or wide",
         BadArguments::Width => "--width must be a whole number from 1 to 10000",
         BadArguments::StandardInputTwice => "standard input can be only one of the two documents",
     };
