@@ -35,7 +35,9 @@ pub struct Environment {
 impl Environment {
     /// Returns the setup of a task that writes in this form. The process is about to exit, so what was
     /// read is not worth dropping.
-    pub fn setup(self, form: Form) -> Setup {
+    pub fn setup(self, form: Form) -> Setup
+        ensures { result.form ≡ form }
+    {
         Setup {
             form,
             seed: self.seed,

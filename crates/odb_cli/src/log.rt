@@ -18,11 +18,11 @@ use std::rt::Runtime;
 const BUFFER_BYTES: usize = 65_536;
 
 /// Returns the command on each line of a log. It frees the memory of a line before the next one.
-fn command_of<'n>(
-    environment: Environment,
-    job: Job<'n>,
-    options: LogOptions,
-) -> NumberedLines<'n> {
+fn command_of<'n>(environment: Environment, job: Job<'n>, options: LogOptions) -> NumberedLines<'n>
+    ensures task { result.task ≡ job.entry.task }
+    ensures form { result.setup.form ≡ job.entry.form }
+    ensures numbered { result.numbered ≡ options.numbered }
+{
     let setup = Setup {
         disposal: Disposal::Drop,
         ..environment.setup(job.form)

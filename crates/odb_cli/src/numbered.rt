@@ -70,7 +70,12 @@ impl<'n> NumberedLines<'n> {
     ghost use Rattle.odb_cli.specs.LineTasks.{HasNumber, OfLine, OfNumbered, StartsWords};
 
     /// Makes the command.
-    pub fn new(task: Task, setup: Setup, numbered: bool, located: Option<&'n str>) -> Self {
+    pub fn new(task: Task, setup: Setup, numbered: bool, located: Option<&'n str>) -> Self
+        ensures task { result.task ≡ task }
+        ensures setup { result.setup ≡ setup }
+        ensures numbered { result.numbered ≡ numbered }
+        ensures located { result.located ≡ located.entry }
+    {
         NumberedLines {
             task,
             setup,
