@@ -110,7 +110,7 @@ def test_several_members_of_gzip_are_one_body(raw, front):
     from odb_batch.gateway._decoding import Decoder
 
     body = gzip.compress(b'{"a":') + gzip.compress(b"1}")
-    assert b"".join(itertools.islice(Decoder("gzip").parts(body), 9)) == b'{"a":1}'  # a gateway would stand still over a defect
+    assert b"".join(itertools.islice(Decoder("gzip").decode(body), 9)) == b'{"a":1}'  # a gateway would stand still over a defect
     service = raw(b"Content-Encoding: gzip", body=body)
     assert front("--upstream", service.url).batch({"method": "post", "url": "x"})["r0"]["body"] == {"a": 1}
 

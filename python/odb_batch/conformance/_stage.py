@@ -213,12 +213,13 @@ class Stage:
         rest anything is expected, for the service may have begun with any request that waits for nothing."""
         unit_of = {name: step.unit for step in self.steps for name in (step.id, step.unit)}
         before: dict[str, set[str]] = {}  # each unit with all that it depends on
-        causes, failed = [], set()
-        outcomes = []
+        failed: set[str] = set()
+        causes: list[str] = []
+        outcomes: list[str] = []
         for unit, members in itertools.groupby(self.steps, lambda step: step.unit):
             steps = list(members)
             needs = [{unit_of[name] for name in step.needs} - {unit} for step in steps]
-            before[unit] = {unit}.union(*(before[need] for need in set().union(*needs)))
+            before[unit] = {unit}.union(*(before[need] for names in needs for need in names))
             skipped = [bool(failed & names) for names in needs]
             is_failing = any(skipped) or any(step.fails for step in steps)
             for step, is_skipped in zip(steps, skipped):
