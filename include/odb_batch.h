@@ -90,7 +90,7 @@ enum {
     ODB_STOP = 1      /* nothing is started any more */
 };
 
-/* `order`: which step of a replay comes next. */
+/* `order`: which step of a replay, or of a live run, comes next. */
 enum {
     ODB_FIRST = 0, /* finish each request before the next starts, by position */
     ODB_LAST = 1,  /* the same from the last position */
@@ -381,6 +381,20 @@ uint32_t odb_run_report(odb_live_run *run, uint32_t position, uint32_t status,
 
 /* Returns 1 if no event may come any more, else 0. A handle as above. Takes constant time. */
 uint32_t odb_run_finished(odb_live_run *run);
+
+/* The steps of a run, as `odb_run_next` gives them. */
+enum {
+    ODB_STEP_NONE = 0,  /* the run is finished */
+    ODB_STEP_START = 1, /* a request starts */
+    ODB_STEP_REPORT = 2 /* a request that runs is reported */
+};
+
+/* Sets `*step` to the step that a run takes next in an order, from ODB_STEP_NONE to ODB_STEP_REPORT, and `*position` to that
+ * of its request: it is the step that `odb_replay` takes in the same order. Without a step `*position` is as it was. Returns
+ * ODB_DONE; or ODB_WRONG_OPTION unless `order` is as in `odb_replay`, and both are as they were. `step` must not be NULL, and
+ * `step` and `position` must not overlap. A handle as above, whose run stays as it is: start the request by `odb_run_start`,
+ * or report it by `odb_run_report`. Takes O(requests that may start or run) time, and allocates nothing. */
+uint32_t odb_run_next(odb_live_run *run, uint32_t order, uint32_t *step, uint32_t *position);
 
 /* Writes what `odb_run` writes of the batch and the events so far, but with each reported body as it is: the response
  * and a newline, or the line of F66 if the run is not finished. Returns what `odb_check` does. A handle as above, whose

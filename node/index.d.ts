@@ -282,6 +282,12 @@ export interface RequestState {
   status: number | null
 }
 
+/** The step of a live run that comes next: a request starts, or one that runs is reported. */
+export interface NextStep {
+  step: 'start' | 'report'
+  id: string
+}
+
 /**
  * A live run of a batch: it says which requests may start now, and in the end what the batch is answered.
  * The caller performs the requests. It starts those that are ready, in any order, and reports what each is
@@ -328,6 +334,12 @@ export class Run {
    * another, each once it is ready, or start all by `startUnit`.
    */
   nextUnit(): string[] | null
+
+  /**
+   * Returns the step that comes next in an order, as in `replay`, or null if the run is finished. The run stays as it
+   * is: start or report the request. Throws a `RangeError` for an order that is none of its values.
+   */
+  next(order?: ReplayOptions['order']): NextStep | null
 
   /**
    * Returns what is to be sent of a request. The batch is read once for all requests, when this is called for the first

@@ -5,6 +5,7 @@
  *   ready(run, positions), running(run, positions), undone(run, positions), nextUnit(run, positions)
  *     -> [status, count]
  *   state(run, position, numbers) -> status, with the state and its status in `numbers`
+ *   next(run, order, numbers) -> status, with the step and its position in `numbers`
  *   start(run, position), startUnit(run, position), report(run, position, status, headers, body), finished(run)
  *     -> status
  *   stop(run)
@@ -220,20 +221,33 @@ static napi_value next_unit(napi_env env, napi_callback_info info)
     return list(env, info, odb_run_next_unit);
 }
 
-static napi_value state(napi_env env, napi_callback_info info)
+typedef uint32_t asking(odb_live_run *run, uint32_t number, uint32_t *first, uint32_t *second);
+
+/* Has a function give two numbers, by one that is passed, into the array that is passed. */
+static napi_value ask(napi_env env, napi_callback_info info, asking *asked)
 {
     struct live *live;
     napi_typedarray_type type;
-    uint32_t position;
+    uint32_t number;
     size_t size = 0;
     napi_value it[3];
     void *numbers = NULL;
-    if (!read_arguments(env, info, it, 3) || !read_live(env, it[0], &live) || !read_number(env, it[1], &position)
+    if (!read_arguments(env, info, it, 3) || !read_live(env, it[0], &live) || !read_number(env, it[1], &number)
         || napi_get_typedarray_info(env, it[2], &type, &size, &numbers, NULL, NULL) != napi_ok
         || type != napi_uint32_array || size < 2)
         return wrong_arguments(env);
     uint32_t *found = numbers;
-    return number_of(env, odb_run_state(&live->run, position, &found[0], &found[1]));
+    return number_of(env, asked(&live->run, number, &found[0], &found[1]));
+}
+
+static napi_value state(napi_env env, napi_callback_info info)
+{
+    return ask(env, info, odb_run_state);
+}
+
+static napi_value next(napi_env env, napi_callback_info info)
+{
+    return ask(env, info, odb_run_next);
 }
 
 static napi_value stop(napi_env env, napi_callback_info info)
@@ -346,7 +360,7 @@ napi_status export_runs(napi_env env, napi_value exports)
         {"start", start},       {"report", report},     {"finished", finished},
         {"undone", undone},     {"ids", ids},           {"response", response},
         {"nextUnit", next_unit}, {"state", state},      {"stop", stop},
-        {"startUnit", start_unit}, {"close", close_run},
+        {"startUnit", start_unit}, {"next", next},      {"close", close_run},
     };
     for (size_t i = 0; i < sizeof calls / sizeof *calls; i++) {
         napi_property_descriptor it = {calls[i].name, NULL, calls[i].call, NULL, NULL, NULL, napi_enumerable, NULL};

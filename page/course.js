@@ -5,7 +5,6 @@
 const { Run } = require('../node/calls/run.js')
 const { Fault, Refused } = require('../node/errors/faults.js')
 const { STATES, usualStatus } = require('./states.js')
-const { Queue } = require('./queue.js')
 const { explain } = require('./verdict.js')
 
 const encoder = new TextEncoder()
@@ -41,7 +40,6 @@ class Course {
   #requests
   #methods
   #run
-  #queue
   /** The mode and the width. */
   options
   /** The events that came: `id`, and of a report `status`, and `headers` and `body` as JSON texts if there are any. */
@@ -53,8 +51,6 @@ class Course {
     this.#methods = new Map(requests.map(({ id, method }) => [id, method]))
     this.options = options
     this.#run = new Run(batch, options)
-    this.#queue = new Queue(requests)
-    this.#queue.fill(this.#run)
   }
 
   /** Has an event come. Returns why it is refused, or undefined. */
@@ -65,7 +61,6 @@ class Course {
       return readRefusal(error, event.id)
     }
     this.events.push(event)
-    this.#queue.take(event, this.#isReady)
     return undefined
   }
 
@@ -87,31 +82,14 @@ class Course {
     this.#run = new Run(this.#batch, this.options)
     this.events = events
     for (const event of events) this.#apply(event)
-    this.#queue.fill(this.#run)
   }
 
-  #isReady = (id) => this.#run.state(id).state === 'ready'
-
-  /** The next event of a run that plays by itself in an order, as the program's orders are; undefined if it is finished. */
+  /** The next event of a run that plays by itself in an order, with what requests are answered; undefined if it is finished. */
   next(order, answers) {
-    if (order === 'wide' && this.options.width >= this.#requests.length) return this.#nextWide(answers)
-    const [running, ready] = [this.#run.running, this.#run.ready]
-    const last = order === 'last' ? -1 : 0
-    const reports = running.length > 0 && (order !== 'wide' || ready.length === 0)
-    if (reports) return this.report(running.at(last), answers)
-    return ready.length > 0 ? { id: ready.at(last) } : undefined
-  }
-
-  #nextWide(answers) {
-    const ready = this.#queue.firstReady(this.#isReady)
-    if (ready !== undefined) return { id: ready }
-    const running = this.#queue.firstRunning
-    return running === undefined ? undefined : this.report(running, answers)
-  }
-
-  /** The report of a request with what it is to be answered. */
-  report(id, answers) {
-    return { id, status: usualStatus(this.#methods.get(id)), ...answers[id] }
+    const next = this.#run.next(order)
+    if (next === null) return undefined
+    const { step, id } = next
+    return step === 'start' ? { id } : { id, status: usualStatus(this.#methods.get(id)), ...answers[id] }
   }
 
   /** The event after which nothing starts any more, in the mode that stops at errors. */

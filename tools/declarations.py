@@ -79,6 +79,9 @@ NUMBERS = {
     "ODB_STATE_REPORTED": r"RequestState::Reported\(status\) => \((\d+), ",
     "ODB_STATE_SKIPPED": r"RequestState::Skipped => \((\d+), 0\)",
     "ODB_STATE_UNDONE": r"const UNDONE: u32 = (\d+)",
+    "ODB_STEP_NONE": r"const NO_STEP: u32 = (\d+)",
+    "ODB_STEP_START": r"Step::Start\(i\) => \((\d+), i\)",
+    "ODB_STEP_REPORT": r"Step::Report\(i\) => \((\d+), i\)",
 }
 
 

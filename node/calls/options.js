@@ -31,7 +31,12 @@ function optionNumbers(options) {
     throw new RangeError(`width must be a whole number from 1 to ${MAX_WIDTH}, not ${String(width)}`)
   }
   const flags = [trace, strict].map((flag) => (flag ? 1 : 0))
-  return [valueNumber(MODES, 'mode', mode), width, valueNumber(ORDERS, 'order', order), ...flags, valueNumber(FORMS, 'form', form)]
+  return [valueNumber(MODES, 'mode', mode), width, orderNumber(order), ...flags, valueNumber(FORMS, 'form', form)]
 }
 
-module.exports = { optionNumbers, requireOptions, valueNumber }
+/** The number of an order. */
+function orderNumber(order) {
+  return valueNumber(ORDERS, 'order', order)
+}
+
+module.exports = { optionNumbers, orderNumber, requireOptions, valueNumber }

@@ -6,7 +6,7 @@ const { documentBytes, eventBytes, reportBytes } = require('../documents/bytes.j
 const { DONE, Fault, REFUSED, Refused, callError, errorWithCode } = require('../errors/faults.js')
 const library = require('../library/index.js')
 const { run } = require('./commands.js')
-const { optionNumbers, requireOptions } = require('./options.js')
+const { optionNumbers, orderNumber, requireOptions } = require('./options.js')
 const { requests } = require('./requests.js')
 
 const OPTIONS = ['mode', 'width', 'events']
@@ -46,6 +46,9 @@ function findFault(headers, body) {
 
 /** @type {import('../index').RequestState['state'][]} The states of a request, by their numbers. */
 const STATES = ['waiting', 'ready', 'running', 'reported', 'skipped', 'undone']
+
+/** @type {import('../index').NextStep['step'][]} The steps of a run, by their numbers; no step is 0. */
+const STEPS = ['start', 'report']
 
 class Run {
   #run
@@ -125,6 +128,14 @@ class Run {
   nextUnit() {
     const positions = this.#listPositions('nextUnit')
     return positions.length > 0 ? this.#idsAt(positions) : null
+  }
+
+  next(order = 'first') {
+    const numbers = new Uint32Array(2)
+    const status = library.next(this.#open, orderNumber(order), numbers)
+    if (status !== DONE) throw callError('next', status, '')
+    const [step, position] = numbers
+    return step > 0 ? { step: STEPS[step - 1], id: this.#ids[position] } : null
   }
 
   request(id) {

@@ -104,4 +104,4 @@ function callError(name, status, text, ...documents) {
   return errorWithCode('ERR_ODB_STATUS', `${name} returned the status ${status}`)
 }
 
-module.exports = { DONE, Fault, REFUSED, Refused, callError, errorWithCode, listedFaults }
+module.exports = { DONE, Fault, REFUSED, Refused, callError, errorWithCode, listedFaults, readFault }

@@ -235,6 +235,20 @@ function textCall(name) {
   }
 }
 
+/** A call that takes a number, and gives two. */
+function pairCall(name) {
+  return (run, number, numbers) => {
+    const instance = liveInstance(run)
+    const status = instance.with((take) => {
+      const at = take(WORD)
+      const found = instance.call(name, run.place, number, at, at + 4n)
+      if (found === DONE) numbers.set(instance.numbers(at, 2))
+      return found
+    })
+    return status ?? OUT_OF_MEMORY
+  }
+}
+
 /** A call that takes a run and numbers, and returns a status. */
 function statusCall(name) {
   return (run, ...numbers) => liveInstance(run).call(name, run.place, ...numbers)
@@ -270,16 +284,6 @@ function runCalls(use, seed) {
       registry.unregister(run)
       if (!run.instance.hasTrapped) closeAt(run.instance, run.place)
     },
-    state(run, position, numbers) {
-      const instance = liveInstance(run)
-      const status = instance.with((take) => {
-        const at = take(WORD)
-        const found = instance.call('odb_run_state', run.place, position, at, at + 4n)
-        if (found === DONE) numbers.set(instance.numbers(at, 2))
-        return found
-      })
-      return status ?? OUT_OF_MEMORY
-    },
     report(run, position, status, headers, body) {
       const instance = liveInstance(run)
       const end = instance.with((take) => instance.call('odb_run_report', run.place, position, status, ...instance.put(take, [headers, body])))
@@ -289,6 +293,8 @@ function runCalls(use, seed) {
     running: listCall('odb_run_running'),
     undone: listCall('odb_run_undone'),
     nextUnit: listCall('odb_run_next_unit'),
+    state: pairCall('odb_run_state'),
+    next: pairCall('odb_run_next'),
     start: statusCall('odb_run_start'),
     startUnit: statusCall('odb_run_start_unit'),
     finished: statusCall('odb_run_finished'),

@@ -2,7 +2,7 @@
 
 const assert = require('node:assert/strict')
 const { test } = require('node:test')
-const { Refused, Run } = require('..')
+const { Refused, Run, replay } = require('..')
 const { lending } = require('./batches.js')
 
 const BATCH = lending('mark')
@@ -101,10 +101,38 @@ test('starts nothing more in a run that is stopped', () => {
   }
 })
 
+test('takes the steps of a replay, in each order', () => {
+  const statuses = { book: 200, mark: 204, loan: 409, list: 200 }
+  const outcomes = { outcomes: Object.entries(statuses).map(([id, status]) => ({ id, status })) }
+  for (const order of ['first', 'last', 'wide']) {
+    for (const options of [{ width: 1 }, { mode: 'stop' }, {}]) {
+      const steps = withRun(options, (live) => {
+        const taken = []
+        for (let next = live.next(order); next !== null; next = live.next(order)) {
+          const { step, id } = next
+          if (step === 'start') live.start(id)
+          else live.report(id, statuses[id])
+          taken.push(step === 'start' ? next : { ...next, status: statuses[id] })
+        }
+        assert.equal(live.finished, true)
+        return taken
+      })
+      assert.deepEqual(steps, replay(BATCH, outcomes, { ...options, order, trace: true }).steps)
+    }
+  }
+})
+
+test('has no step in no order', () => {
+  withRun({}, (live) => {
+    assert.deepEqual(live.next(), { step: 'start', id: 'book' })
+    assert.throws(() => live.next('best'), RangeError)
+  })
+})
+
 test('refuses a closed run', () => {
   const live = new Run(BATCH)
   live.close()
-  for (const call of [() => live.stop(), () => live.nextUnit(), () => live.state('book'), () => live.startUnit('book')]) {
+  for (const call of [() => live.stop(), () => live.next(), () => live.nextUnit(), () => live.state('book'), () => live.startUnit('book')]) {
     assert.throws(call, { code: 'ERR_ODB_CLOSED' })
   }
 })

@@ -284,8 +284,12 @@ static void drive(odb_live_run *run)
             list(run, odb_run_next_unit, 0);
             note(odb_run_start_unit(run, chosen()));
         }
+        uint32_t taken = 0, first = 0, state = 0, status = 0;
+        note(odb_run_next(run, next(3), &taken, &first));
+        note(taken);
+        note(first);
         list(run, odb_run_running, 1);
-        uint32_t position = chosen(), state = 0, status = 0;
+        uint32_t position = chosen();
         if (next(3) > 0)
             report(run, position);
         note(odb_run_state(run, position, &state, &status));

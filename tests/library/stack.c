@@ -212,7 +212,7 @@ static int live(void)
 {
     static const char none[] = "{\"events\":[]}", headers[] = "{\"ETag\":\"7\"}";
     odb_live_run opened;
-    uint32_t positions[1], state, status;
+    uint32_t positions[1], state, status, step;
     size_t count;
     if (odb_run_open(bytes(batch), strlen(batch), bytes(none), strlen(none), ODB_STOP, 1, &opened, text, sizeof text, &length, 7))
         return 0;
@@ -220,6 +220,7 @@ static int live(void)
         && is_done(odb_run_position(&opened, bytes("a"), 1, positions))
         && is_done(odb_run_ids(&opened, text, sizeof text, &length))
         && is_done(odb_run_next_unit(&opened, positions, 1, &count))
+        && is_done(odb_run_next(&opened, ODB_LAST, &step, positions))
         && is_done(odb_run_start(&opened, 0)) && is_done(odb_run_state(&opened, 0, &state, &status))
         && is_done(odb_run_running(&opened, positions, 1, &count))
         && is_done(odb_run_report(&opened, 0, 200, bytes(headers), strlen(headers), bytes(second), strlen(second)))

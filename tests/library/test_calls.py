@@ -29,7 +29,7 @@ def compile_c(program, standard, sources, library, *flags):
     run("cc", *common, *flags, "-o", program, *paths, os.path.join(library, "libodb_batch.a"))
 
 
-@pytest.mark.parametrize("tests", ["calls", "faults", "live", "places", "positions", "requests", "targets", "units"])
+@pytest.mark.parametrize("tests", ["calls", "faults", "live", "places", "positions", "requests", "steps", "targets", "units"])
 @pytest.mark.parametrize("way", ["plain", *SLOW_WAYS])
 def test_calls(tests, way, library, tmp_path):
     flags, words = WAYS[way]

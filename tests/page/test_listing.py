@@ -8,12 +8,14 @@ import pytest
 from support.program import ROOT
 
 BATCH = '{"requests": [\n  {"id": "a", "method": "got", "url": "\u00e4"},\n  {"id": "b", "method": "get", "url": "x", "body": 1}\n]}'
-# A library of which each answer is these lines, and in which each place has this offset.
+# A library of which each answer is these lines. A fault has its words in them, and this offset.
 SCRIPT = """
 const [root, text, lines, offset] = process.argv.slice(1)
+const words = Array.from(lines.matchAll(/[^ \\n]+/g)).filter(([word]) => word !== 'fault')
+const numbersOf = ({ 0: word, index }, at) => [index, word.length, ...(at % 3 === 2 ? [1, 1, Number(offset)] : [])]
 const exports = {
   call: () => [1, Buffer.from(lines)],
-  where: (document, place, numbers) => { numbers.set([1, 1, Number(offset)]); return 0 },
+  faults: () => [1, Buffer.from(lines), Float64Array.from(words.flatMap(numbersOf))],
 }
 require.cache[require.resolve(root + '/node/library/index.js')] = { id: 'stub', loaded: true, exports }
 const { judge } = require(root + '/page/verdict.js')

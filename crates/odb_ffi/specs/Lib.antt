@@ -3,6 +3,7 @@ pub mod Returns
 pub mod Options
 pub mod Positions
 pub mod Live
+pub mod Next
 pub mod Units
 pub mod Lists
 pub mod Requests

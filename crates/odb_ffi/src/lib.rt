@@ -7,8 +7,8 @@
 //!
 //! [`exports`], [`fault_exports`], [`place_exports`], [`request_exports`], [`resolve_exports`], [`run_exports`] and
 //! [`unit_exports`] have the exports alone. What they do over slices and numbers is beside them: `options` and `status` name the
-//! numbers, `answer` does a task and copies a text to the caller's buffer, `live` and `units` drive a run, `requests` copies what
-//! is to be sent, `faults` all faults, and `targets` says where a request is sent. [`request`] is one request, [`fault`] one
+//! numbers, `answer` does a task and copies a text to the caller's buffer, `live` and `units` drive a run, `next` says which step it
+//! takes next, `requests` copies what is to be sent, `faults` all faults, and `targets` says where a request is sent. [`request`] is one request, [`fault`] one
 //! fault, and [`position`] where an element begins. What needs a pointer is in `address`, [`handle`], `lent` and [`slot`].
 //! What holds of every list of calls on a live run is in [`laws`].
 #![tactic(auto)]
@@ -25,6 +25,7 @@ pub mod handle;
 pub mod laws;
 mod lent;
 mod live;
+mod next;
 pub mod options;
 mod outcome;
 pub mod place_exports;

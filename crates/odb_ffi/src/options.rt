@@ -66,7 +66,7 @@ pub fn form_of(form: u32) -> Option<Form>
 }
 
 /// Returns the order that a number names, or `None` if it may not be.
-fn order_of(order: u32) -> Option<Order>
+pub fn order_of(order: u32) -> Option<Order>
     ensures some { IfSome result (λ named. order ≡ options.order_number named) }
     ensures none { result ≡ None → NamesNone (λ named. order ≡ options.order_number named) }
 {

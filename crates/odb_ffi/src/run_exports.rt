@@ -12,6 +12,7 @@ ghost use Rattle.odb_engine.specs.Live.{IsLeastOfOpening, Opens};
 ghost use Rattle.odb_sched.specs.run.State as state;
 ghost use Rattle.odb_sched.specs.run.Steps as steps;
 ghost use Rattle.odb_ffi.specs.Live as calls;
+ghost use Rattle.odb_ffi.specs.Next.{GivesNext};
 ghost use Rattle.odb_ffi.specs.Options as options;
 ghost use Rattle.odb_ffi.specs.Positions.{GivesPositions};
 ghost use Rattle.odb_ffi.specs.Returns.{Returns, ReturnsBy};
@@ -21,7 +22,7 @@ use crate::handle::Handle;
 use crate::options::{policy_of, seed_of};
 use crate::positions::give_positions;
 use crate::slot::Slot;
-use crate::{live, status};
+use crate::{live, next, status};
 use odb_engine::{Answer, Form, Halt, open_run};
 use odb_sched::Policy;
 use std::alloc::Global;
@@ -189,6 +190,26 @@ pub extern "C" fn odb_run_report(
     ensures { calls.Reports run.old.value run.new.value position status headers.now body.now result }
 {
     live::report(run.live(), alloc, position, status, headers, body)
+}
+
+/// Gives the step that a replay in the same order, that of [`crate::exports::odb_replay`], takes next: 1 in `step` for
+/// the start of the request at `position`, 2 for its report, and 0 if the run is finished; then `position` is as it
+/// was.
+///
+/// Returns 0; or 2 if `order` is none of those of a replay, and both are as they were. The run stays as it is: start or
+/// report the request by [`odb_run_start`] or [`odb_run_report`]. Takes O(requests that may start or run), and no memory.
+#[unsafe(no_mangle)]
+pub extern "C" fn odb_run_next(
+    run: &mut Handle,
+    order: u32,
+    step: &mut u32,
+    position: &mut u32,
+) -> u32
+    ensures next { GivesNext run.old.value.run order result step.old step.new position.old
+        position.new }
+    ensures same { run.new.value ≡ run.old.value }
+{
+    next::next(run.live(), order, step, position)
 }
 
 /// Returns 1 if no event may come any more: no request may start, and none is running. Else it returns 0. Takes

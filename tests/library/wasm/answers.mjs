@@ -108,6 +108,8 @@ function drive(library, run, next, note) {
   for (let step = 0; step < MOST_STEPS && library.finished(run) === 0; step++) {
     if (next(3) > 0) note(library.start(run, chosen(listed('ready'))))
     else note(library.startUnit(run, chosen(listed('nextUnit'))))
+    const taken = new Uint32Array(2)
+    note(library.next(run, next(3), taken), ...taken)
     const position = chosen(listed('running'))
     if (next(3) > 0) {
       const [status, headers, body] = [STATUSES, HEADERS, BODIES].map((it) => it[next(it.length)])
