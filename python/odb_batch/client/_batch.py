@@ -1,6 +1,7 @@
 """A batch that is made by calls, and sent by any client of HTTP."""
 
-from typing import Any, Awaitable, Callable, Generator, TypeVar
+import types
+from typing import Any, Awaitable, Callable, Coroutine, Generator, TypeVar
 
 from .._native.calls import Mode
 from ..commands import plan
@@ -10,15 +11,14 @@ from ..errors.faults import Fault
 from ._builder import Builder
 from ._parts import MAX_REQUESTS, Parts
 from ._rest import rest_document
-from ._results import RequestFailed, ResultMap
+from ._results import Results
 from ._transports import Posted, read_response
 
 #: Posts the bytes of a batch, and returns what that is answered.
 Post = Callable[[bytes], Posted]
 PostAsync = Callable[[bytes], Awaitable[Posted]]
 
-_Step = TypeVar("_Step")
-_End = TypeVar("_End")
+_T = TypeVar("_T")
 
 
 def batch_headers(mode: Mode = "continue") -> dict[str, str]:
@@ -51,7 +51,7 @@ class Batch(Builder):
             batch._append(request, planned.needs)
         return batch
 
-    def send(self, post: Post, *, limit: int = MAX_REQUESTS, mode: Mode = "continue") -> "Results":
+    def send(self, post: Post, *, limit: int = MAX_REQUESTS, mode: Mode = "continue") -> Results:
         """Sends the batch, if need be in parts, and returns what each request was answered.
 
         Units are sent in the order of the batch: groups, and requests without one. A part has as many as the limit
@@ -78,30 +78,31 @@ class Batch(Builder):
             TypeError: What ``post`` returns is neither a status with headers and a body nor such a response.
             MemoryError: An allocation failed.
         """
-        return take_steps(self.exchange(limit=limit, mode=mode), post)
+        return run_at_once(self.send_async(as_coroutine(post), limit=limit, mode=mode))
 
-    async def send_async(self, post: PostAsync, *, limit: int = MAX_REQUESTS, mode: Mode = "continue") -> "Results":
+    async def send_async(self, post: PostAsync, *, limit: int = MAX_REQUESTS, mode: Mode = "continue") -> Results:
         """Does what :meth:`send` does by a coroutine function. If its task is cancelled, what was answered is lost."""
-        return await take_steps_async(self.exchange(limit=limit, mode=mode), post)
-
-    def exchange(self, *, limit: int = MAX_REQUESTS, mode: Mode = "continue") -> Generator[bytes, Posted, "Results"]:
-        """Yields one part after another, and is sent what it was answered, for clients that :meth:`send` does not fit.
-
-        The exception by which a part was not answered is thrown into it. The value in the end is the results.
-        """
         try:
             parts = Parts(self.document(), limit, mode)
         except Fault as fault:
             raise fault.of_builder()
         while (document := parts.next()) is not None:
             try:
-                answered = read_response((yield document))
+                answered = read_response(await post(document))
             except Exception as error:
-                parts.fail(error)
+                cause = error.__cause__ if isinstance(error, RuntimeError) else None  # a coroutine has a StopIteration there
+                parts.fail(cause if isinstance(cause, StopIteration) else error)
             else:
                 parts.take(answered)
         rest = lambda: self._rest(rest_document(parts.document, parts.responses()))
         return Results(self, parts.document, parts.answers, rest, parts.error)
+
+    def exchange(self, *, limit: int = MAX_REQUESTS, mode: Mode = "continue") -> Generator[bytes, Posted, Results]:
+        """Yields one part after another, and is sent what it was answered, for clients that :meth:`send` does not fit.
+
+        The exception by which a part was not answered is thrown into it. The value in the end is the results.
+        """
+        return (yield from self.send_async(_ask, limit=limit, mode=mode).__await__())
 
     def _rest(self, document: bytes) -> "Batch":
         """The batch of a document with requests of this one, for which the same references hold."""
@@ -110,92 +111,26 @@ class Batch(Builder):
         return batch
 
 
-class Results(ResultMap):
-    """What the requests of a batch were answered: a mapping of ids to :class:`Result`, in the order of the batch.
-
-    ``results[order]`` is that of a request, by what the batch returned for it or by its id. Another id is a KeyError,
-    and a request of another batch a ValueError. As a text they are how many requests are done, and each that is not, with
-    why.
-
-    Attributes:
-        error: The exception by which a part was not answered, the last if there are several: what ``post`` raised, or the
-            Fault of what is not the response to it; else None.
-        reason: Why :meth:`BatchClient.send` has ended; empty if nothing is left to be sent.
-    """
-
-    def raise_for_status(self) -> "Results":
-        """Returns the results themselves if all requests are done; else raises :class:`BatchFailed`, which has an error for
-        each that is not."""
-        if len(self.done) < len(self):
-            raise BatchFailed(self)
-        return self
-
-    def rest(self) -> Batch:
-        """Returns the batch of what failed for now or was skipped, and may be sent again; an empty one if nothing may.
-
-        A request may be sent again if it was answered 424, 429 or 503, since nothing was performed then; or 408, 502 or
-        504, if it is a GET, a PUT or a DELETE, since nobody knows. A group is in the rest as a whole: if it has failed,
-        what succeeded in it was undone. What is in the rest depends only on what has succeeded or is in the rest, too.
-        References to what has succeeded are replaced as in :meth:`Batch.send`.
-
-        The references that the batch has returned hold for the rest and its results.
-
-        Raises:
-            ValueError: A request refers to one that was answered without an ETag, or without a usable URL of what it
-                has created. The message says which.
-            MemoryError: An allocation failed.
-        """
-        batch: Batch = self._rest()
-        return batch
+@types.coroutine
+def _ask(document: bytes) -> Any:
+    """Has the caller of the generator post a document."""
+    return (yield document)
 
 
-class BatchFailed(Exception):
-    """Requests of a batch are not done. Its text is that of the results.
+def as_coroutine(call: Callable[..., _T]) -> Callable[..., Awaitable[_T]]:
+    """Returns a coroutine function that calls a function, and waits for nothing else."""
 
-    Attributes:
-        results: All results.
-        errors: A :class:`RequestFailed` for each request that is not done, in the order of the batch.
-    """
+    async def called(*given: Any) -> _T:
+        return call(*given)
 
-    results: Results
-    errors: tuple[RequestFailed, ...]
-
-    def __init__(self, results: Results) -> None:
-        super().__init__(results)
-        self.results = results
-        self.errors = tuple(RequestFailed(result) for result in results.values() if results._outcomes[result.id] != "done")
-
-    def __str__(self) -> str:
-        return str(self.results)
+    return called
 
 
-def take_steps(steps: Generator[_Step, Any, _End], take: Callable[[_Step], Any]) -> _End:
-    """Calls a function for each step that a generator yields, which gets what that returns or raises; returns its end."""
+def run_at_once(coroutine: Coroutine[Any, None, _T]) -> _T:
+    """Returns what a coroutine returns that waits for functions alone."""
     try:
-        step = next(steps)
         while True:
-            try:
-                taken = take(step)
-            except Exception as error:
-                step = steps.throw(error)
-            else:
-                step = steps.send(taken)
+            coroutine.send(None)
     except StopIteration as end:
-        found: _End = end.value
-        return found
-
-
-async def take_steps_async(steps: Generator[_Step, Any, _End], take: Callable[[_Step], Awaitable[Any]]) -> _End:
-    """Does what `take_steps` does by a coroutine function."""
-    try:
-        step = next(steps)
-        while True:
-            try:
-                taken = await take(step)
-            except Exception as error:
-                step = steps.throw(error)
-            else:
-                step = steps.send(taken)
-    except StopIteration as end:
-        found: _End = end.value
+        found: _T = end.value
         return found

@@ -62,8 +62,8 @@ class Group(_Named):
 Name = Union[Reference, Group, str]
 #: A URL or the value of a header: a text, or a request of the batch, whose reference it is then.
 Url = Union[str, Reference]
-#: The headers of a request.
-Headers = Mapping[str, Url]
+#: The headers of a request, if it has any.
+Headers = Optional[Mapping[str, Url]]
 #: What a request depends on: a request or a group, its name, or several of them.
 After = Union[Name, Iterable[Name]]
 
@@ -94,45 +94,34 @@ class Builder:
 
     # Adding requests
 
-    def get(
-        self, url: Url, *, after: After = (), headers: Optional[Headers] = None, id: Optional[str] = None
-    ) -> Reference:
+    def get(self, url: Url, *, after: After = (), headers: Headers = None, id: Optional[str] = None) -> Reference:
         """Adds a GET; see :meth:`request`."""
         return self.request("GET", url, after=after, headers=headers, id=id)
 
     def post(
-        self, url: Url, body: Any = None, *, after: After = (), headers: Optional[Headers] = None, id: Optional[str] = None
+        self, url: Url, body: Any = None, *, after: After = (), headers: Headers = None, id: Optional[str] = None
     ) -> Reference:
         """Adds a POST; see :meth:`request`."""
         return self.request("POST", url, body, after=after, headers=headers, id=id)
 
     def put(
-        self, url: Url, body: Any = None, *, after: After = (), headers: Optional[Headers] = None, id: Optional[str] = None
+        self, url: Url, body: Any = None, *, after: After = (), headers: Headers = None, id: Optional[str] = None
     ) -> Reference:
         """Adds a PUT; see :meth:`request`."""
         return self.request("PUT", url, body, after=after, headers=headers, id=id)
 
     def patch(
-        self, url: Url, body: Any = None, *, after: After = (), headers: Optional[Headers] = None, id: Optional[str] = None
+        self, url: Url, body: Any = None, *, after: After = (), headers: Headers = None, id: Optional[str] = None
     ) -> Reference:
         """Adds a PATCH; see :meth:`request`."""
         return self.request("PATCH", url, body, after=after, headers=headers, id=id)
 
-    def delete(
-        self, url: Url, *, after: After = (), headers: Optional[Headers] = None, id: Optional[str] = None
-    ) -> Reference:
+    def delete(self, url: Url, *, after: After = (), headers: Headers = None, id: Optional[str] = None) -> Reference:
         """Adds a DELETE; see :meth:`request`."""
         return self.request("DELETE", url, after=after, headers=headers, id=id)
 
     def request(
-        self,
-        method: str,
-        url: Url,
-        body: Any = None,
-        *,
-        after: After = (),
-        headers: Optional[Headers] = None,
-        id: Optional[str] = None,
+        self, method: str, url: Url, body: Any = None, *, after: After = (), headers: Headers = None, id: Optional[str] = None
     ) -> Reference:
         """Adds a request, and returns the reference to it.
 

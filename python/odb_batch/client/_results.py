@@ -6,14 +6,17 @@ import time
 from dataclasses import dataclass
 from datetime import timezone
 from functools import cached_property
-from typing import Any, Callable, Iterator, Literal, Mapping, Optional, TypeVar, Union, get_args, overload
+from typing import TYPE_CHECKING, Any, Callable, Iterator, Literal, Mapping, Optional, TypeVar, Union, get_args, overload
 
 from .. import commands
-from ..documents.encoding import body_json, json_bytes
+from ..documents.encoding import body_json
 from ..documents.requests import Request
 from ..http.messages import Answer
 from ..values import Value
 from ._builder import Builder, Reference
+
+if TYPE_CHECKING:
+    from ._batch import Batch
 
 _Self = TypeVar("_Self", bound="Result")
 _T = TypeVar("_T")
@@ -90,8 +93,6 @@ class RequestFailed(Exception):
         result: What the request was answered.
     """
 
-    result: Result
-
     def __init__(self, result: Result) -> None:
         super().__init__(result)
         self.result = result
@@ -110,25 +111,25 @@ def _error_text(body: bytes) -> str:
         return ""
 
 
-class ResultMap(Mapping[str, Result]):
-    """What :class:`Results` are but for the batch of the rest.
+class Results(Mapping[str, Result]):
+    """What the requests of a batch were answered: a mapping of ids to :class:`Result`, in the order of the batch.
 
-    Args:
-        batch: What the requests were added to.
-        document: The batch.
-        answers: What each request was answered, by its id.
-        rest: Returns the batch of the rest.
+    ``results[order]`` is that of a request, by what the batch returned for it or by its id. Another id is a KeyError,
+    and a request of another batch a ValueError. As a text they are how many requests are done, and each that is not, with
+    why.
+
+    Attributes:
+        error: The exception by which a part was not answered, the last if there are several: what ``post`` raised, or the
+            Fault of what is not the response to it; else None.
+        reason: Why :meth:`BatchClient.send` has ended; empty if nothing is left to be sent.
     """
-
-    error: Optional[Exception]
-    reason: str
 
     def __init__(
         self,
         batch: Builder,
         document: bytes,
-        answers: Mapping[str, Answer],
-        rest: Callable[[], Any],
+        answers: Mapping[str, Union[Answer, Result]],
+        rest: Callable[[], "Batch"],
         error: Optional[Exception] = None,
         reason: str = "",
     ) -> None:
@@ -160,7 +161,23 @@ class ResultMap(Mapping[str, Result]):
 
     @cached_property
     def _outcomes(self) -> dict[str, Outcome]:
-        return _classify(self._document, self._groups, {result.id: result.status for result in self._found.values()})
+        """What became of each request, by its id."""
+        common = {"headers": {"location": "x"}}  # any does for the ids of the rest
+        responses = [
+            {"id": result.id, "status": result.status, "atomicityGroup": self._groups[result.id], **common}
+            for result in self._found.values()
+        ]
+        left = {request.id for request in commands.plan(commands.rest(self._document, {"responses": responses}))}
+        undone = {self._groups[result.id] for result in self._found.values() if not result.is_success} - {None}
+
+        def find(result: Result) -> Outcome:
+            if result.id in left:
+                return "left"
+            if result.is_success and self._groups[result.id] not in undone:
+                return "done"
+            return "unknown" if result.status in UNSURE else "failed"
+
+        return {request_id: find(result) for request_id, result in self._found.items()}
 
     def _with(self, outcome: Outcome) -> list[Result]:
         return [result for result in self._found.values() if self._outcomes[result.id] == outcome]
@@ -192,8 +209,49 @@ class ResultMap(Mapping[str, Result]):
         waits = {result.headers.get("retry-after") for result in self._found.values() if not result.is_success}
         return max(map(seconds_of, filter(None, waits)), default=0.0)
 
+    def raise_for_status(self) -> "Results":
+        """Returns the results themselves if all requests are done; else raises :class:`BatchFailed`, which has an error for
+        each that is not."""
+        if len(self.done) < len(self):
+            raise BatchFailed(self)
+        return self
 
-def _result(request: Request, answer: Answer) -> Result:
+    def rest(self) -> "Batch":
+        """Returns the batch of what failed for now or was skipped, and may be sent again; an empty one if nothing may.
+
+        A request may be sent again if it was answered 424, 429 or 503, since nothing was performed then; or 408, 502 or
+        504, if it is a GET, a PUT or a DELETE, since nobody knows. A group is in the rest as a whole: if it has failed,
+        what succeeded in it was undone. What is in the rest depends only on what has succeeded or is in the rest, too.
+        References to what has succeeded are replaced as in :meth:`Batch.send`.
+
+        The references that the batch has returned hold for the rest and its results.
+
+        Raises:
+            ValueError: A request refers to one that was answered without an ETag, or without a usable URL of what it
+                has created. The message says which.
+            MemoryError: An allocation failed.
+        """
+        return self._rest()
+
+
+class BatchFailed(Exception):
+    """Requests of a batch are not done. Its text is that of the results.
+
+    Attributes:
+        results: All results.
+        errors: A :class:`RequestFailed` for each request that is not done, in the order of the batch.
+    """
+
+    def __init__(self, results: Results) -> None:
+        super().__init__(results)
+        self.results = results
+        self.errors = tuple(RequestFailed(result) for result in results.values() if results._outcomes[result.id] != "done")
+
+    def __str__(self) -> str:
+        return str(self.results)
+
+
+def _result(request: Request, answer: Union[Answer, Result]) -> Result:
     body = answer.body if isinstance(answer.body, bytes) else body_json(answer.body)
     operation = f"{request.method} {request.url.partition('?')[0]}"
     return Result(request.id, answer.status, dict(answer.headers), body, operation)
@@ -209,30 +267,3 @@ def seconds_of(value: str) -> float:
     except (TypeError, ValueError, OverflowError):
         return 0.0
     return max((at if at.tzinfo else at.replace(tzinfo=timezone.utc)).timestamp() - time.time(), 0.0)
-
-
-def _classify(document: bytes, groups: Mapping[str, Optional[str]], statuses: Mapping[str, int]) -> dict[str, Outcome]:
-    """What became of each request, by its id; likewise its group, or None, and the status that it was answered."""
-    left = _resendable_ids(document, groups, statuses)
-    undone = {groups[request_id] for request_id, status in statuses.items() if not 200 <= status <= 299} - {None}
-    found: dict[str, Outcome] = {}
-    for request_id, status in statuses.items():
-        if request_id in left:
-            found[request_id] = "left"
-        elif 200 <= status <= 299 and groups[request_id] not in undone:
-            found[request_id] = "done"
-        else:
-            found[request_id] = "unknown" if status in UNSURE else "failed"
-    return found
-
-
-def _resendable_ids(document: bytes, groups: Mapping[str, Optional[str]], statuses: Mapping[str, int]) -> list[str]:
-    """The ids of the rest. Any Location does for them."""
-    if all(200 <= status <= 299 for status in statuses.values()):
-        return []
-    common: dict[str, Any] = {"headers": {"location": "x"}}
-    responses = [
-        {"id": request_id, "status": status, "atomicityGroup": groups[request_id], **common}
-        for request_id, status in statuses.items()
-    ]
-    return [request.id for request in commands.plan(commands.rest(document, json_bytes({"responses": responses})))]
