@@ -24,6 +24,14 @@ const SETTLES_NOTHING = [...UNSURE, 424, 429, 503]
 const GIVEN_UP = [400, 412, 422, 501]
 // The codes of errors by which there was no connection, so that nothing was sent.
 const UNSENT = ['ECONNREFUSED', 'ENOTFOUND', 'EAI_AGAIN', 'UND_ERR_CONNECT_TIMEOUT']
+const TIME = [(time) => time === Infinity || (time > 0 && time <= MOST_MILLISECONDS), 'number of milliseconds above 0']
+// For each option that is a number, what says whether it has a value that it may have, and what that is.
+const NUMBERS = {
+  attempts: [(count) => Number.isInteger(count) && count >= 1, 'whole number from 1'],
+  backoff: [(time) => time >= 0, 'number of milliseconds from 0'],
+  deadline: TIME,
+  timeout: TIME,
+}
 const OF_NODE = 'node:crypto' // which Node 18 does not have as a global
 
 /** An id that nobody guesses: also in a page that is not secure, which has no randomUUID. */
@@ -33,16 +41,12 @@ function newId() {
 }
 
 /** Returns options that are numbers; throws unless they have their values. */
-function requireNumbers({ attempts, backoff, ...milliseconds }) {
-  if (!Number.isInteger(attempts) || attempts < 1) {
-    throw new RangeError(`attempts must be a whole number from 1, not ${String(attempts)}`)
+function requireNumbers(numbers) {
+  for (const [name, number] of Object.entries(numbers)) {
+    const [isRight, wanted] = NUMBERS[name]
+    if (!isRight(number)) throw new RangeError(`${name} must be a ${wanted}, not ${String(number)}`)
   }
-  if (!(backoff >= 0)) throw new RangeError(`backoff must be a number of milliseconds from 0, not ${String(backoff)}`)
-  for (const [name, time] of Object.entries(milliseconds)) {
-    const isTime = time === Infinity || (time > 0 && time <= MOST_MILLISECONDS)
-    if (!isTime) throw new RangeError(`${name} must be a number of milliseconds above 0, not ${String(time)}`)
-  }
-  return { attempts, backoff, ...milliseconds }
+  return numbers
 }
 
 /** The URL of the `$batch` of a service. */

@@ -167,8 +167,9 @@ function findKinds({ document, requests }, results) {
   const groupOf = ({ id }) => requests.get(id).group
   const headers = { location: 'x' } // any does for the ids of the rest
   const responses = results.map((result) => ({ id: result.id, status: result.status, atomicityGroup: groupOf(result), headers }))
-  const left = new Set(plan(rest(document, { responses })).map(({ id }) => id))
-  const undone = new Set(results.filter(({ ok }) => !ok).map(groupOf).filter((group) => group !== null))
+  const unsuccessful = results.filter(({ ok }) => !ok)
+  const left = new Set(unsuccessful.length > 0 ? plan(rest(document, { responses })).map(({ id }) => id) : [])
+  const undone = new Set(unsuccessful.map(groupOf).filter((group) => group !== null))
   const findKind = (result) => {
     if (left.has(result.id)) return 'left'
     return result.ok && !undone.has(groupOf(result)) ? 'done' : UNSURE.includes(result.status) ? 'unknown' : 'failed'

@@ -3,7 +3,7 @@
 import contextlib
 import re
 from dataclasses import dataclass, field, replace
-from typing import Any, Iterable, Mapping, Optional
+from typing import Iterable, Mapping, Optional
 from urllib.parse import unquote
 
 from .._native.calls import MAX_WIDTH, Mode, policy_numbers
@@ -84,13 +84,13 @@ class Parts:
         self._resolver = ReferenceResolver(given)
         self.answers: dict[str, Answer] = dict.fromkeys(self._requests, SKIPPED)
         self.error: Optional[Exception] = None
-        # The number of the next unit, and of those that have succeeded or are in the part that is out.
-        self._at = 0
+        # The number of the next unit, and whether that is not sent any more.
+        self._at, self._is_stopped = 0, False
+        # The numbers of those that have succeeded or are in the part that is out.
         self._sound: set[int] = set()
         # The part that is out, and the numbers of its units.
         self._part = b""
         self._out: list[int] = []
-        self._is_stopped = False
         # Then it is sent as it is. A condition may refer to what is not answered yet, so that its request is not sent.
         conditions = (request.headers.get(name, "") for request in given for name in CONDITIONS)
         self._is_one_part = len(given) <= limit and not any(value.startswith("$") for value in conditions)

@@ -153,8 +153,7 @@ class Results(Mapping[str, Result]):
     def __str__(self) -> str:
         counts = {outcome: len(self._with(outcome)) for outcome in get_args(Outcome)}
         words = ", ".join(f"{count} {outcome}" for outcome, count in counts.items() if count or outcome == "done")
-        rest = ((outcome, self._found[name]) for name, outcome in self._outcomes.items() if outcome != "done")
-        lines = [f"{outcome}: {RequestFailed(result)}" for outcome, result in rest]
+        lines = [f"{self._outcomes[error.result.id]}: {error}" for error in BatchFailed(self).errors]
         more = [f"and {len(lines) - _MAX_LISTED} more"] if len(lines) > _MAX_LISTED else []
         why = f" ({self.reason})" if self.reason else ""
         return "\n".join([f"{len(self)} requests: {words}{why}", *lines[:_MAX_LISTED], *more])
@@ -162,16 +161,17 @@ class Results(Mapping[str, Result]):
     @cached_property
     def _outcomes(self) -> dict[str, Outcome]:
         """What became of each request, by its id."""
+        unsuccessful = [result for result in self._found.values() if not result.is_success]
         common = {"headers": {"location": "x"}}  # any does for the ids of the rest
         responses = [
             {"id": result.id, "status": result.status, "atomicityGroup": self._groups[result.id], **common}
             for result in self._found.values()
         ]
-        left = {request.id for request in commands.plan(commands.rest(self._document, {"responses": responses}))}
-        undone = {self._groups[result.id] for result in self._found.values() if not result.is_success} - {None}
+        left = commands.plan(commands.rest(self._document, {"responses": responses})) if unsuccessful else ()
+        left_ids, undone = {request.id for request in left}, {self._groups[result.id] for result in unsuccessful} - {None}
 
         def find(result: Result) -> Outcome:
-            if result.id in left:
+            if result.id in left_ids:
                 return "left"
             if result.is_success and self._groups[result.id] not in undone:
                 return "done"
@@ -252,9 +252,8 @@ class BatchFailed(Exception):
 
 
 def _result(request: Request, answer: Union[Answer, Result]) -> Result:
-    body = answer.body if isinstance(answer.body, bytes) else body_json(answer.body)
     operation = f"{request.method} {request.url.partition('?')[0]}"
-    return Result(request.id, answer.status, dict(answer.headers), body, operation)
+    return Result(request.id, answer.status, dict(answer.headers), body_json(answer.body), operation)
 
 
 def seconds_of(value: str) -> float:

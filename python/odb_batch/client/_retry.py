@@ -15,6 +15,9 @@ from ._batch import Batch, batch_headers
 from ._results import UNSURE, Result, Results, seconds_of
 from ._transports import PostFunction, is_unsent, make_post, read_response, to_answer
 
+#: Waits for so many seconds.
+Sleep = Callable[[float], Awaitable[Any]]
+
 ID, FIRST_SENT, RESULT = "repeatability-request-id", "repeatability-first-sent", "repeatability-result"
 # By how many seconds a wait is longer than the service asks for, at most; and what it may ask for.
 _MAX_BACKOFF, _MAX_ASKED = 30.0, 600.0
@@ -59,9 +62,7 @@ class Sender:
 class Sending:
     """A batch on its way. What posts and what sleeps are coroutine functions."""
 
-    def __init__(
-        self, client: Sender, post: PostFunction, sleep: Callable[[float], Awaitable[Any]], limit: int, mode: Mode
-    ) -> None:
+    def __init__(self, client: Sender, post: PostFunction, sleep: Sleep, limit: int, mode: Mode) -> None:
         self._client, self._post, self._sleep, self._limit, self._mode = client, post, sleep, limit, mode
         self._end = time.monotonic() + (float("inf") if client._deadline is None else client._deadline)
         # How many attempts in a row have brought nothing, and whether the one that is on its way has brought anything.
@@ -158,15 +159,14 @@ class Sending:
 
     async def _pause(self, asked: float, what: str, why: str = "") -> bool:
         """Waits before more is posted. Returns False if nothing more is, and notes why."""
-        client = self._client
         self._idle, self._moved = 0 if self._moved else self._idle + 1, False
-        seconds = asked + random.uniform(0, min(client._backoff * 2.0 ** min(self._idle, 9), _MAX_BACKOFF))
-        if self._idle >= client._attempts:
-            self._reason = f"the last {client._attempts} attempts have brought nothing"
+        seconds = asked + random.uniform(0, min(self._client._backoff * 2.0 ** min(self._idle, 9), _MAX_BACKOFF))
+        if self._idle >= self._client._attempts:
+            self._reason = f"the last {self._client._attempts} attempts have brought nothing"
         elif asked > _MAX_ASKED:
             self._reason = f"the service asks to wait {asked:.0f} seconds"
         elif time.monotonic() + seconds >= self._end:
-            self._reason = f"the deadline of {client._deadline} seconds is over"
+            self._reason = f"the deadline of {self._client._deadline} seconds is over"
         else:
             LOG.info("%s in %.1f seconds%s", what, seconds, why)
             await self._sleep(seconds)
