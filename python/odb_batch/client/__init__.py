@@ -19,10 +19,10 @@ What a service has not performed for now, as it had no capacity, is a batch agai
 import warnings
 from typing import Any
 
-from ._batch import Batch, Post, PostAsync, batch_headers
+from ._batch import Batch, BatchFailed, Post, PostAsync, Results, batch_headers
 from ._builder import Group, Reference
 from ._client import AsyncBatchClient, BatchClient
-from ._results import BatchFailed, RequestFailed, Result, Results
+from ._results import RequestFailed, Result
 from ._transports import HttpResponse, Posted
 
 __all__ = [

@@ -4,9 +4,8 @@ import asyncio
 import time
 
 from .._native.calls import Mode
-from ._batch import Batch, as_coroutine, run_at_once
+from ._batch import Batch, Results, as_coroutine, run_at_once
 from ._parts import MAX_REQUESTS
-from ._results import Results
 from ._retry import Sender, Sending
 
 

@@ -5,18 +5,9 @@ import json
 import time
 from dataclasses import dataclass
 from datetime import timezone
-from functools import cached_property
-from typing import TYPE_CHECKING, Any, Callable, Iterator, Literal, Mapping, Optional, TypeVar, Union, get_args, overload
+from typing import Any, Callable, Literal, Optional, TypeVar, overload
 
-from .. import commands
-from ..documents.encoding import body_json
-from ..documents.requests import Request
-from ..http.messages import Answer
 from ..values import Value
-from ._builder import Builder, Reference
-
-if TYPE_CHECKING:
-    from ._batch import Batch
 
 _Self = TypeVar("_Self", bound="Result")
 _T = TypeVar("_T")
@@ -27,9 +18,6 @@ Outcome = Literal["done", "failed", "left", "unknown"]
 
 #: After these statuses nobody knows whether a request was performed.
 UNSURE = frozenset({408, 502, 504})
-
-# How many requests that are not done a text lists.
-_MAX_LISTED = 20
 
 
 @dataclass(frozen=True)
@@ -109,151 +97,6 @@ def _error_text(body: bytes) -> str:
         return f" {error['code']}: {error['message']}"
     except (ValueError, TypeError, LookupError, RecursionError):
         return ""
-
-
-class Results(Mapping[str, Result]):
-    """What the requests of a batch were answered: a mapping of ids to :class:`Result`, in the order of the batch.
-
-    ``results[order]`` is that of a request, by what the batch returned for it or by its id. Another id is a KeyError,
-    and a request of another batch a ValueError. As a text they are how many requests are done, and each that is not, with
-    why.
-
-    Attributes:
-        error: The exception by which a part was not answered, the last if there are several: what ``post`` raised, or the
-            Fault of what is not the response to it; else None.
-        reason: Why :meth:`BatchClient.send` has ended; empty if nothing is left to be sent.
-    """
-
-    def __init__(
-        self,
-        batch: Builder,
-        document: bytes,
-        answers: Mapping[str, Union[Answer, Result]],
-        rest: Callable[[], "Batch"],
-        error: Optional[Exception] = None,
-        reason: str = "",
-    ) -> None:
-        self._batch, self._document, self._rest, self.error, self.reason = batch, document, rest, error, reason
-        found = {request.id: request for request, _ in batch._requests}
-        self._groups = {request_id: found[request_id].group for request_id in answers}
-        self._found = {request_id: _result(found[request_id], answer) for request_id, answer in answers.items()}
-
-    def __getitem__(self, request: Union[Reference, str]) -> Result:
-        return self._found[self._batch._name(request)]
-
-    def __iter__(self) -> Iterator[str]:
-        return iter(self._found)
-
-    def __len__(self) -> int:
-        return len(self._found)
-
-    def __repr__(self) -> str:
-        return f"<Results: {', '.join(f'{result.id} {result.status}' for result in self._found.values())}>"
-
-    def __str__(self) -> str:
-        counts = {outcome: len(self._with(outcome)) for outcome in get_args(Outcome)}
-        words = ", ".join(f"{count} {outcome}" for outcome, count in counts.items() if count or outcome == "done")
-        lines = [f"{self._outcomes[error.result.id]}: {error}" for error in BatchFailed(self).errors]
-        more = [f"and {len(lines) - _MAX_LISTED} more"] if len(lines) > _MAX_LISTED else []
-        why = f" ({self.reason})" if self.reason else ""
-        return "\n".join([f"{len(self)} requests: {words}{why}", *lines[:_MAX_LISTED], *more])
-
-    @cached_property
-    def _outcomes(self) -> dict[str, Outcome]:
-        """What became of each request, by its id."""
-        unsuccessful = [result for result in self._found.values() if not result.is_success]
-        common = {"headers": {"location": "x"}}  # any does for the ids of the rest
-        responses = [
-            {"id": result.id, "status": result.status, "atomicityGroup": self._groups[result.id], **common}
-            for result in self._found.values()
-        ]
-        left = commands.plan(commands.rest(self._document, {"responses": responses})) if unsuccessful else ()
-        left_ids, undone = {request.id for request in left}, {self._groups[result.id] for result in unsuccessful} - {None}
-
-        def find(result: Result) -> Outcome:
-            if result.id in left_ids:
-                return "left"
-            if result.is_success and self._groups[result.id] not in undone:
-                return "done"
-            return "unknown" if result.status in UNSURE else "failed"
-
-        return {request_id: find(result) for request_id, result in self._found.items()}
-
-    def _with(self, outcome: Outcome) -> list[Result]:
-        return [result for result in self._found.values() if self._outcomes[result.id] == outcome]
-
-    @property
-    def done(self) -> list[Result]:
-        """The requests that were performed: answered from 200 to 299, as all others of their group."""
-        return self._with("done")
-
-    @property
-    def failed(self) -> list[Result]:
-        """The requests that were answered for good by another status, or depend on one that is failed or unknown."""
-        return self._with("failed")
-
-    @property
-    def left(self) -> list[Result]:
-        """The requests that may be sent again: those of :meth:`rest`."""
-        return self._with("left")
-
-    @property
-    def unknown(self) -> list[Result]:
-        """The requests of which nobody knows whether they were performed: those with 408, 502 or 504 that are not left."""
-        return self._with("unknown")
-
-    @property
-    def retry_after(self) -> float:
-        """For how many seconds the service asks to wait before the rest is sent: the greatest ``Retry-After`` of what
-        did not succeed (RFC 9110, section 10.2.3), up to then if it is a date; 0 if it asks for nothing."""
-        waits = {result.headers.get("retry-after") for result in self._found.values() if not result.is_success}
-        return max(map(seconds_of, filter(None, waits)), default=0.0)
-
-    def raise_for_status(self) -> "Results":
-        """Returns the results themselves if all requests are done; else raises :class:`BatchFailed`, which has an error for
-        each that is not."""
-        if len(self.done) < len(self):
-            raise BatchFailed(self)
-        return self
-
-    def rest(self) -> "Batch":
-        """Returns the batch of what failed for now or was skipped, and may be sent again; an empty one if nothing may.
-
-        A request may be sent again if it was answered 424, 429 or 503, since nothing was performed then; or 408, 502 or
-        504, if it is a GET, a PUT or a DELETE, since nobody knows. A group is in the rest as a whole: if it has failed,
-        what succeeded in it was undone. What is in the rest depends only on what has succeeded or is in the rest, too.
-        References to what has succeeded are replaced as in :meth:`Batch.send`.
-
-        The references that the batch has returned hold for the rest and its results.
-
-        Raises:
-            ValueError: A request refers to one that was answered without an ETag, or without a usable URL of what it
-                has created. The message says which.
-            MemoryError: An allocation failed.
-        """
-        return self._rest()
-
-
-class BatchFailed(Exception):
-    """Requests of a batch are not done. Its text is that of the results.
-
-    Attributes:
-        results: All results.
-        errors: A :class:`RequestFailed` for each request that is not done, in the order of the batch.
-    """
-
-    def __init__(self, results: Results) -> None:
-        super().__init__(results)
-        self.results = results
-        self.errors = tuple(RequestFailed(result) for result in results.values() if results._outcomes[result.id] != "done")
-
-    def __str__(self) -> str:
-        return str(self.results)
-
-
-def _result(request: Request, answer: Union[Answer, Result]) -> Result:
-    operation = f"{request.method} {request.url.partition('?')[0]}"
-    return Result(request.id, answer.status, dict(answer.headers), body_json(answer.body), operation)
 
 
 def seconds_of(value: str) -> float:

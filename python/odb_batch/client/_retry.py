@@ -11,8 +11,8 @@ from ..commands import match
 from ..http.batches import batch_json
 from ..http.bodies import to_json
 from ..http.messages import LOG, Answer, Refusal, header_dict
-from ._batch import Batch, batch_headers
-from ._results import UNSURE, Result, Results, seconds_of
+from ._batch import Batch, Results, batch_headers
+from ._results import UNSURE, Result, seconds_of
 from ._transports import PostFunction, is_unsent, make_post, read_response, to_answer
 
 #: Waits for so many seconds.
