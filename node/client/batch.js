@@ -112,8 +112,8 @@ class Batch {
   #names = new Map()
   // The names of the batch of which this is the rest: a reference to it means the same in both.
   #spent = new Set()
-  // Of the group that is made: what its names were before.
-  #before = []
+  // Likewise, of the group that is made: they are added to the others once it is.
+  #own = this.#names
   // By the prefix of a name, up to which number names are taken.
   #numbers = {}
   #group = null
@@ -170,17 +170,18 @@ class Batch {
     if (this.#group !== null) throw new Error('a group cannot be in another one')
     const [size, numbers, group] = [this.size, { ...this.#numbers }, new Group(id, this.#origin)]
     this.#group = group
-    this.#before = []
+    this.#own = new Map()
     this.#takeGroup(id)
     try {
       if (typeof add(group)?.then === 'function') throw new TypeError('the function of a group must not be async')
+      for (const [name, own] of this.#own) this.#names.set(name, own)
     } catch (error) {
       this.#requests.length = size
       this.#numbers = numbers
-      this.#releaseNames()
       throw error
     } finally {
       this.#group = null
+      this.#own = this.#names
     }
     return group
   }
@@ -218,7 +219,7 @@ class Batch {
   /** The first name with a number that is not taken. */
   #freeName(prefix, least) {
     let count = Math.max(least, this.#numbers[prefix] ?? 0)
-    const isTaken = (name) => this.#names.has(name) || this.#spent.has(name)
+    const isTaken = (name) => [this.#own, this.#names, this.#spent].some((names) => names.has(name))
     while (isTaken(`${prefix}${count + 1}`)) count++
     this.#numbers[prefix] = count
     return `${prefix}${count + 1}`
@@ -228,25 +229,17 @@ class Batch {
     const { id, group, method, url } = request
     const operation = `${method.toUpperCase()} ${url.split('?', 1)[0]}`
     this.#requests.push({ id, group, operation, text: writeRequest(request, needs) })
-    this.#take(request.id, request.group)
-    if (request.group !== null) this.#takeGroup(request.group)
-  }
-
-  #take(name, group) {
-    if (this.#group !== null) this.#before.push([name, this.#names.get(name)])
-    this.#names.set(name, group)
+    this.#own.set(id, group)
+    if (group !== null) this.#takeGroup(group)
   }
 
   #takeGroup(name) {
-    if (!this.#names.has(name)) this.#take(name, name)
+    if (this.#groupOf(name) === undefined) this.#own.set(name, name)
   }
 
-  /** Has the names be what they were before the group that is made. */
-  #releaseNames() {
-    for (const [name, group] of this.#before.reverse()) {
-      if (group === undefined) this.#names.delete(name)
-      else this.#names.set(name, group)
-    }
+  /** The group of what has a name, or null; undefined if nothing has it. */
+  #groupOf(name) {
+    return this.#own.get(name) ?? this.#names.get(name)
   }
 
   /** A URL, in which a request of this batch stands for its reference. */
@@ -266,8 +259,8 @@ class Batch {
   /** The names that a request depends on: those that it lists, what it refers to, and the groups of these. */
   #findNeeds(after, url, headers) {
     const listed = (Array.isArray(after) ? after : [after]).map((named) => Named.nameIn(this.#origin, named))
-    const names = [...listed, ...findReferences(url, headers).filter((name) => this.#names.has(name))]
-    const groups = names.map((name) => this.#names.get(name)).filter((group) => group && group !== this.#group?.id)
+    const names = [...listed, ...findReferences(url, headers).filter((name) => this.#groupOf(name) !== undefined)]
+    const groups = names.map((name) => this.#groupOf(name)).filter((group) => group && group !== this.#group?.id)
     return [...new Set([...names, ...groups])]
   }
 }

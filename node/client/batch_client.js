@@ -12,7 +12,6 @@ const { responseBytes } = require('./parts.js')
 const { Results, UNSURE, readSeconds } = require('./results.js')
 
 const OF_CLIENT = ['attempts', 'backoff', 'deadline', 'fetch', 'headers', 'repeatable', 'timeout']
-const OF_SEND = ['limit', 'mode']
 const [ID, FIRST_SENT, RESULT] = ['repeatability-request-id', 'repeatability-first-sent', 'repeatability-result']
 const MOST_MILLISECONDS = 2 ** 31 - 1 // of a timer
 // By how many milliseconds a wait is longer than the service asks for, at most; and for how many seconds it may ask.
@@ -25,6 +24,14 @@ const SETTLES_NOTHING = [...UNSURE, 424, 429, 503]
 const GIVEN_UP = [400, 412, 422, 501]
 // The codes of errors by which there was no connection, so that nothing was sent.
 const UNSENT = ['ECONNREFUSED', 'ENOTFOUND', 'EAI_AGAIN', 'UND_ERR_CONNECT_TIMEOUT']
+const TIME = [(time) => time === Infinity || (time > 0 && time <= MOST_MILLISECONDS), 'number of milliseconds above 0']
+// For each option that is a number, what says whether it has a value that it may have, and what that is.
+const NUMBERS = {
+  attempts: [(count) => Number.isInteger(count) && count >= 1, 'whole number from 1'],
+  backoff: [(time) => time >= 0, 'number of milliseconds from 0'],
+  deadline: TIME,
+  timeout: TIME,
+}
 const OF_NODE = 'node:crypto' // which Node 18 does not have as a global
 
 /** An id that nobody guesses: also in a page that is not secure, which has no randomUUID. */
@@ -33,16 +40,13 @@ function newId() {
   return Array.from(random.getRandomValues(new Uint8Array(16)), (byte) => byte.toString(16).padStart(2, '0')).join('')
 }
 
-/** Throws unless the options have their values. */
-function requireNumbers({ attempts, backoff, ...milliseconds }) {
-  if (!Number.isInteger(attempts) || attempts < 1) {
-    throw new RangeError(`attempts must be a whole number from 1, not ${String(attempts)}`)
+/** Returns options that are numbers; throws unless they have their values. */
+function requireNumbers(numbers) {
+  for (const [name, number] of Object.entries(numbers)) {
+    const [isRight, wanted] = NUMBERS[name]
+    if (!isRight(number)) throw new RangeError(`${name} must be a ${wanted}, not ${String(number)}`)
   }
-  if (!(backoff >= 0)) throw new RangeError(`backoff must be a number of milliseconds from 0, not ${String(backoff)}`)
-  for (const [name, time] of Object.entries(milliseconds)) {
-    const isTime = time === Infinity || (time > 0 && time <= MOST_MILLISECONDS)
-    if (!isTime) throw new RangeError(`${name} must be a number of milliseconds above 0, not ${String(time)}`)
-  }
+  return numbers
 }
 
 /** The URL of the `$batch` of a service. */
@@ -57,13 +61,12 @@ class BatchClient {
   constructor(url, options = {}) {
     const { headers, repeatable = true, fetch = globalThis.fetch, ...given } = requireOptions(options, OF_CLIENT)
     const { attempts = 8, backoff = 1000, deadline = Infinity, timeout = 60000 } = given
-    const numbers = { attempts, backoff, deadline, timeout }
-    requireNumbers(numbers)
+    const numbers = requireNumbers({ attempts, backoff, deadline, timeout })
     this.#patience = { ...numbers, url: batchUrl(url), fetch, headers: foldHeaders(headers), keeps: repeatable ? undefined : false }
   }
 
   async send(batch, options = {}) {
-    return new Sending(this.#patience, requireOptions(options, OF_SEND)).send(batch)
+    return new Sending(this.#patience, options).send(batch)
   }
 }
 
@@ -121,20 +124,21 @@ class Sending {
     for (let sent = this.#makeId(), lost; ; ) {
       const asks = lost !== undefined && this.#patience.keeps === undefined
       const tried = asks ? await this.#post({ ...part, body: NOTHING }, this.#makeId()) : await this.#post(part, sent)
+      const isLost = [undefined, ...UNSURE].includes(tried.status) || isRejected(tried, [409])
       if (isSuccess(tried)) {
         if (!asks) return tried
         if (this.#patience.keeps) continue
       } else if (lost === undefined && ID in sent && isRejected(tried, [501])) {
         sent = this.#makeId()
         continue
-      } else if (lost === undefined && !isLost(tried)) {
+      } else if (lost === undefined && !isLost) {
         const isFinal = tried.status < 500 && !SETTLES_NOTHING.includes(tried.status)
         if (isFinal) this.#reason = `a part was answered ${tried.status} as a whole`
         return unwrap(tried)
       }
-      lost ??= tried.status === 409 ? new Failure(new Refusal(504, 'InProgress', 'No answer came in time')) : tried
+      lost ??= tried.status === 409 ? standIn(new Refusal(504, 'InProgress', 'No answer came in time')) : tried
       const isOver = this.#patience.keeps === false || isRejected(tried, GIVEN_UP)
-      if (isOver || !(await this.#pause(readSeconds(tried.headers['retry-after'] ?? '')))) return unwrap(lost)
+      if (isOver || !(await this.#pause(readSeconds(tried.headers['retry-after'])))) return unwrap(lost)
     }
   }
 
@@ -146,7 +150,6 @@ class Sending {
   /** Posts a document; returns what it is answered, or the failure in place of it. */
   async #post({ method, headers, body }, id) {
     const { url, fetch, timeout, headers: own } = this.#patience
-    const { mode = 'continue' } = this.#options
     const request = { method, headers: { ...headers, ...own, ...id }, body }
     try {
       const answer = await this.#stop.within(timeout, async (wait) => {
@@ -154,12 +157,12 @@ class Sending {
       })
       if (ID in id) this.#learn(answer)
       if (isSuccess(answer)) {
-        const statuses = [...match(body, responseBytes(answer.body), { mode }).values()]
+        const statuses = [...match(body, responseBytes(answer.body), { mode: this.#options.mode }).values()]
         this.#moved ||= statuses.some((status) => !SETTLES_NOTHING.includes(status))
       }
       return answer
     } catch (error) {
-      return new Failure(error)
+      return standIn(error)
     }
   }
 
@@ -186,29 +189,22 @@ class Sending {
 }
 
 /** An error in place of an answer, with the status and the headers that it stands for. Without a connection that is a 503. */
-class Failure {
-  constructor(error) {
-    const isUnsent = [error?.code, error?.cause?.code].some((code) => UNSENT.includes(code))
-    const unreachable = new Refusal(503, 'Unreachable', 'there is no connection')
-    this.error = isUnsent ? Object.assign(unreachable, { cause: error }) : error
-    Object.assign(this, { headers: {} }, this.error instanceof Refusal && this.error.answer)
-  }
+function standIn(raised) {
+  const isUnsent = [raised?.code, raised?.cause?.code].some((code) => UNSENT.includes(code))
+  const error = isUnsent ? new Refusal(503, 'Unreachable', 'there is no connection') : raised
+  if (isUnsent) error.cause = raised
+  return { headers: {}, ...(error instanceof Refusal && error.answer), error }
 }
 
 /** Returns an answer, or throws the error in place of it. */
 function unwrap(tried) {
-  if (tried instanceof Failure) throw tried.error
+  if ('error' in tried) throw tried.error
   return tried
 }
 
 /** Whether a service that keeps batches has rejected one, by one of some statuses. */
 function isRejected({ status, headers }, statuses) {
   return statuses.includes(status) && headers[RESULT] === 'rejected'
-}
-
-/** Whether nobody knows if a part was performed, or it is being performed. */
-function isLost(tried) {
-  return tried.status === undefined || UNSURE.includes(tried.status) || isRejected(tried, [409])
 }
 
 module.exports = { BatchClient }

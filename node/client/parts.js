@@ -89,7 +89,6 @@ class Parts {
   #limit
   #mode
   #needs
-  #groups
   #units
   #references
   // The number of the next unit, and of those that have succeeded or are in the part that is out.
@@ -110,7 +109,6 @@ class Parts {
     this.#mode = mode
     this.document = document
     this.#needs = new Map(planned.map(({ id, needs }) => [id, needs]))
-    this.#groups = new Map(planned.map(({ id, group }) => [id, group]))
     this.#references = new References(requests(document))
     this.answers = new Map(planned.map(({ id }) => [id, SKIPPED]))
   }
@@ -187,7 +185,7 @@ class Parts {
   /** The responses to the whole batch, as `match` accepts them: statuses, and of what others refer to the URL and the ETag. */
   responses() {
     const responses = Array.from(this.answers, ([id, { status }]) => {
-      return { id, status, atomicityGroup: this.#groups.get(id), headers: this.#references.recorded(id) }
+      return { id, status, atomicityGroup: this.#references.of(id).group, headers: this.#references.recorded(id) }
     })
     return { responses }
   }

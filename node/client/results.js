@@ -12,6 +12,8 @@ const DATE = /^(Mon|Tue|Wed|Thu|Fri|Sat|Sun)[a-z]*, /
 const DATE_OF_ASCTIME = /^(Mon|Tue|Wed|Thu|Fri|Sat|Sun) [A-Z].+[0-9]$/
 // After these statuses nobody knows whether a request was performed.
 const UNSURE = [408, 502, 504]
+// What may become of a request.
+const KINDS = ['done', 'failed', 'left', 'unknown']
 // How many requests that are not done a text lists.
 const MOST_LISTED = 20
 // What console.log shows of an object in Node.
@@ -28,7 +30,7 @@ function errorText(body) {
 }
 
 /** How many seconds a Retry-After asks for: a number, or the time up to a date; 0 if it is neither. */
-function readSeconds(value) {
+function readSeconds(value = '') {
   if (/^[0-9]+$/.test(value)) return Math.min(Number(value), MOST_SECONDS)
   const at = DATE_OF_ASCTIME.test(value) ? Date.parse(`${value} GMT`) : DATE.test(value) ? Date.parse(value) : NaN
   return at > Date.now() ? (at - Date.now()) / 1000 : 0
@@ -119,8 +121,7 @@ class Results {
   }
 
   get retryAfter() {
-    const waits = Array.from(this).filter(({ ok, headers }) => !ok && 'retry-after' in headers)
-    return waits.reduce((most, { headers }) => Math.max(most, readSeconds(headers['retry-after'])), 0)
+    return Math.max(0, ...Array.from(this, ({ ok, headers }) => (ok ? 0 : readSeconds(headers['retry-after']))))
   }
 
   raiseForStatus() {
@@ -135,13 +136,12 @@ class Results {
   }
 
   toString() {
-    const kinds = { done: this.done, failed: this.failed, left: this.left, unknown: this.unknown }
-    const counts = Object.entries(kinds).filter(([kind, { length }]) => length > 0 || kind === 'done')
+    const counts = KINDS.map((kind) => [kind, this.#ofKind(kind).length]).filter(([kind, count]) => count || kind === 'done')
     const lines = Array.from(this, (result) => [this.#kind(result.id), result]).filter(([kind]) => kind !== 'done')
     const listed = lines.slice(0, MOST_LISTED).map(([kind, result]) => `${kind}: ${new RequestFailed(result).message}`)
     const more = lines.length > MOST_LISTED ? [`and ${lines.length - MOST_LISTED} more`] : []
     const why = this.reason ? ` (${this.reason})` : ''
-    return [`${this.size} requests: ${counts.map(([kind, { length }]) => `${length} ${kind}`).join(', ')}${why}`, ...listed, ...more].join('\n')
+    return [`${this.size} requests: ${counts.map(([kind, count]) => `${count} ${kind}`).join(', ')}${why}`, ...listed, ...more].join('\n')
   }
 
   [INSPECT]() {
@@ -164,21 +164,17 @@ class Results {
 
 /** What became of each request, by its id: `done`, `failed`, `left` or `unknown`. */
 function findKinds({ document, requests }, results) {
-  const left = new Set(results.every(({ ok }) => ok) ? [] : restIds(document, requests, results))
-  const undone = new Set(results.filter(({ ok }) => !ok).map(({ id }) => requests.get(id).group))
-  undone.delete(null)
-  const findKind = ({ id, status, ok }) => {
-    if (left.has(id)) return 'left'
-    return ok && !undone.has(requests.get(id).group) ? 'done' : UNSURE.includes(status) ? 'unknown' : 'failed'
+  const groupOf = ({ id }) => requests.get(id).group
+  const headers = { location: 'x' } // any does for the ids of the rest
+  const responses = results.map((result) => ({ id: result.id, status: result.status, atomicityGroup: groupOf(result), headers }))
+  const unsuccessful = results.filter(({ ok }) => !ok)
+  const left = new Set(unsuccessful.length > 0 ? plan(rest(document, { responses })).map(({ id }) => id) : [])
+  const undone = new Set(unsuccessful.map(groupOf).filter((group) => group !== null))
+  const findKind = (result) => {
+    if (left.has(result.id)) return 'left'
+    return result.ok && !undone.has(groupOf(result)) ? 'done' : UNSURE.includes(result.status) ? 'unknown' : 'failed'
   }
   return new Map(results.map((result) => [result.id, findKind(result)]))
-}
-
-/** The ids of the rest. Any Location does for them. */
-function restIds(document, requests, results) {
-  const headers = { location: 'x' }
-  const responses = results.map(({ id, status }) => ({ id, status, atomicityGroup: requests.get(id).group, headers }))
-  return plan(rest(document, { responses })).map(({ id }) => id)
 }
 
 module.exports = { BatchFailed, RequestFailed, Result, Results, UNSURE, readSeconds }

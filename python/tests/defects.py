@@ -83,7 +83,7 @@ DEFECTS = {
     "a-part-after-a-refusal": ("client/_parts", "answer))\n        self._is_stopped = True", "answer))", SENDING, "answer_to_the_whole"),
     "responses-to-something-else": ("client/_parts", "match(self._part, text, mode=self._mode)", "pass", SENDING, "not_the_response"),
     "places-of-any-kind": ("client/_parts", "if not url or not is_plain(url):", "if False:", SENDING, "no_url_may_have"),
-    "the-shortest-wait": ("client/_results", "max(map(seconds_of", "min(map(seconds_of", SENDING, "retry_after"),
+    "the-shortest-wait": ("client/_batch", "max(map(seconds_of", "min(map(seconds_of", SENDING, "retry_after"),
     "etags-of-what-is-done": ("client/_rest", "referred in recorded and referred not in names", "False", REST, "in_the_rest"),
     "etags-of-what-is-left": ("client/_rest", " and referred not in names", "", REST, "refers_to_in_the_rest"),
     "a-place-that-is-there": ("client/_rest", "if place is None:", "if True:", SENDING, "no_url_may_have"),

@@ -1,24 +1,29 @@
 """A batch that is made by calls, and sent by any client of HTTP."""
 
-from typing import Any, Awaitable, Callable, Generator, TypeVar
+import types
+from functools import cached_property
+from typing import Any, Awaitable, Callable, Coroutine, Generator, Iterator, Mapping, Optional, TypeVar, Union, get_args
 
 from .._native.calls import Mode
-from ..commands import plan
-from ..documents.encoding import Document, document_bytes
-from ..documents.requests import requests
+from ..commands import plan, rest
+from ..documents.encoding import Document, body_json, document_bytes
+from ..documents.requests import Request, requests
 from ..errors.faults import Fault
-from ._builder import Builder
+from ..http.messages import Answer
+from ._builder import Builder, Reference
 from ._parts import MAX_REQUESTS, Parts
 from ._rest import rest_document
-from ._results import RequestFailed, ResultMap
+from ._results import UNSURE, Outcome, RequestFailed, Result, seconds_of
 from ._transports import Posted, read_response
 
 #: Posts the bytes of a batch, and returns what that is answered.
 Post = Callable[[bytes], Posted]
 PostAsync = Callable[[bytes], Awaitable[Posted]]
 
-_Step = TypeVar("_Step")
-_End = TypeVar("_End")
+_T = TypeVar("_T")
+
+# How many requests that are not done a text lists.
+_MAX_LISTED = 20
 
 
 def batch_headers(mode: Mode = "continue") -> dict[str, str]:
@@ -78,30 +83,31 @@ class Batch(Builder):
             TypeError: What ``post`` returns is neither a status with headers and a body nor such a response.
             MemoryError: An allocation failed.
         """
-        return take_steps(self.exchange(limit=limit, mode=mode), post)
+        return run_at_once(self.send_async(as_coroutine(post), limit=limit, mode=mode))
 
     async def send_async(self, post: PostAsync, *, limit: int = MAX_REQUESTS, mode: Mode = "continue") -> "Results":
         """Does what :meth:`send` does by a coroutine function. If its task is cancelled, what was answered is lost."""
-        return await take_steps_async(self.exchange(limit=limit, mode=mode), post)
-
-    def exchange(self, *, limit: int = MAX_REQUESTS, mode: Mode = "continue") -> Generator[bytes, Posted, "Results"]:
-        """Yields one part after another, and is sent what it was answered, for clients that :meth:`send` does not fit.
-
-        The exception by which a part was not answered is thrown into it. The value in the end is the results.
-        """
         try:
             parts = Parts(self.document(), limit, mode)
         except Fault as fault:
             raise fault.of_builder()
         while (document := parts.next()) is not None:
             try:
-                answered = read_response((yield document))
+                answered = read_response(await post(document))
             except Exception as error:
-                parts.fail(error)
+                cause = error.__cause__ if isinstance(error, RuntimeError) else None  # a coroutine has a StopIteration there
+                parts.fail(cause if isinstance(cause, StopIteration) else error)
             else:
                 parts.take(answered)
-        rest = lambda: self._rest(rest_document(parts.document, parts.responses()))
-        return Results(self, parts.document, parts.answers, rest, parts.error)
+        make_rest = lambda: self._rest(rest_document(parts.document, parts.responses()))
+        return Results(self, parts.document, parts.answers, make_rest, parts.error)
+
+    def exchange(self, *, limit: int = MAX_REQUESTS, mode: Mode = "continue") -> Generator[bytes, Posted, "Results"]:
+        """Yields one part after another, and is sent what it was answered, for clients that :meth:`send` does not fit.
+
+        The exception by which a part was not answered is thrown into it. The value in the end is the results.
+        """
+        return (yield from self.send_async(_ask, limit=limit, mode=mode).__await__())
 
     def _rest(self, document: bytes) -> "Batch":
         """The batch of a document with requests of this one, for which the same references hold."""
@@ -110,7 +116,7 @@ class Batch(Builder):
         return batch
 
 
-class Results(ResultMap):
+class Results(Mapping[str, Result]):
     """What the requests of a batch were answered: a mapping of ids to :class:`Result`, in the order of the batch.
 
     ``results[order]`` is that of a request, by what the batch returned for it or by its id. Another id is a KeyError,
@@ -122,6 +128,91 @@ class Results(ResultMap):
             Fault of what is not the response to it; else None.
         reason: Why :meth:`BatchClient.send` has ended; empty if nothing is left to be sent.
     """
+
+    def __init__(
+        self,
+        batch: Builder,
+        document: bytes,
+        answers: Mapping[str, Union[Answer, Result]],
+        make_rest: Callable[[], Batch],
+        error: Optional[Exception] = None,
+        reason: str = "",
+    ) -> None:
+        self._batch, self._document, self._rest, self.error, self.reason = batch, document, make_rest, error, reason
+        found = {request.id: request for request, _ in batch._requests}
+        self._groups = {request_id: found[request_id].group for request_id in answers}
+        self._found = {request_id: _result(found[request_id], answer) for request_id, answer in answers.items()}
+
+    def __getitem__(self, request: Union[Reference, str]) -> Result:
+        return self._found[self._batch._name(request)]
+
+    def __iter__(self) -> Iterator[str]:
+        return iter(self._found)
+
+    def __len__(self) -> int:
+        return len(self._found)
+
+    def __repr__(self) -> str:
+        return f"<Results: {', '.join(f'{result.id} {result.status}' for result in self._found.values())}>"
+
+    def __str__(self) -> str:
+        counts = {outcome: len(self._with(outcome)) for outcome in get_args(Outcome)}
+        words = ", ".join(f"{count} {outcome}" for outcome, count in counts.items() if count or outcome == "done")
+        lines = [f"{self._outcomes[error.result.id]}: {error}" for error in BatchFailed(self).errors]
+        more = [f"and {len(lines) - _MAX_LISTED} more"] if len(lines) > _MAX_LISTED else []
+        why = f" ({self.reason})" if self.reason else ""
+        return "\n".join([f"{len(self)} requests: {words}{why}", *lines[:_MAX_LISTED], *more])
+
+    @cached_property
+    def _outcomes(self) -> dict[str, Outcome]:
+        """What became of each request, by its id."""
+        unsuccessful = [result for result in self._found.values() if not result.is_success]
+        common = {"headers": {"location": "x"}}  # any does for the ids of the rest
+        responses = [
+            {"id": result.id, "status": result.status, "atomicityGroup": self._groups[result.id], **common}
+            for result in self._found.values()
+        ]
+        left = plan(rest(self._document, {"responses": responses})) if unsuccessful else ()
+        left_ids, undone = {request.id for request in left}, {self._groups[result.id] for result in unsuccessful} - {None}
+
+        def find(result: Result) -> Outcome:
+            if result.id in left_ids:
+                return "left"
+            if result.is_success and self._groups[result.id] not in undone:
+                return "done"
+            return "unknown" if result.status in UNSURE else "failed"
+
+        return {request_id: find(result) for request_id, result in self._found.items()}
+
+    def _with(self, outcome: Outcome) -> list[Result]:
+        return [result for result in self._found.values() if self._outcomes[result.id] == outcome]
+
+    @property
+    def done(self) -> list[Result]:
+        """The requests that were performed: answered from 200 to 299, as all others of their group."""
+        return self._with("done")
+
+    @property
+    def failed(self) -> list[Result]:
+        """The requests that were answered for good by another status, or depend on one that is failed or unknown."""
+        return self._with("failed")
+
+    @property
+    def left(self) -> list[Result]:
+        """The requests that may be sent again: those of :meth:`rest`."""
+        return self._with("left")
+
+    @property
+    def unknown(self) -> list[Result]:
+        """The requests of which nobody knows whether they were performed: those with 408, 502 or 504 that are not left."""
+        return self._with("unknown")
+
+    @property
+    def retry_after(self) -> float:
+        """For how many seconds the service asks to wait before the rest is sent: the greatest ``Retry-After`` of what
+        did not succeed (RFC 9110, section 10.2.3), up to then if it is a date; 0 if it asks for nothing."""
+        waits = {result.headers.get("retry-after") for result in self._found.values() if not result.is_success}
+        return max(map(seconds_of, filter(None, waits)), default=0.0)
 
     def raise_for_status(self) -> "Results":
         """Returns the results themselves if all requests are done; else raises :class:`BatchFailed`, which has an error for
@@ -145,8 +236,7 @@ class Results(ResultMap):
                 has created. The message says which.
             MemoryError: An allocation failed.
         """
-        batch: Batch = self._rest()
-        return batch
+        return self._rest()
 
 
 class BatchFailed(Exception):
@@ -157,9 +247,6 @@ class BatchFailed(Exception):
         errors: A :class:`RequestFailed` for each request that is not done, in the order of the batch.
     """
 
-    results: Results
-    errors: tuple[RequestFailed, ...]
-
     def __init__(self, results: Results) -> None:
         super().__init__(results)
         self.results = results
@@ -169,33 +256,31 @@ class BatchFailed(Exception):
         return str(self.results)
 
 
-def take_steps(steps: Generator[_Step, Any, _End], take: Callable[[_Step], Any]) -> _End:
-    """Calls a function for each step that a generator yields, which gets what that returns or raises; returns its end."""
-    try:
-        step = next(steps)
-        while True:
-            try:
-                taken = take(step)
-            except Exception as error:
-                step = steps.throw(error)
-            else:
-                step = steps.send(taken)
-    except StopIteration as end:
-        found: _End = end.value
-        return found
+def _result(request: Request, answer: Union[Answer, Result]) -> Result:
+    operation = f"{request.method} {request.url.partition('?')[0]}"
+    return Result(request.id, answer.status, dict(answer.headers), body_json(answer.body), operation)
 
 
-async def take_steps_async(steps: Generator[_Step, Any, _End], take: Callable[[_Step], Awaitable[Any]]) -> _End:
-    """Does what `take_steps` does by a coroutine function."""
+@types.coroutine
+def _ask(document: bytes) -> Any:
+    """Has the caller of the generator post a document."""
+    return (yield document)
+
+
+def as_coroutine(call: Callable[..., _T]) -> Callable[..., Awaitable[_T]]:
+    """Returns a coroutine function that calls a function, and waits for nothing else."""
+
+    async def called(*given: Any) -> _T:
+        return call(*given)
+
+    return called
+
+
+def run_at_once(coroutine: Coroutine[Any, None, _T]) -> _T:
+    """Returns what a coroutine returns that waits for functions alone."""
     try:
-        step = next(steps)
         while True:
-            try:
-                taken = await take(step)
-            except Exception as error:
-                step = steps.throw(error)
-            else:
-                step = steps.send(taken)
+            coroutine.send(None)
     except StopIteration as end:
-        found: _End = end.value
+        found: _T = end.value
         return found

@@ -23,8 +23,6 @@ class _Named:
         id: The name.
     """
 
-    __slots__ = ("id", "_origin")
-
     def __init__(self, name: str, origin: bytes) -> None:
         self.id, self._origin = name, origin
 
@@ -39,8 +37,6 @@ class Reference(_Named):
         id: The id of the request.
     """
 
-    __slots__ = ()
-
     def __str__(self) -> str:
         return "$" + self.id
 
@@ -52,8 +48,6 @@ class Group(_Named):
         id: The name of the group.
     """
 
-    __slots__ = ()
-
     def __str__(self) -> str:
         return self.id
 
@@ -62,8 +56,10 @@ class Group(_Named):
 Name = Union[Reference, Group, str]
 #: A URL or the value of a header: a text, or a request of the batch, whose reference it is then.
 Url = Union[str, Reference]
-#: The headers of a request.
-Headers = Mapping[str, Url]
+#: The headers of a request, if it has any.
+Headers = Optional[Mapping[str, Url]]
+#: The id of a request or the name of a group; None stands for one that is free.
+Id = Optional[str]
 #: What a request depends on: a request or a group, its name, or several of them.
 After = Union[Name, Iterable[Name]]
 
@@ -94,45 +90,28 @@ class Builder:
 
     # Adding requests
 
-    def get(
-        self, url: Url, *, after: After = (), headers: Optional[Headers] = None, id: Optional[str] = None
-    ) -> Reference:
+    def get(self, url: Url, *, after: After = (), headers: Headers = None, id: Id = None) -> Reference:
         """Adds a GET; see :meth:`request`."""
         return self.request("GET", url, after=after, headers=headers, id=id)
 
-    def post(
-        self, url: Url, body: Any = None, *, after: After = (), headers: Optional[Headers] = None, id: Optional[str] = None
-    ) -> Reference:
+    def post(self, url: Url, body: Any = None, *, after: After = (), headers: Headers = None, id: Id = None) -> Reference:
         """Adds a POST; see :meth:`request`."""
         return self.request("POST", url, body, after=after, headers=headers, id=id)
 
-    def put(
-        self, url: Url, body: Any = None, *, after: After = (), headers: Optional[Headers] = None, id: Optional[str] = None
-    ) -> Reference:
+    def put(self, url: Url, body: Any = None, *, after: After = (), headers: Headers = None, id: Id = None) -> Reference:
         """Adds a PUT; see :meth:`request`."""
         return self.request("PUT", url, body, after=after, headers=headers, id=id)
 
-    def patch(
-        self, url: Url, body: Any = None, *, after: After = (), headers: Optional[Headers] = None, id: Optional[str] = None
-    ) -> Reference:
+    def patch(self, url: Url, body: Any = None, *, after: After = (), headers: Headers = None, id: Id = None) -> Reference:
         """Adds a PATCH; see :meth:`request`."""
         return self.request("PATCH", url, body, after=after, headers=headers, id=id)
 
-    def delete(
-        self, url: Url, *, after: After = (), headers: Optional[Headers] = None, id: Optional[str] = None
-    ) -> Reference:
+    def delete(self, url: Url, *, after: After = (), headers: Headers = None, id: Id = None) -> Reference:
         """Adds a DELETE; see :meth:`request`."""
         return self.request("DELETE", url, after=after, headers=headers, id=id)
 
     def request(
-        self,
-        method: str,
-        url: Url,
-        body: Any = None,
-        *,
-        after: After = (),
-        headers: Optional[Headers] = None,
-        id: Optional[str] = None,
+        self, method: str, url: Url, body: Any = None, *, after: After = (), headers: Headers = None, id: Id = None
     ) -> Reference:
         """Adds a request, and returns the reference to it.
 
@@ -164,7 +143,7 @@ class Builder:
         return Reference(name, self._origin)
 
     @contextlib.contextmanager
-    def group(self, id: Optional[str] = None) -> Iterator[Group]:
+    def group(self, id: Id = None) -> Iterator[Group]:
         """Makes the requests that are added in its block an atomicity group: all of them are performed, or none.
 
         If the block ends by an exception, none of them is added.
@@ -193,7 +172,7 @@ class Builder:
         finally:
             self._group, self._names = None, names
 
-    def _id(self, request_id: Optional[str], prefix: str, count: int) -> str:
+    def _id(self, request_id: Id, prefix: str, count: int) -> str:
         """A name that was given; without one the first that is not taken, of a prefix and a greater number."""
         if request_id is not None:
             if not isinstance(request_id, str):

@@ -2,37 +2,14 @@
 
 import asyncio
 import time
-from typing import Any, Mapping, Optional
 
 from .._native.calls import Mode
-from ._batch import Batch, Results, take_steps, take_steps_async
+from ._batch import Batch, Results, as_coroutine, run_at_once
 from ._parts import MAX_REQUESTS
-from ._retry import Post, RetryPolicy, Step
-from ._transports import make_post
+from ._retry import Sender, Sending
 
 
-class _Sender:
-    """What both clients are made of."""
-
-    _is_async = False
-
-    def __init__(
-        self,
-        session: Any,
-        url: str = "",
-        *,
-        headers: Mapping[str, str] = {},
-        timeout: Optional[float] = 60.0,
-        attempts: int = 8,
-        deadline: Optional[float] = None,
-        backoff: float = 1.0,
-        repeatable: bool = True,
-    ) -> None:
-        self._session, self._post = session, make_post(session, url, self._is_async)
-        self._policy = RetryPolicy(headers, timeout, attempts, deadline, backoff, None if repeatable else False)
-
-
-class BatchClient(_Sender):
+class BatchClient(Sender):
     """Posts batches to a service, waits while it is busy, and sends again what may be sent again.
 
     A block of ``with`` closes the session at its end.
@@ -75,11 +52,8 @@ class BatchClient(_Sender):
         Raises:
             Fault, ValueError, TypeError, MemoryError: As by :meth:`Batch.send`. Nothing was sent after the first two.
         """
-        return take_steps(self._policy.steps(batch, limit, mode), self._take)
-
-    def _take(self, step: Step) -> Any:
-        """Waits, or posts and returns what that is answered."""
-        return self._post(*step) if isinstance(step, Post) else time.sleep(step)
+        sending = Sending(self, as_coroutine(self._post), as_coroutine(time.sleep), limit, mode)
+        return run_at_once(sending.send(batch))
 
     def close(self) -> None:
         """Closes the session, if it is no function."""
@@ -93,7 +67,7 @@ class BatchClient(_Sender):
         self.close()
 
 
-class AsyncBatchClient(_Sender):
+class AsyncBatchClient(Sender):
     """Does what :class:`BatchClient` does by an ``AsyncClient`` of httpx, or by a coroutine function. A block of ``async
     with`` closes the session at its end."""
 
@@ -101,10 +75,7 @@ class AsyncBatchClient(_Sender):
 
     async def send(self, batch: Batch, *, limit: int = MAX_REQUESTS, mode: Mode = "continue") -> Results:
         """Does what :meth:`BatchClient.send` does. If its task is cancelled, what was answered is lost."""
-        return await take_steps_async(self._policy.steps(batch, limit, mode), self._take)
-
-    async def _take(self, step: Step) -> Any:
-        return await (self._post(*step) if isinstance(step, Post) else asyncio.sleep(step))
+        return await Sending(self, self._post, asyncio.sleep, limit, mode).send(batch)
 
     async def aclose(self) -> None:
         """Closes the session, if it is no function."""

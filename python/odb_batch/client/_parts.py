@@ -3,19 +3,20 @@
 import contextlib
 import re
 from dataclasses import dataclass, field, replace
-from typing import Any, Iterable, Mapping, Optional
+from typing import Iterable, Mapping, Optional
 from urllib.parse import unquote
 
 from .._native.calls import MAX_WIDTH, Mode, policy_numbers
 from ..commands import PlannedRequest, check, match, plan
-from ..documents.encoding import document_bytes, json_bytes
+from ..documents.encoding import json_bytes
 from ..documents.requests import Request, requests
 from ..driver.groups import SKIPPED
 from ..driver.references import CONDITIONS, ReferenceResolver
 from ..errors.faults import Fault
 from ..http.batches import batch_json, read_answers, request_json
-from ..http.messages import BROKEN, LOG, TIMED_OUT, TIMEOUTS, Answer, Answered, Refusal, validate_answer
-from ._transports import is_named_timeout
+from ..http.bodies import to_json
+from ..http.messages import BROKEN, LOG, TIMED_OUT, Answer, Answered, Refusal
+from ._transports import is_timeout, to_answer
 
 # How many requests a batch may have.
 MAX_REQUESTS = 10_000
@@ -73,27 +74,23 @@ class Parts:
         if isinstance(limit, bool) or not isinstance(limit, int) or not 1 <= limit <= MAX_REQUESTS:
             raise ValueError(f"limit must be a whole number from 1 to {MAX_REQUESTS}, not {limit!r}")
         policy_numbers(mode, MAX_WIDTH)
-        given, planned = requests(document), plan(document).requests
+        given, self._plan = requests(document), plan(document)
         self.document, self._limit, self._mode = document, limit, mode
-        self._needs = {request.id: request.needs for request in planned}
-        self._groups = {request.id: request.group for request in planned}
         self._requests = {request.id: request for request in given}
-        self._units = units_of(planned)
+        self._units = units_of(self._plan)
         for unit in self._units:
             if len(unit.ids) > limit:
                 raise ValueError(f"the group {unit.group} has {len(unit.ids)} requests, and a batch may have {limit}")
         self._resolver = ReferenceResolver(given)
-        self.answers: dict[str, Answer] = dict.fromkeys(self._needs, SKIPPED)
+        self.answers: dict[str, Answer] = dict.fromkeys(self._requests, SKIPPED)
         self.error: Optional[Exception] = None
-        # Those to which others refer, of those that have succeeded.
-        self._referred: list[str] = []
-        # The number of the next unit, and of those that have succeeded or are in the part that is out.
-        self._at = 0
+        # The number of the next unit, and whether that is not sent any more.
+        self._at, self._is_stopped = 0, False
+        # The numbers of those that have succeeded or are in the part that is out.
         self._sound: set[int] = set()
         # The part that is out, and the numbers of its units.
         self._part = b""
         self._out: list[int] = []
-        self._is_stopped = False
         # Then it is sent as it is. A condition may refer to what is not answered yet, so that its request is not sent.
         conditions = (request.headers.get(name, "") for request in given for name in CONDITIONS)
         self._is_one_part = len(given) <= limit and not any(value.startswith("$") for value in conditions)
@@ -123,10 +120,8 @@ class Parts:
                     self._out.append(self._at)
                     self._sound.add(self._at)
             self._at += 1
-        if not elements:
-            return None
         self._part = batch_json(elements)
-        return self._part
+        return self._part if elements else None
 
     def _elements(self, unit: Unit, names: set[str]) -> list[bytes]:
         """The texts of the requests of a unit; adds its names to those of the part. Dependencies on other parts, which
@@ -136,7 +131,7 @@ class Parts:
         for request_id in unit.ids:
             given, headers = self._requests[request_id], self._resolver.headers(request_id, names)
             request = replace(given, url=self._url(given, names), headers=headers)
-            found.append(request_json(request, [name for name in self._needs[request_id] if name in names]))
+            found.append(request_json(request, [name for name in self._plan.request(request_id).needs if name in names]))
         return found
 
     def _url(self, given: Request, names: set[str]) -> str:
@@ -159,17 +154,12 @@ class Parts:
         Raises:
             TypeError: It is not a status with headers and the bytes of a body.
         """
-        if not isinstance(answered, (Answer, tuple, list)):
-            kind = type(answered).__name__
-            raise TypeError(f"post must return (status, headers, body), or a response of requests or httpx, not a {kind}")
-        answer = validate_answer(answered)
-        text = b"" if answer.body is None else document_bytes(answer.body)
-        answer = replace(answer, body=text)
+        answer = to_answer(answered)
         if not answer.is_success:
             self._end(answer)
             return
+        text = to_json(answer, {})
         try:
-            text = text[3:] if text.startswith(b"\xef\xbb\xbf") else text
             match(self._part, text, mode=self._mode)
             found = read_answers(text)
         except ValueError as error:
@@ -182,10 +172,8 @@ class Parts:
         """Takes the exception by which the part that is out was not answered."""
         self.error = error
         LOG.error("a part of the batch was not answered", exc_info=error)
-        if isinstance(error, Refusal):
-            self._end(error.answer)
-        else:
-            self._end(TIMED_OUT if _is_timeout(error) else BROKEN)
+        in_place = TIMED_OUT if is_timeout(error) else BROKEN
+        self._end(error.answer if isinstance(error, Refusal) else in_place)
 
     def _end(self, answer: Answer) -> None:
         """Gives each request of the part that is out the same answer. Nothing more is sent."""
@@ -202,7 +190,6 @@ class Parts:
                 self._sound.discard(number)
             elif request_id in self._resolver.referred:
                 self._resolver.record(request_id, answer)
-                self._referred.append(request_id)
         if self._mode == "stop" and self._is_error(unit):
             self._is_stopped = True
 
@@ -218,25 +205,15 @@ class Parts:
     def responses(self) -> bytes:
         """Returns the responses to the whole batch, as :func:`~odb_batch.match` accepts them: their statuses, and of
         what others refer to the URL and the ETag."""
-        found: dict[str, dict[str, Any]] = {}
+        responses = []
         for request_id, answer in self.answers.items():
-            group = self._groups[request_id]
-            found[request_id] = {"id": request_id, "status": answer.status, "atomicityGroup": group, "headers": {}}
-        for request_id in self._referred:
-            for name, of in (("location", self._resolver.location), ("etag", self._resolver.etag)):
-                with contextlib.suppress(Refusal):
-                    found[request_id]["headers"][name] = of(request_id)
-        return json_bytes({"responses": list(found.values())})
-
-
-def _is_timeout(error: BaseException) -> bool:
-    """Whether an exception is a timeout, or comes from one: clients of HTTP raise exceptions of their own then."""
-    chain: list[BaseException] = []
-    found: Optional[BaseException] = error
-    while found is not None and found not in chain:
-        chain.append(found)
-        found = found.__cause__ or found.__context__
-    return any(isinstance(raised, TIMEOUTS) or is_named_timeout(type(raised)) for raised in chain)
+            group, headers = self._requests[request_id].group, {}
+            if answer.is_success and request_id in self._resolver.referred:
+                for name, of in (("location", self._resolver.location), ("etag", self._resolver.etag)):
+                    with contextlib.suppress(Refusal):
+                        headers[name] = of(request_id)
+            responses.append({"id": request_id, "status": answer.status, "atomicityGroup": group, "headers": headers})
+        return json_bytes({"responses": responses})
 
 
 def is_plain(url: str) -> bool:

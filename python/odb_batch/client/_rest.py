@@ -28,8 +28,7 @@ def rest_document(batch: bytes, responses: bytes) -> bytes:
             request may have.
         MemoryError: An allocation failed.
     """
-    given = json.loads(responses)["responses"]
-    recorded: dict[str, dict[str, str]] = {response["id"]: response.get("headers", {}) for response in given}
+    recorded = {response["id"]: response.get("headers", {}) for response in json.loads(responses)["responses"]}
     try:
         document = commands.rest(batch, responses)
     except Fault as fault:

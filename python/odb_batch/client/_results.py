@@ -5,15 +5,9 @@ import json
 import time
 from dataclasses import dataclass
 from datetime import timezone
-from functools import cached_property
-from typing import Any, Callable, Iterator, Literal, Mapping, Optional, TypeVar, Union, get_args, overload
+from typing import Any, Callable, Literal, Optional, TypeVar, overload
 
-from .. import commands
-from ..documents.encoding import body_json, json_bytes
-from ..documents.requests import Request
-from ..http.messages import Answer
 from ..values import Value
-from ._builder import Builder, Reference
 
 _Self = TypeVar("_Self", bound="Result")
 _T = TypeVar("_T")
@@ -24,9 +18,6 @@ Outcome = Literal["done", "failed", "left", "unknown"]
 
 #: After these statuses nobody knows whether a request was performed.
 UNSURE = frozenset({408, 502, 504})
-
-# How many requests that are not done a text lists.
-_MAX_LISTED = 20
 
 
 @dataclass(frozen=True)
@@ -90,8 +81,6 @@ class RequestFailed(Exception):
         result: What the request was answered.
     """
 
-    result: Result
-
     def __init__(self, result: Result) -> None:
         super().__init__(result)
         self.result = result
@@ -110,95 +99,6 @@ def _error_text(body: bytes) -> str:
         return ""
 
 
-class ResultMap(Mapping[str, Result]):
-    """What :class:`Results` are but for the batch of the rest.
-
-    Args:
-        batch: What the requests were added to.
-        document: The batch.
-        answers: What each request was answered, by its id.
-        rest: Returns the batch of the rest.
-    """
-
-    error: Optional[Exception]
-    reason: str
-
-    def __init__(
-        self,
-        batch: Builder,
-        document: bytes,
-        answers: Mapping[str, Answer],
-        rest: Callable[[], Any],
-        error: Optional[Exception] = None,
-        reason: str = "",
-    ) -> None:
-        self._batch, self._document, self._rest, self.error, self.reason = batch, document, rest, error, reason
-        found = {request.id: request for request, _ in batch._requests}
-        self._groups = {request_id: found[request_id].group for request_id in answers}
-        self._found = {request_id: _result(found[request_id], answer) for request_id, answer in answers.items()}
-
-    def __getitem__(self, request: Union[Reference, str]) -> Result:
-        return self._found[self._batch._name(request)]
-
-    def __iter__(self) -> Iterator[str]:
-        return iter(self._found)
-
-    def __len__(self) -> int:
-        return len(self._found)
-
-    def __repr__(self) -> str:
-        return f"<Results: {', '.join(f'{result.id} {result.status}' for result in self._found.values())}>"
-
-    def __str__(self) -> str:
-        counts = {outcome: len(self._with(outcome)) for outcome in get_args(Outcome)}
-        words = ", ".join(f"{count} {outcome}" for outcome, count in counts.items() if count or outcome == "done")
-        rest = ((outcome, self._found[name]) for name, outcome in self._outcomes.items() if outcome != "done")
-        lines = [f"{outcome}: {RequestFailed(result)}" for outcome, result in rest]
-        more = [f"and {len(lines) - _MAX_LISTED} more"] if len(lines) > _MAX_LISTED else []
-        why = f" ({self.reason})" if self.reason else ""
-        return "\n".join([f"{len(self)} requests: {words}{why}", *lines[:_MAX_LISTED], *more])
-
-    @cached_property
-    def _outcomes(self) -> dict[str, Outcome]:
-        return _classify(self._document, self._groups, {result.id: result.status for result in self._found.values()})
-
-    def _with(self, outcome: Outcome) -> list[Result]:
-        return [result for result in self._found.values() if self._outcomes[result.id] == outcome]
-
-    @property
-    def done(self) -> list[Result]:
-        """The requests that were performed: answered from 200 to 299, as all others of their group."""
-        return self._with("done")
-
-    @property
-    def failed(self) -> list[Result]:
-        """The requests that were answered for good by another status, or depend on one that is failed or unknown."""
-        return self._with("failed")
-
-    @property
-    def left(self) -> list[Result]:
-        """The requests that may be sent again: those of :meth:`rest`."""
-        return self._with("left")
-
-    @property
-    def unknown(self) -> list[Result]:
-        """The requests of which nobody knows whether they were performed: those with 408, 502 or 504 that are not left."""
-        return self._with("unknown")
-
-    @property
-    def retry_after(self) -> float:
-        """For how many seconds the service asks to wait before the rest is sent: the greatest ``Retry-After`` of what
-        did not succeed (RFC 9110, section 10.2.3), up to then if it is a date; 0 if it asks for nothing."""
-        waits = {result.headers.get("retry-after") for result in self._found.values() if not result.is_success}
-        return max(map(seconds_of, filter(None, waits)), default=0.0)
-
-
-def _result(request: Request, answer: Answer) -> Result:
-    body = answer.body if isinstance(answer.body, bytes) else body_json(answer.body)
-    operation = f"{request.method} {request.url.partition('?')[0]}"
-    return Result(request.id, answer.status, dict(answer.headers), body, operation)
-
-
 def seconds_of(value: str) -> float:
     """Returns how many seconds a Retry-After asks for: a number, or the time up to a date; 0 if it is neither. It may be
     any text. Of numbers, 2**31 stands for greater ones (RFC 9111, section 1.2.2)."""
@@ -209,30 +109,3 @@ def seconds_of(value: str) -> float:
     except (TypeError, ValueError, OverflowError):
         return 0.0
     return max((at if at.tzinfo else at.replace(tzinfo=timezone.utc)).timestamp() - time.time(), 0.0)
-
-
-def _classify(document: bytes, groups: Mapping[str, Optional[str]], statuses: Mapping[str, int]) -> dict[str, Outcome]:
-    """What became of each request, by its id; likewise its group, or None, and the status that it was answered."""
-    left = _resendable_ids(document, groups, statuses)
-    undone = {groups[request_id] for request_id, status in statuses.items() if not 200 <= status <= 299} - {None}
-    found: dict[str, Outcome] = {}
-    for request_id, status in statuses.items():
-        if request_id in left:
-            found[request_id] = "left"
-        elif 200 <= status <= 299 and groups[request_id] not in undone:
-            found[request_id] = "done"
-        else:
-            found[request_id] = "unknown" if status in UNSURE else "failed"
-    return found
-
-
-def _resendable_ids(document: bytes, groups: Mapping[str, Optional[str]], statuses: Mapping[str, int]) -> list[str]:
-    """The ids of the rest. Any Location does for them."""
-    if all(200 <= status <= 299 for status in statuses.values()):
-        return []
-    common: dict[str, Any] = {"headers": {"location": "x"}}
-    responses = [
-        {"id": request_id, "status": status, "atomicityGroup": groups[request_id], **common}
-        for request_id, status in statuses.items()
-    ]
-    return [request.id for request in commands.plan(commands.rest(document, json_bytes({"responses": responses})))]

@@ -1,20 +1,22 @@
-"""A batch that is sent until nothing is left: what is posted, what is waited for, and when that ends. It does neither."""
+"""A batch that is sent until nothing is left: what is posted, what is waited for, and when that ends."""
 
 import email.utils
 import random
 import time
 import uuid
-from dataclasses import dataclass
-from typing import Any, Generator, Mapping, NamedTuple, Optional, Union
+from typing import Any, Awaitable, Callable, Mapping, Optional, Union
 
 from .._native.calls import Mode
 from ..commands import match
-from ..documents.encoding import document_bytes
 from ..http.batches import batch_json
-from ..http.messages import LOG, Answer, Refusal, header_dict, validate_answer
+from ..http.bodies import to_json
+from ..http.messages import LOG, Answer, Refusal, header_dict
 from ._batch import Batch, Results, batch_headers
-from ._results import UNSURE, seconds_of
-from ._transports import is_unsent, read_response
+from ._results import UNSURE, Result, seconds_of
+from ._transports import PostFunction, is_unsent, make_post, read_response, to_answer
+
+#: Waits for so many seconds.
+Sleep = Callable[[float], Awaitable[Any]]
 
 ID, FIRST_SENT, RESULT = "repeatability-request-id", "repeatability-first-sent", "repeatability-result"
 # By how many seconds a wait is longer than the service asks for, at most; and what it may ask for.
@@ -26,98 +28,59 @@ _SETTLES_NOTHING = UNSURE | {424, 429, 503}
 _GIVEN_UP = frozenset({400, 412, 422, 501})
 
 
-class Post(NamedTuple):
-    """A document that is to be posted now. The client of HTTP may take so many seconds for it; None if it has no bound."""
+class Sender:
+    """What the clients are made of: how batches are sent, and what was learnt of the service."""
 
-    document: bytes
-    headers: dict[str, str]
-    seconds: Optional[float]
+    _is_async = False
 
-
-#: What is to be done next: to post, and to send back what was answered or raised; or to wait for so many seconds.
-Step = Union[Post, float]
-
-
-class _Attempt(NamedTuple):
-    """What a part was answered, or the exception in place of it; with a status, 0 if nobody knows any, and headers."""
-
-    value: Any
-    status: int = 0
-    headers: Mapping[str, str] = {}
-
-    @property
-    def is_success(self) -> bool:
-        return 200 <= self.status <= 299
-
-    def is_rejected(self, *statuses: int) -> bool:
-        """Whether a service that keeps batches has rejected one, by one of some statuses."""
-        return self.status in statuses and self.headers.get(RESULT) == "rejected"
-
-    @property
-    def is_lost(self) -> bool:
-        """Whether nobody knows if the part was performed, or it is being performed."""
-        return self.status == 0 or self.status in UNSURE or self.is_rejected(409)
-
-
-@dataclass
-class RetryPolicy:
-    """How a client sends batches, and what it has learnt of its service.
-
-    Attributes:
-        keeps: Whether the service keeps a part, so that it may be posted again; None while that is not known. The other
-            attributes are those of the client.
-
-    Raises:
-        ValueError: An option has a value that it may not have.
-    """
-
-    headers: Mapping[str, str]
-    timeout: Optional[float]
-    attempts: int
-    deadline: Optional[float]
-    backoff: float
-    keeps: Optional[bool]
-
-    def __post_init__(self) -> None:
-        if isinstance(self.attempts, bool) or not isinstance(self.attempts, int) or self.attempts < 1:
-            raise ValueError(f"attempts must be a whole number from 1, not {self.attempts!r}")
-        for name, seconds in (("timeout", self.timeout), ("deadline", self.deadline)):
+    def __init__(
+        self,
+        session: Any,
+        url: str = "",
+        *,
+        headers: Mapping[str, str] = {},
+        timeout: Optional[float] = 60.0,
+        attempts: int = 8,
+        deadline: Optional[float] = None,
+        backoff: float = 1.0,
+        repeatable: bool = True,
+    ) -> None:
+        self._session, self._post = session, make_post(session, url, self._is_async)
+        if isinstance(attempts, bool) or not isinstance(attempts, int) or attempts < 1:
+            raise ValueError(f"attempts must be a whole number from 1, not {attempts!r}")
+        for name, seconds in (("timeout", timeout), ("deadline", deadline)):
             if seconds is not None and not seconds > 0:
                 raise ValueError(f"{name} must be a number of seconds above 0, or None, not {seconds!r}")
-        if not self.backoff >= 0:
-            raise ValueError(f"backoff must be a number of seconds from 0, not {self.backoff!r}")
-        self.headers = header_dict(self.headers.items())
-
-    def steps(self, batch: Batch, limit: int, mode: Mode) -> Generator[Step, Any, Results]:
-        """Yields what is to be done until nothing is left, or nothing more is to be sent. The value in the end is the
-        results of all sends."""
-        return _Sending(self, limit, mode).steps(batch)
+        if not backoff >= 0:
+            raise ValueError(f"backoff must be a number of seconds from 0, not {backoff!r}")
+        self._timeout, self._attempts, self._deadline, self._backoff = timeout, attempts, deadline, backoff
+        self._headers = header_dict(headers.items())
+        # Whether the service keeps a part, so that it may be posted again; None while that is not known.
+        self._keeps = None if repeatable else False
 
 
-class _Sending:
-    """A batch on its way."""
+class Sending:
+    """A batch on its way. What posts and what sleeps are coroutine functions."""
 
-    def __init__(self, policy: RetryPolicy, limit: int, mode: Mode) -> None:
-        self._policy, self._limit, self._mode = policy, limit, mode
-        self._end = time.monotonic() + (float("inf") if policy.deadline is None else policy.deadline)
+    def __init__(self, client: Sender, post: PostFunction, sleep: Sleep, limit: int, mode: Mode) -> None:
+        self._client, self._post, self._sleep, self._limit, self._mode = client, post, sleep, limit, mode
+        self._end = time.monotonic() + (float("inf") if client._deadline is None else client._deadline)
         # How many attempts in a row have brought nothing, and whether the one that is on its way has brought anything.
         self._idle, self._moved = 0, False
         # Why nothing more is sent.
         self._reason = ""
 
-    def steps(self, batch: Batch) -> Generator[Step, Any, Results]:
-        answers: dict[str, Answer] = {}
+    async def send(self, batch: Batch) -> Results:
+        """Sends a batch until nothing is left, or nothing more is to be sent. Returns the results of all sends."""
+        answers: dict[str, Union[Answer, Result]] = {}
         left, document, error = batch, batch.document(), None
         while True:
-            results = yield from self._in_parts(left)
-            answers.update((result.id, Answer(result.status, result.headers, result.body)) for result in results.values())
+            results = await left.send_async(self._send_part, limit=self._limit, mode=self._mode)
+            answers.update(results)
             error = results.error or error
             rest = self._next(results)
-            seconds = self._pause(results.retry_after) if rest else None
-            if rest is None or seconds is None:
+            if rest is None or not await self._pause(results.retry_after, f"{len(rest)} requests are sent again"):
                 return Results(batch, document, answers, results.rest, error, self._reason)
-            LOG.info("%d requests are sent again in %.1f seconds", len(rest), seconds)
-            yield seconds
             left = rest
 
     def _next(self, results: Results) -> Optional[Batch]:
@@ -129,108 +92,102 @@ class _Sending:
             rest = results.rest()
         except ValueError as error:
             self._reason = self._reason or str(error)
-            return None
         return None if self._reason else rest or None
 
-    def _in_parts(self, batch: Batch) -> Generator[Step, Any, Results]:
-        """Sends a batch once."""
-        parts = batch.exchange(limit=self._limit, mode=self._mode)
-        try:
-            document = next(parts)
-            while True:
-                answered = yield from self._answered(document)
-                document = parts.throw(answered) if isinstance(answered, Exception) else parts.send(answered)
-        except StopIteration as end:
-            results: Results = end.value
-            return results
-
-    def _answered(self, part: bytes) -> Generator[Step, Any, Any]:
-        """What a part is answered, or the exception in place of it. It is posted again only under the id that the service
-        keeps it by: until then nobody knows whether it was performed."""
+    async def _send_part(self, part: bytes) -> Any:
+        """What a part is answered; raises the exception in place of it. It is posted again only under the id that the
+        service keeps it by: until then nobody knows whether it was performed."""
         given, lost = self._headers(), None
         while True:
-            asks = lost is not None and self._policy.keeps is None
-            document, sent = (_NOTHING, self._headers()) if asks else (part, given)
-            try:
-                posted = yield Post(document, sent, self._seconds())
-            except Exception as error:
-                tried = _attempt_of(error)
-            else:
-                tried = self._read(document, sent, posted)
-            if tried.is_success:
+            asks = lost is not None and self._client._keeps is None
+            answer, found = await (self._try(_NOTHING, self._headers()) if asks else self._try(part, given))
+            is_lost = answer.status in UNSURE | {0} or _is_rejected(answer, 409)
+            if answer.is_success:
                 if not asks:
-                    return tried.value
-                if self._policy.keeps:
+                    return found
+                if self._client._keeps:
                     continue
-            elif lost is None and ID in given and tried.is_rejected(501):
+            elif lost is None and ID in given and _is_rejected(answer, 501):
                 given = self._headers()
                 continue
-            elif lost is None and not tried.is_lost:
-                if tried.status < 500 and tried.status not in _SETTLES_NOTHING:
-                    self._reason = f"a part was answered {tried.status} as a whole"
-                return tried.value
-            lost = lost or (TimeoutError("the part is being performed") if tried.status == 409 else tried.value)
-            if self._policy.keeps is False or tried.is_rejected(*_GIVEN_UP):
-                return lost
-            seconds = self._pause(seconds_of(tried.headers.get("retry-after", "")))
-            if seconds is None:
-                return lost
-            LOG.info("a part is posted again in %.1f seconds: %s", seconds, tried.status or repr(tried.value))
-            yield seconds
+            elif lost is None and not is_lost:
+                if answer.status < 500 and answer.status not in _SETTLES_NOTHING:
+                    self._reason = f"a part was answered {answer.status} as a whole"
+                return _unwrap(found)
+            lost = lost or (TimeoutError("the part is being performed") if answer.status == 409 else found)
+            is_over = self._client._keeps is False or _is_rejected(answer, *_GIVEN_UP)
+            asked, why = seconds_of(answer.headers.get("retry-after", "")), f": {answer.status or repr(found)}"
+            if is_over or not await self._pause(asked, "a part is posted again", why):
+                return _unwrap(lost)
 
     def _headers(self) -> dict[str, str]:
         """The headers of a part; unless the service keeps none, with an id of its own and the date."""
-        found = {**header_dict(batch_headers(self._mode).items()), **self._policy.headers}
-        if self._policy.keeps is not False:
+        found = {**header_dict(batch_headers(self._mode).items()), **self._client._headers}
+        if self._client._keeps is not False:
             found.update({ID: str(uuid.uuid4()), FIRST_SENT: email.utils.formatdate(usegmt=True)})
         return found
 
-    def _read(self, document: bytes, sent: Mapping[str, str], posted: Any) -> _Attempt:
-        """What a document was answered. What is no answer is refused where it is taken."""
-        found = read_response(posted)
-        if not isinstance(found, (Answer, tuple, list)):
-            return _Attempt(posted, 200)
-        answer = validate_answer(found)
-        self._learn(sent, _Attempt(answer, answer.status, answer.headers))
+    async def _try(self, document: bytes, headers: dict[str, str]) -> tuple[Answer, Any]:
+        """Posts a document. Returns what it is answered, of status 0 if nobody knows; and that as it is to be taken, or the
+        exception in place of it."""
+        seconds = min(self._client._timeout or self._end, max(self._end - time.monotonic(), 0.001))
+        try:
+            found = read_response(await self._post(document, headers, None if seconds == float("inf") else seconds))
+        except Exception as error:
+            return _stand_in(error)
+        try:
+            answer = to_answer(found)
+        except TypeError:
+            return Answer(200), found  # which is refused where it is taken
+        if ID in headers:
+            self._learn(answer)
         if answer.is_success:
-            text = b"" if answer.body is None else document_bytes(answer.body)
             try:
-                statuses = match(document, text[3:] if text.startswith(b"\xef\xbb\xbf") else text, mode=self._mode)
+                statuses = match(document, to_json(answer, {}), mode=self._mode)
             except ValueError as error:
-                return _Attempt(error)
+                return _stand_in(error)
             self._moved = self._moved or not _SETTLES_NOTHING.issuperset(statuses.values())
-        return _Attempt(answer, answer.status, answer.headers)
+        return answer, answer
 
-    def _learn(self, sent: Mapping[str, str], tried: _Attempt) -> None:
+    def _learn(self, answer: Answer) -> None:
         """Notes whether the service keeps what it is posted. Once it has said so, a page of a proxy says nothing else."""
-        result, is_known = tried.headers.get(RESULT), self._policy.keeps is not None
-        if ID in sent and result == "accepted":
-            self._policy.keeps = True
-        elif ID in sent and (tried.is_rejected(501) or (tried.is_success and result is None and not is_known)):
-            self._policy.keeps = False
+        result = answer.headers.get(RESULT)
+        if result == "accepted":
+            self._client._keeps = True
+        elif _is_rejected(answer, 501) or (answer.is_success and result is None and self._client._keeps is None):
+            self._client._keeps = False
 
-    def _seconds(self) -> Optional[float]:
-        """How long an answer is waited for."""
-        found = min(self._policy.timeout or self._end, max(self._end - time.monotonic(), 0.001))
-        return None if found == float("inf") else found
-
-    def _pause(self, asked: float) -> Optional[float]:
-        """Returns for how many seconds to wait before more is posted; None if nothing more is, and notes why."""
-        policy = self._policy
+    async def _pause(self, asked: float, what: str, why: str = "") -> bool:
+        """Waits before more is posted. Returns False if nothing more is, and notes why."""
         self._idle, self._moved = 0 if self._moved else self._idle + 1, False
-        seconds = asked + random.uniform(0, min(policy.backoff * 2.0 ** min(self._idle, 9), _MAX_BACKOFF))
-        if self._idle >= policy.attempts:
-            self._reason = f"the last {policy.attempts} attempts have brought nothing"
+        seconds = asked + random.uniform(0, min(self._client._backoff * 2.0 ** min(self._idle, 9), _MAX_BACKOFF))
+        if self._idle >= self._client._attempts:
+            self._reason = f"the last {self._client._attempts} attempts have brought nothing"
         elif asked > _MAX_ASKED:
             self._reason = f"the service asks to wait {asked:.0f} seconds"
         elif time.monotonic() + seconds >= self._end:
-            self._reason = f"the deadline of {policy.deadline} seconds is over"
-        return None if self._reason else seconds
+            self._reason = f"the deadline of {self._client._deadline} seconds is over"
+        else:
+            LOG.info("%s in %.1f seconds%s", what, seconds, why)
+            await self._sleep(seconds)
+        return not self._reason
 
 
-def _attempt_of(error: Exception) -> _Attempt:
-    """What an exception says. Without a connection nothing was performed: that is a 503."""
+def _stand_in(error: Exception) -> tuple[Answer, Exception]:
+    """What an exception says, and that. Without a connection nothing was performed: that is a 503."""
     if is_unsent(error):
         unreachable = Refusal(503, "Unreachable", f"there is no connection: {error}")
         unreachable.__cause__, error = error, unreachable
-    return _Attempt(error, error.answer.status, error.answer.headers) if isinstance(error, Refusal) else _Attempt(error)
+    return error.answer if isinstance(error, Refusal) else Answer(0), error
+
+
+def _unwrap(found: Any) -> Any:
+    """Returns what is to be taken, or raises the exception in place of it."""
+    if isinstance(found, Exception):
+        raise found
+    return found
+
+
+def _is_rejected(answer: Answer, *statuses: int) -> bool:
+    """Whether a service that keeps batches has rejected one, by one of some statuses."""
+    return answer.status in statuses and answer.headers.get(RESULT) == "rejected"

@@ -1,8 +1,10 @@
 """What a function that posts a batch may return, and the exceptions of clients of HTTP that are timeouts."""
 
+from dataclasses import replace
 from typing import Any, Callable, Mapping, Optional, Protocol, Union
 
-from ..http.messages import Answer, Answered
+from ..documents.encoding import document_bytes
+from ..http.messages import TIMEOUTS, Answer, Answered, validate_answer
 
 # The classes of requests, of httpx and httpcore, and of urllib3, in which a refused connection is a TimeoutError as well.
 # The timeouts of aiohttp are timeouts of Python, too.
@@ -60,22 +62,41 @@ def make_post(session: Any, url: str, is_async: bool) -> PostFunction:
 def read_response(posted: Any) -> Any:
     """Returns the status, the headers and the body of a response, and anything else unchanged. Raises what the client of
     HTTP raises if it cannot read the body."""
-    if isinstance(posted, (Answer, tuple, list)):
-        return posted
     try:
         return posted.status_code, posted.headers, posted.content
     except AttributeError:
         return posted
 
 
-def is_named_timeout(kind: type[BaseException]) -> bool:
-    """Returns whether a class of exceptions, or a base of it, is named as clients of HTTP name their timeouts. No such
-    client is imported for that, since none may be installed."""
-    return any(base.__name__ in _TIMEOUTS for base in kind.__mro__)
+def to_answer(answered: Any) -> Answer:
+    """Returns what a batch was answered, with the bytes of its body.
+
+    Raises:
+        TypeError: It is not a status with headers and the bytes of a body.
+    """
+    if not isinstance(answered, (Answer, tuple, list)):
+        kind = type(answered).__name__
+        raise TypeError(f"post must return (status, headers, body), or a response of requests or httpx, not a {kind}")
+    answer = validate_answer(answered)
+    return replace(answer, body=b"" if answer.body is None else document_bytes(answer.body))
+
+
+def is_timeout(error: BaseException) -> bool:
+    """Returns whether an exception is a timeout, or comes from one: clients of HTTP raise exceptions of their own then."""
+    chain: list[BaseException] = []
+    found: Optional[BaseException] = error
+    while found is not None and found not in chain:
+        chain.append(found)
+        found = found.__cause__ or found.__context__
+    return any(isinstance(raised, TIMEOUTS) or not _TIMEOUTS.isdisjoint(_class_names(raised)) for raised in chain)
 
 
 def is_unsent(error: BaseException) -> bool:
     """Returns whether an exception, or the reason that it gives, says that there was no connection, so nothing was sent."""
     given = error.args[0] if error.args else None
-    kinds = (type(raised) for raised in (error, given, getattr(given, "reason", None)))
-    return any(base.__name__ in _UNSENT for kind in kinds for base in kind.__mro__)
+    return any(not _UNSENT.isdisjoint(_class_names(raised)) for raised in (error, given, getattr(given, "reason", None)))
+
+
+def _class_names(value: Any) -> list[str]:
+    """The names of the class of a value and of its bases: no client of HTTP is imported, since none may be installed."""
+    return [base.__name__ for base in type(value).__mro__]
