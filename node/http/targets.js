@@ -2,7 +2,7 @@
 
 // Where the requests of a batch are sent: below roots, which the library sees to, or anywhere.
 
-const { DONE, callError } = require('../errors/faults.js')
+const { callError } = require('../errors/faults.js')
 const { Refusal } = require('../errors/refusals.js')
 const library = require('../library/index.js')
 const { decodePart } = require('./urls.js')
@@ -12,7 +12,9 @@ const REFUSED = [31, 32]
 
 // What a URL without scheme, host and leading slash is joined to, where there is no base.
 const NOWHERE = 'relative://nowhere/'
+const SURROGATE = /[\ud800-\udfff]/
 const LONE_SURROGATE = /\p{Surrogate}/u
+const NOTHING = new Uint8Array()
 // What `URL` leaves in a path, and no URL has.
 const NOT_IN_PATHS = /[[\]^|]/g
 
@@ -22,6 +24,15 @@ function unreadable() {
 
 function isAbsolute(url) {
   return /^[a-z][a-z0-9+.-]*:/i.test(url)
+}
+
+/** Whether a text has half of a surrogate pair. */
+function hasHalf(text) {
+  return SURROGATE.test(text) && LONE_SURROGATE.test(text)
+}
+
+function bytesOf(text) {
+  return text === '' ? NOTHING : Buffer.from(text)
 }
 
 /** A URL that is relative to another one, which is absolute. */
@@ -84,7 +95,7 @@ class ServiceTargets {
   /** URLs are relative to `base`; without it they are absolute. Each begins with one of `roots`. All of these end with a slash. */
   constructor(base, roots) {
     const parts = roots.map((root) => rootParts('roots', root))
-    this.#base = Buffer.from(base === '' ? '' : rootParts('base', base).join(''))
+    this.#base = bytesOf(base === '' ? '' : rootParts('base', base).join(''))
     this.#roots = Buffer.from(parts.map((it) => it.join('')).join('\n'))
     this.#hosts = Buffer.from(parts.map(([host]) => `${host}/`).join('\n'))
     this.#path = decodePart(parts[0][1])
@@ -107,10 +118,10 @@ class ServiceTargets {
   }
 
   #resolve(base, roots, url, { sent = '', location = '', given = '' } = {}) {
-    if (LONE_SURROGATE.test(url) || LONE_SURROGATE.test(location)) throw unreadable()
-    const [status, text] = library.resolve(base, roots, Buffer.from(url), Buffer.from(sent), Buffer.from(location))
-    if (status === DONE) return text.toString()
-    throw REFUSED.includes(status) ? this.#outside(given) : callError('resolve', status, text)
+    if (hasHalf(url) || hasHalf(location)) throw unreadable()
+    const found = library.resolve(base, roots, bytesOf(url), bytesOf(sent), bytesOf(location))
+    if (typeof found === 'string') return found
+    throw REFUSED.includes(found) ? this.#outside(given) : callError('resolve', found)
   }
 
   #outside(given) {
@@ -129,7 +140,7 @@ class AnyTargets {
   }
 
   target(url) {
-    if (LONE_SURROGATE.test(url)) throw unreadable()
+    if (hasHalf(url)) throw unreadable()
     if (this.#base === undefined) return url
     const found = joinUrl(url, this.#base)
     found.hash = ''

@@ -192,7 +192,8 @@ function commandCalls(use, seed) {
         const given = instance.put(take, texts)
         return instance.writeText(take, totalLength(texts) + MORE, (text) => instance.call('odb_resolve', ...given, 0, ...text))
       }))
-      return answer ?? [OUT_OF_MEMORY, Buffer.from(NOTHING)]
+      const [status, url] = answer ?? [OUT_OF_MEMORY]
+      return status === DONE ? url.toString() : status
     },
 
     requests: (batch) => callList(use, seed, 'odb_requests', OF_REQUEST, batch),

@@ -99,8 +99,8 @@ const INSIDE = [
 ]
 const OUTSIDE = [
   '/admin', '../admin', '/%6fdata/Books', '%2e%2e/admin', '..%2fadmin', 'a/..%5c..%5cadmin', '..;/admin', '/odata',
-  '//169.254.169.254/odata/', 'http://169.254.169.254/', 'https://h/odata/Books', 'http://h:81/odata/Books', '\\\\other\\odata\\', 'file:///odata/Books',
-  'http://h@other/odata/', 'http://u:p@h/odata/Books', 'http://u@h/odata/Books', 'Books%00', 'Books%0d%0aX',
+  '//169.254.169.254/odata/', 'http://169.254.169.254/', 'https://h/odata/Books', 'http://h:81/odata/Books', '\\\\other\\odata\\',
+  'file:///odata/Books', 'http://h@other/odata/', 'http://u:p@h/odata/Books', 'http://u@h/odata/Books', 'Books%00', 'Books%0d%0aX',
 ]
 
 test('keeps requests in the service of the base', async () => {

@@ -45,6 +45,11 @@ for (const it of cases) {
   })
 }
 
+test('sends long URLs', () => {
+  for (const length of [900, 1006, 1007, 100000]) assert.equal(targetsOf(BASE).target('a'.repeat(length)), BASE + 'a'.repeat(length))
+  assert.equal(targetsOf(BASE).target('\u00e4'.repeat(5000)), BASE + '%C3%A4'.repeat(5000))
+})
+
 test('refuses half of a surrogate pair', () => {
   for (const base of ['http://host/', '']) {
     assert.throws(() => targetsOf(base).target('http://host/\ud800'), { name: 'Refusal', code: 'BadUrl' })

@@ -27,6 +27,10 @@ def test_the_table(case):
     assert last == ((201, [case["target"]]) if "target" in case else (404, []))
 
 
+def test_long_urls():
+    assert targets_of(urls.BASE, None).target("\u00e4" * 5000) == urls.BASE + "%C3%A4" * 5000
+
+
 @pytest.mark.parametrize("base", ["http://host/", ""])
 def test_half_of_a_surrogate_pair(base):
     with pytest.raises(Refusal) as refused:
