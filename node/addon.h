@@ -49,6 +49,9 @@ napi_value wrong_arguments(napi_env env);
 /* Adds the calls for what a batch has to the exports. */
 napi_status export_lists(napi_env env, napi_value exports);
 
+/* Adds the call for where a request is sent to the exports. */
+napi_status export_targets(napi_env env, napi_value exports);
+
 /* Adds the calls of live runs to the exports. */
 napi_status export_runs(napi_env env, napi_value exports);
 

@@ -8,7 +8,7 @@
   "targets": [
     {
       "target_name": "odb_batch",
-      "sources": ["odb_batch.c", "lists.c", "runs.c"],
+      "sources": ["odb_batch.c", "lists.c", "runs.c", "targets.c"],
       "defines": ["NAPI_VERSION=8"],
       "cflags_c": ["-std=c99", "-Wall", "-Wextra", "-fvisibility=hidden"],
       "libraries": ["<(odb_library)/libodb_batch.a"],

@@ -1,5 +1,5 @@
-/* The addon of odb_batch for Node, by Node-API: the commands as one function, what is to be sent and all faults (lists.c), and
- * live runs (runs.c).
+/* The addon of odb_batch for Node, by Node-API: the commands as one function, what is to be sent and all faults (lists.c),
+ * where it is sent (targets.c), and live runs (runs.c).
  *
  *   call(command, batch, second, mode, width, order, trace, strict, form) -> [status, text]
  *
@@ -165,7 +165,7 @@ static void end_instance(napi_env env, void *instance, void *hint)
     release_instance(instance);
 }
 
-/* Makes the instance, with a seed that nobody can see, and exports `call`, `where`, `version`, the lists and the runs. */
+/* Makes the instance, with a seed that nobody can see, and exports `call`, `where`, `version`, and the calls of the other files. */
 NAPI_MODULE_INIT()
 {
     napi_value function, version;
@@ -183,7 +183,8 @@ NAPI_MODULE_INIT()
         && napi_set_named_property(env, exports, "where", function) == napi_ok
         && napi_create_uint32(env, odb_version(), &version) == napi_ok
         && napi_set_named_property(env, exports, "version", version) == napi_ok
-        && export_lists(env, exports) == napi_ok)
+        && export_lists(env, exports) == napi_ok
+        && export_targets(env, exports) == napi_ok)
         export_runs(env, exports);
     return exports;
 }

@@ -87,8 +87,8 @@ export interface PerformOptions extends SharedPerformOptions {
   /** The absolute URL, with a slash at its end, that URLs are relative to; without it they stay as they are. */
   base?: string
   /**
-   * What the URLs of requests begin with, absolute URLs with a slash at their end: others are answered 404. The base alone if
-   * that is given. If there are none, a request may lead anywhere.
+   * What the URLs of requests begin with, absolute URLs with a slash at their end and no user information: others are answered
+   * 404. The base alone if that is given. If there are none, a request may lead anywhere.
    */
   roots?: readonly string[]
 }

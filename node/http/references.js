@@ -4,7 +4,7 @@
 
 const { Refusal } = require('../errors/refusals.js')
 const { readEntity: entityOf, toWire } = require('./bodies.js')
-const { Service, entityUrl, followUrl } = require('./urls.js')
+const { targetsOf } = require('./targets.js')
 
 // In these headers `$` and an id stand for the ETag that the request was answered (OData JSON Format 4.01, section 19.3).
 const OF_ETAGS = ['if-match', 'if-none-match']
@@ -46,16 +46,16 @@ function foundBy(call) {
 
 class References {
   #requests
-  #service
+  #targets
   /** The ids of the requests that others refer to. */
   referred
   // Of these, functions that return their URLs, and what they were answered.
   #urls = new Map()
   #answers = new Map()
 
-  /** `base` and `roots` say where requests may lead; see `Service`. */
+  /** `base` and `roots` say where requests may lead; see `targetsOf`. */
   constructor(requests, base, roots) {
-    this.#service = new Service(base, roots)
+    this.#targets = targetsOf(base, roots)
     this.#requests = new Map(requests.map((request) => [request.id, request]))
     this.referred = new Set(requests.flatMap(({ reference, headers }) => [reference, ...this.#tagged(headers).map(([, id]) => id)]))
   }
@@ -74,7 +74,7 @@ class References {
   /** What others may refer to of what a request was answered, as headers: its URL and its ETag, where it has them. */
   recorded(id) {
     if (!this.#answers.has(id)) return {}
-    const [location, etag] = [() => this.#placeOf(id), () => this.#tagOf(id)].map(foundBy)
+    const [location, etag] = [() => this.#below(id, ''), () => this.#tagOf(id)].map(foundBy)
     return { ...(location !== undefined && { location }), ...(etag !== undefined && { etag }) }
   }
 
@@ -113,7 +113,7 @@ class References {
     if (found !== undefined) return found
     const { url, reference, rest } = this.of(id)
     const made = outcomeOf(() => {
-      return reference === null ? this.#service.target(url, url) : this.#service.target(this.#placeOf(reference) + rest)
+      return reference === null ? this.#targets.target(url) : this.#below(reference, rest)
     })
     if (this.referred.has(id)) this.#urls.set(id, made)
     return made
@@ -125,19 +125,24 @@ class References {
     return pairs.filter(([, id]) => this.#requests.has(id))
   }
 
-  /** The URL of what a request has created or returned. */
+  /** The URL of what a request has created or returned, and what follows a reference to it. */
+  #below(id, rest) {
+    const { place, context } = this.#placeOf(id)
+    return this.#targets.below(this.url(id), place, context, rest)
+  }
+
+  /** The URL of what a request has created or returned, if its answer has one, and what that is relative to, if not to its own. */
   #placeOf(id) {
     const { headers, text } = this.#answers.get(id)
-    const place = textAmong(headers, PLACES)
-    if (place !== undefined) return entityUrl(followUrl(place, this.url(id)))
+    const inHeaders = textAmong(headers, PLACES)
+    if (inHeaders !== undefined) return { place: inHeaders }
     const entity = entityOf(text)
-    const own = textAmong(entity, PLACES_IN_BODY)
-    if (own === undefined && this.of(id).method === 'POST') {
+    const place = textAmong(entity, PLACES_IN_BODY)
+    if (place === undefined && this.of(id).method === 'POST') {
       throw new Refusal(424, 'NoLocation', `${id} was answered without the URL of what it has created`, { target: id })
     }
     // The URLs in a body are relative to its context, if it has one (OData JSON Format 4.01, section 4.6.1).
-    const from = own === undefined ? this.url(id) : followUrl(textAmong(entity, CONTEXTS) ?? '', this.url(id))
-    return entityUrl(followUrl(own ?? '', from))
+    return { place, context: textAmong(entity, CONTEXTS) }
   }
 
   #tagOf(id) {

@@ -1,7 +1,7 @@
 'use strict'
 
 // The calls of the library in a WebAssembly module, for any engine: they take and return what those of the addon do, as the heads
-// of odb_batch.c, lists.c and runs.c have them. Pointers and sizes are BigInts there, and numbers here.
+// of odb_batch.c, lists.c, targets.c and runs.c have them. Pointers and sizes are BigInts there, and numbers here.
 
 const DONE = 0
 const OUT_OF_MEMORY = 4
@@ -185,6 +185,15 @@ function commandCalls(use, seed) {
         return found
       }))
       return status ?? OUT_OF_MEMORY
+    },
+
+    resolve(...texts) {
+      const answer = use((instance) => instance.with((take) => {
+        const given = instance.put(take, texts)
+        return instance.writeText(take, totalLength(texts) + MORE, (text) => instance.call('odb_resolve', ...given, 0, ...text))
+      }))
+      const [status, url] = answer ?? [OUT_OF_MEMORY]
+      return status === DONE ? url.toString() : status
     },
 
     requests: (batch) => callList(use, seed, 'odb_requests', OF_REQUEST, batch),

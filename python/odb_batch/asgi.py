@@ -271,7 +271,7 @@ class _Inner:
             headers["content-length"] = str(len(request.body))
         url = urlsplit(request.url)
         path, front = unquote(url.path)[len(self._cut) :], self._front
-        # A client may encode what is cut as it likes.
+        # What is cut may be escaped in another way.
         raw_path = url.path[len(front) :] if url.path.startswith(front) else quote(path)
         scope: _Scope = {
             **self._scope,

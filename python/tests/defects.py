@@ -6,7 +6,7 @@ Of each: the module, its text, what takes the place of that, the module of the t
 PERFORM, PERFORM_ORDER, PERFORM_REQUESTS = "test_perform", "test_perform_order", "test_perform_requests"
 MIDDLEWARE, WSGI_ASGI, TESTING = "test_middleware", "test_wsgi_asgi", "test_testing"
 ENDS, PLACES, ROOMS = "test_ends", "test_places", "test_rooms"
-BUILDING, SENDING, REST = "client/test_building", "client/test_sending", "client/test_rest"
+BUILDING, SENDING, REST, URLS = "client/test_building", "client/test_sending", "client/test_rest", "test_urls"
 
 DEFECTS = {
     "headers-of-the-batch-stay": (
@@ -39,9 +39,11 @@ DEFECTS = {
         "                while not exchange.is_complete:\n                    await asyncio.sleep(0)",
         WSGI_ASGI, "when_the_application_returns",
     ),
-    "dots-in-paths": ("driver/references", '".." not in segments and ', "", MIDDLEWARE, "lead_out"),
-    "any-host": ("driver/references", "place[:2] == (scheme, host) and ", "", PERFORM_REQUESTS, "outside_of_the_base"),
-    "queries-in-references": ("driver/references", 'parts.path.rstrip("/"), "", ""', 'parts.path.rstrip("/"), parts.query, ""', PERFORM_REQUESTS, "location"),
+    "any-url": ("driver/targets", "ServiceTargets(base, allowed) if allowed else ", "", MIDDLEWARE, "lead_out"),
+    "any-root": ("driver/targets", "self._base, self._roots, url, given", "self._base, self._hosts, url, given", PERFORM_REQUESTS, "outside_of_the_base"),
+    "any-rest": ("driver/targets", 'self._resolve(self._base, self._roots, rest, f"{self._first}x")', "pass", URLS, "stays_in_a_group"),
+    "queries-in-references": ("driver/targets", 're.split("[?#]", sent, maxsplit=1)[0]', "sent", PERFORM_REQUESTS, "location"),
+    "any-context": ("driver/targets", "and not _HAS_SCHEME(place)", "", URLS, "context"),
     "urls-in-a-body-without-its-context": (
         "driver/references", '_first(entity, ("@context", "@odata.context"))', "None", PERFORM_REQUESTS, "created_or_returned",
     ),

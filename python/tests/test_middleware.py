@@ -12,6 +12,7 @@ import pytest
 
 from odb_batch import Refusal, asgi, wsgi
 from odb_batch.http import batch_request as policy
+from support import urls
 from support.applications import CONTINUE, JSON, OverAsgi, OverWsgi, batch
 
 
@@ -45,8 +46,15 @@ class TestBatches:
         "ftp://host/odata/Books", "/ODATA/Books", "/odata", "\\\\evil", "..\\admin", "a%0d%0ab",
     ])  # fmt: skip
     def test_urls_that_lead_out(self, service, url):
-        assert batch(service, {"url": url})["r0"]["status"] == (200 if url == "\\\\evil" else 404)
+        assert batch(service, {"url": url})["r0"]["status"] == 404
         assert all(it.get("PATH_INFO", it.get("path")).startswith("/odata/") for it in service.seen)
+
+    @pytest.mark.parametrize("is_sent", [True, False])
+    def test_the_table_of_urls(self, service, is_sent):
+        # A path that is not UTF-8 is not one of the application here.
+        given = [url for url in urls.plain(is_sent) if not url.startswith("https:") and "\ufffd" not in unquote(url)]
+        found = batch(service, *({"url": url} for url in given))
+        assert {it["status"] for it in found.values()} == {200 if is_sent else 404}
 
     def test_a_root_above_the_folder(self, over):
         service = over("/odata/$batch", root="/")

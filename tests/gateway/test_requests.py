@@ -8,6 +8,7 @@ from concurrent.futures import ThreadPoolExecutor
 
 import pytest
 
+from support import urls
 from support.servers import CONTINUE, JSON, SECONDS, skip_without, until
 
 
@@ -62,14 +63,16 @@ def test_nothing_outside_of_the_routes_is_sent(upstream, front):
     service = upstream()
     it = front("--upstream", service.url + "/odata/")
     users = it.url.replace("//", "//user@") + "x"
-    *found, last = it.statuses(*({"url": url} for url in [*URLS, users]), {"url": "Books"})
-    assert (set(found), last, service.paths) == ({400, 404}, 200, ["/odata/Books"])
+    # A route has its prefix however that is escaped.
+    others = [url for url in urls.plain(False) if not url.startswith("/%6F")]
+    *found, last = it.statuses(*({"url": url} for url in [*URLS, *others, users]), {"url": "Books"})
+    assert (set(found), last, service.paths) == ({404}, 200, ["/odata/Books"])
 
 
 @pytest.mark.parametrize("place, status", [
     ("http://169.254.169.254/latest", 404), ("http://127.0.0.1:1/odata/x", 404), ("/odata/../x", 404),
     ("/odata/$batch", 400),
-    ("//evil/odata/x", 404), ("/other", 404), ("http://[", 400), ("/odata/x", 200),
+    ("//evil/odata/x", 404), ("/other", 404), ("http://[", 404), ("/odata/x", 200),
 ])  # fmt: skip
 def test_no_location_of_a_service_leads_out(upstream, front, place, status):
     from aiohttp import web

@@ -12,6 +12,7 @@ NAME = _NAMES.get(sys.platform, "libodb_batch.so.0")
 VARIABLE = "ODB_BATCH_LIBRARY"
 
 DONE, REFUSED, WRONG_OPTION, OUT_OF_MEMORY, SMALL_BUFFER = 0, 1, 2, 4, 5
+UNREADABLE, OUTSIDE = 31, 32
 
 # Where a part of a request starts that it does not have.
 NONE = 2 ** (8 * ctypes.sizeof(ctypes.c_size_t)) - 1
@@ -66,6 +67,7 @@ _PARAMETERS: dict[str, list[Any]] = {
     "odb_where": [*_BYTES, *_BYTES, ctypes.c_void_p],
     "odb_faults": [*_BYTES, *_TEXT, *_LIST],
     "odb_requests": [*_BYTES, *_TEXT, *_LIST],
+    "odb_resolve": [*_BYTES * 5, *_NUMBER, *_TEXT],
     "odb_run_open": [*_BYTES, *_BYTES, *_NUMBER * 2, *_RUN, *_SEEDED],
     "odb_run_ready": [*_RUN, *_POSITIONS],
     "odb_run_running": [*_RUN, *_POSITIONS],

@@ -66,10 +66,11 @@ def perform(
             1 everything happens in the thread of the caller. With more each unit has a thread, and a copy of the
             context (``contextvars``) of the caller.
         transaction: Opens the transaction of a group. Without it a batch with groups is refused.
-        base: The URL that URLs are relative to, which ends with /. Requests that lead out of it are answered 404 and
-            not sent. If it is empty, URLs are passed as they are.
-        roots: Where requests may lead, if not to the base alone: below these URLs, each of which ends with /. If there
-            are none, they may lead anywhere, so whoever sends a batch reaches whatever this process reaches.
+        base: The absolute URL that URLs are relative to, which ends with /. Requests that lead out of it are answered
+            404 and not sent. If it is empty, URLs are passed as they are.
+        roots: Where requests may lead, if not to the base alone: below these absolute URLs, each of which ends with /
+            and has no user information. If there are none, they may lead anywhere, so whoever sends a batch reaches
+            whatever this process reaches.
         limit: How many requests the batch may have.
         stop: Is called before a unit begins, as ``event.is_set``. Once it returns true, nothing more starts, and what
             has not started is answered 424: for a client that has gone, and for a process that ends.
