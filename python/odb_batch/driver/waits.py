@@ -56,7 +56,7 @@ class Places:
         loop = asyncio.get_running_loop()
         turn: "asyncio.Future[None]" = loop.create_future()
         self._line[turn] = None
-        timer = None if self._seconds is None else loop.call_later(self._seconds, _give_up, turn)
+        timer = None if self._seconds is None else loop.call_later(self._seconds, self.give_up, turn)
         try:
             await turn
         except asyncio.CancelledError:
@@ -80,10 +80,10 @@ class Places:
                 return turn.set_result(None)
         self._free += 1
 
-
-def _give_up(turn: "asyncio.Future[None]") -> None:
-    if not turn.done():
-        turn.set_exception(Refusal(503, "Busy", "No place was free in time; the request was not sent", retry_after="1"))
+    def give_up(self, turn: "asyncio.Future[None]") -> None:
+        """Refuses a request that has waited for its turn too long."""
+        if not turn.done():
+            turn.set_exception(Refusal(503, "Busy", "No place was free in time; the request was not sent", retry_after="1"))
 
 
 class Deadline:

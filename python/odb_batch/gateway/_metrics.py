@@ -16,7 +16,10 @@ class Counts:
 
     Attributes:
         batches_running, requests_running: How many are on their way.
+        has_metrics: Whether the other methods count anything.
     """
+
+    has_metrics = False
 
     def __init__(self) -> None:
         self.batches_running = self.requests_running = 0
@@ -39,6 +42,8 @@ class Counts:
 
 class Metrics(Counts):
     """What is counted since the start of the process. It needs prometheus_client."""
+
+    has_metrics = True
 
     def __init__(self, options: Options, budget: MemoryBudget) -> None:
         os.environ.setdefault("PROMETHEUS_DISABLE_CREATED_SERIES", "True")  # else each counter has a second sample
