@@ -258,7 +258,8 @@ class BatchFailed(Exception):
 
 def _result(request: Request, answer: Union[Answer, Result]) -> Result:
     operation = f"{request.method} {request.url.partition('?')[0]}"
-    return Result(request.id, answer.status, dict(answer.headers), body_json(answer.body), operation)
+    body = answer.body if isinstance(answer.body, bytes) else body_json(answer.body)
+    return Result(request.id, answer.status, dict(answer.headers), body, operation)
 
 
 @types.coroutine

@@ -23,7 +23,7 @@ MAX_REQUESTS = 10_000
 
 
 @dataclass
-class Unit:
+class PlannedUnit:
     """An atomicity group of a batch, or a request without one.
 
     Attributes:
@@ -37,13 +37,13 @@ class Unit:
     needs: set[int] = field(default_factory=set)
 
 
-def units_of(plan: Iterable[PlannedRequest]) -> list[Unit]:
+def units_of(plan: Iterable[PlannedRequest]) -> list[PlannedUnit]:
     """Returns the units of a plan; each depends on earlier ones alone."""
-    units: list[Unit] = []
+    units: list[PlannedUnit] = []
     number_of: dict[str, int] = {}
     for planned in plan:
         if planned.group is None or not units or units[-1].group != planned.group:
-            units.append(Unit(planned.group))
+            units.append(PlannedUnit(planned.group))
         unit, number = units[-1], len(units) - 1
         unit.ids.append(planned.id)
         number_of[planned.group or planned.id] = number_of[planned.id] = number
@@ -114,7 +114,7 @@ class Parts:
                 except Refusal as refusal:
                     if elements:
                         break  # what comes before it is sent first
-                    self._settle(self._at, dict.fromkeys(unit.ids, refusal.answer))
+                    self._settle([self._at], dict.fromkeys(unit.ids, refusal.answer))
                     names.clear()
                 else:
                     self._out.append(self._at)
@@ -123,7 +123,7 @@ class Parts:
         self._part = batch_json(elements)
         return self._part if elements else None
 
-    def _elements(self, unit: Unit, names: set[str]) -> list[bytes]:
+    def _elements(self, unit: PlannedUnit, names: set[str]) -> list[bytes]:
         """The texts of the requests of a unit; adds its names to those of the part. Dependencies on other parts, which
         have succeeded, are left out, and references to them replaced. Raises Refusal if one stands for nothing."""
         names.update(unit.ids, () if unit.group is None else (unit.group,))
@@ -164,9 +164,8 @@ class Parts:
             found = read_answers(text)
         except ValueError as error:
             self.fail(error)
-            return
-        for number in self._out:
-            self._settle(number, found)
+        else:
+            self._settle(self._out, found)
 
     def fail(self, error: Exception) -> None:
         """Takes the exception by which the part that is out was not answered."""
@@ -177,23 +176,24 @@ class Parts:
 
     def _end(self, answer: Answer) -> None:
         """Gives each request of the part that is out the same answer. Nothing more is sent."""
-        for number in self._out:
-            self._settle(number, dict.fromkeys(self._units[number].ids, answer))
+        self._settle(self._out, {request_id: answer for number in self._out for request_id in self._units[number].ids})
         self._is_stopped = True
 
-    def _settle(self, number: int, answers: Mapping[str, Answer]) -> None:
-        """Notes what the requests of a unit were answered; one without an answer was skipped."""
-        unit = self._units[number]
-        for request_id in unit.ids:
-            answer = self.answers[request_id] = answers.get(request_id, SKIPPED)
-            if not answer.is_success:
-                self._sound.discard(number)
-            elif request_id in self._resolver.referred:
-                self._resolver.record(request_id, answer)
-        if self._mode == "stop" and self._is_error(unit):
-            self._is_stopped = True
+    def _settle(self, numbers: Iterable[int], answers: Mapping[str, Answer]) -> None:
+        """Notes what the requests of units were answered; one without an answer was skipped."""
+        successful = {request_id for request_id, answer in answers.items() if answer.is_success}
+        for number in numbers:
+            unit = self._units[number]
+            for request_id in unit.ids:
+                answer = self.answers[request_id] = answers.get(request_id, SKIPPED)
+                if request_id not in successful:
+                    self._sound.discard(number)
+                elif request_id in self._resolver.referred:
+                    self._resolver.record(request_id, answer)
+            if self._mode == "stop" and self._is_error(unit):
+                self._is_stopped = True
 
-    def _is_error(self, unit: Unit) -> bool:
+    def _is_error(self, unit: PlannedUnit) -> bool:
         """Whether a request of a unit has ended with a status from 400 to 599. A 424 may also be that of one that was
         skipped or undone, since what it needs has failed, or its group by a status that is no error, as 304."""
         statuses = {self.answers[request_id].status for request_id in unit.ids}
