@@ -2,7 +2,7 @@
 
 import re
 from dataclasses import replace
-from typing import Callable, Dict, List, Optional, Tuple
+from typing import Callable, Optional
 from urllib.parse import urlsplit
 
 from ..documents.requests import Request
@@ -39,7 +39,7 @@ class GatewayBatch:
     """
 
     def __init__(
-        self, options: Options, upstream: UpstreamClient, batch_request: BatchRequest, forwarded: Dict[str, str],
+        self, options: Options, upstream: UpstreamClient, batch_request: BatchRequest, forwarded: dict[str, str],
         public_base: str, budget: BodyBudget,
     ) -> None:  # fmt: skip
         self._options, self._upstream, self._batch_request = options, upstream, batch_request
@@ -72,14 +72,14 @@ class GatewayBatch:
         )
         return batch_response(response, self.mode)
 
-    def log_words(self) -> Dict[str, object]:
+    def log_words(self) -> dict[str, object]:
         """Returns what the line of the batch in the log has of its requests."""
         repeated = "repeated" if self.is_repeated else ""
         return {"sent": self._requests.sent, "failed": self._requests.failed, "journal": repeated}
 
-    async def _send_group(self, group: PreparedGroup) -> List[Answer]:
+    async def _send_group(self, group: PreparedGroup) -> list[Answer]:
         """Sends a group as a batch to the one service of its requests."""
-        targets: Dict[str, Tuple[Route, str]] = {}
+        targets: dict[str, tuple[Route, str]] = {}
         try:
             members = [self._member(request, targets) for request in group.requests]
             routes = {route.prefix: route for route, _ in targets.values()}.values()
@@ -104,7 +104,7 @@ class GatewayBatch:
         urls = [targets[request.id][1] if request.id in targets else url for request in group.requests]
         return list(map(self._requests.public_answer, urls, answers))
 
-    def _member(self, request: Request, targets: Dict[str, Tuple[Route, str]]) -> Request:
+    def _member(self, request: Request, targets: dict[str, tuple[Route, str]]) -> Request:
         """Returns a request of a group as its service takes it; notes its route and its URL if it refers to none of the
         group."""
         try:

@@ -3,7 +3,7 @@
 import argparse
 import sys
 from dataclasses import dataclass, field, fields
-from typing import Any, Callable, Optional, Sequence, Tuple, Union
+from typing import Any, Callable, Optional, Sequence, Union
 
 from ..http.budget import DEFAULT_MEMORY
 from ..http.observation import OnRequest
@@ -35,12 +35,12 @@ def _choice(default: str, choices: Sequence[str], explanation: str) -> Any:
 class Options:
     """What a gateway is told: each option by its name, as the help explains it, and what follows from them."""
 
-    upstream: Tuple[Route, ...] = _each("URL", values.upstream, "the root of a service; its path is the same here")
-    route: Tuple[Route, ...] = _each("PREFIX=URL", values.route, "where paths with a prefix go; the longest counts")
+    upstream: tuple[Route, ...] = _each("URL", values.upstream, "the root of a service; its path is the same here")
+    route: tuple[Route, ...] = _each("PREFIX=URL", values.route, "where paths with a prefix go; the longest counts")
     groups: str = _choice("refuse", ("refuse", "forward"), "answers atomicity groups 501, or sends each as a batch")
-    allow: Tuple[str, ...] = _each("NAME", values.inner_header, "a further header that requests of a batch may have")
-    credential: Tuple[str, ...] = _each("NAME", values.header, "a further header by which services know a client")
-    send: Tuple[Tuple[str, str], ...] = _each(
+    allow: tuple[str, ...] = _each("NAME", values.inner_header, "a further header that requests of a batch may have")
+    credential: tuple[str, ...] = _each("NAME", values.header, "a further header by which services know a client")
+    send: tuple[tuple[str, str], ...] = _each(
         "HEADER=PREFIX", values.credential_route, "the route that gets a credential; by default the one service, or none"
     )
     width: int = _option(8, "N", values.width, "requests or groups of a batch at once")
@@ -73,12 +73,12 @@ class Options:
     config: str = _option("", "FILE", str, "a file in TOML that has options by their names, and tables of routes")
 
     @property
-    def routes(self) -> Tuple[Route, ...]:
+    def routes(self) -> tuple[Route, ...]:
         """Where requests go."""
         return (*self.route, *self.upstream)
 
     @property
-    def credentials(self) -> Tuple[str, ...]:
+    def credentials(self) -> tuple[str, ...]:
         """The headers by which services know a client."""
         return (*USUAL, *self.credential)
 

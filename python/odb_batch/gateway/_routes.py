@@ -2,7 +2,7 @@
 
 import re
 from dataclasses import dataclass
-from typing import Iterable, List, Optional, Tuple
+from typing import Iterable, Optional
 from urllib.parse import SplitResult, urljoin, urlsplit, urlunsplit
 
 from ..http.batch_request import batch_folder
@@ -65,12 +65,12 @@ class Routes:
 
     def __init__(self, routes: Iterable[Route]) -> None:
         self._routes = sorted(routes, key=lambda route: len(route.prefix), reverse=True)
-        self._by_upstream: List[Tuple[str, str, Route]] = []
+        self._by_upstream: list[tuple[str, str, Route]] = []
         for route in sorted(self._routes, key=lambda route: len(route.upstream), reverse=True):
             parts = urlsplit(route.upstream)
             self._by_upstream.append((_host(parts), normalize_path(parts.path), route))
 
-    def target(self, url: str) -> Tuple[Route, str]:
+    def target(self, url: str) -> tuple[Route, str]:
         """Returns the route of a URL that clients see, and the URL that is sent.
 
         Raises:

@@ -6,7 +6,7 @@ import logging
 import ssl
 import time
 from dataclasses import replace
-from typing import Any, AsyncContextManager, Collection, Dict, Mapping, Optional, Tuple, Union
+from typing import Any, AsyncContextManager, Collection, Mapping, Optional, Union
 from urllib.parse import urlsplit
 
 import aiohttp
@@ -86,7 +86,7 @@ class UpstreamClient:
         self._options, self.counts, self.failures = options, counts, FailureLog()
         self.routes = Routes(options.routes)
         self.credentials = Credentials(options.routes, options.credentials, options.send)
-        lines: Dict[str, _ServicePlaces] = {}
+        lines: dict[str, _ServicePlaces] = {}
         for route in options.routes:
             if route.line not in lines:
                 count, seconds = route.connections or options.connections, route.timeout or options.timeout
@@ -177,7 +177,7 @@ class UpstreamClient:
     ) -> Answer:
         """Returns the answer of a service; raises Refusal if there is no room for it, or it cannot be shown."""
         session = self.session(request.method, journal is not None)
-        options: Dict[str, Any] = {
+        options: dict[str, Any] = {
             "headers": request.headers,
             "data": request.body or None,
             "allow_redirects": False,
@@ -194,9 +194,9 @@ class UpstreamClient:
             return Answer(response.status, headers, body)
 
 
-def _route_options(route: Route) -> Dict[str, Any]:
+def _route_options(route: Route) -> dict[str, Any]:
     """Returns what requests of a route have in place of what those of all have."""
-    options: Dict[str, Any] = {} if route.timeout is None else {"timeout": aiohttp.ClientTimeout(route.timeout)}
+    options: dict[str, Any] = {} if route.timeout is None else {"timeout": aiohttp.ClientTimeout(route.timeout)}
     if route.ca or route.certificate:
         try:
             options["ssl"] = context = ssl.create_default_context(cafile=route.ca or None)
@@ -233,7 +233,7 @@ async def _read_body(response: aiohttp.ClientResponse, method: str, budget: Body
         return reader.body()
 
 
-def _drop_ambiguous(headers: Dict[str, str], given: Mapping[str, str]) -> None:
+def _drop_ambiguous(headers: dict[str, str], given: Mapping[str, str]) -> None:
     """Drops a header that names a resource or a version, and comes several times with different values: a request that
     refers to it would go somewhere else."""
     for name in _SINGLE & headers.keys():
@@ -261,7 +261,7 @@ class ServiceRequests:
     """
 
     def __init__(
-        self, upstream: UpstreamClient, options: Options, policy: HeaderPolicy, forwarded: Dict[str, str], public_base: str,
+        self, upstream: UpstreamClient, options: Options, policy: HeaderPolicy, forwarded: dict[str, str], public_base: str,
         budget: BodyBudget,
     ) -> None:  # fmt: skip
         self._upstream, self._options, self._counts = upstream, options, upstream.counts
@@ -269,9 +269,9 @@ class ServiceRequests:
         self.journal: Optional[StoreJournal] = None
         self.sent = self.failed = 0
         # Found when a place was asked for.
-        self._targets: Dict[str, Optional[Tuple[Route, str]]] = {}
+        self._targets: dict[str, Optional[tuple[Route, str]]] = {}
         # What all requests of a route have, by its prefix.
-        self._common: Dict[str, Dict[str, str]] = {}
+        self._common: dict[str, dict[str, str]] = {}
 
     def gate(self, outgoing: Union[PreparedRequest, PreparedGroup]) -> AsyncContextManager[Any]:
         """Returns what bounds the requests to the service of a request or a group; nothing if no route takes that."""
@@ -300,11 +300,11 @@ class ServiceRequests:
             self._counts.fault(error_code(refusal.answer))
             raise
 
-    def _common_headers(self, route: Route) -> Dict[str, str]:
+    def _common_headers(self, route: Route) -> dict[str, str]:
         found = self._common[route.prefix] = self.headers_for([route], route.upstream, self._policy.inherited)
         return found
 
-    def headers_for(self, routes: Collection[Route], url: str, headers: Dict[str, str]) -> Dict[str, str]:
+    def headers_for(self, routes: Collection[Route], url: str, headers: dict[str, str]) -> dict[str, str]:
         """Returns the headers of a request to a URL: those that the service of its routes gets, and the gateway's."""
         kept = self._upstream.credentials.headers_for(routes, headers)
         return {"accept-encoding": "identity", **kept, **self._forwarded, "host": urlsplit(url).netloc}

@@ -4,7 +4,7 @@ import argparse
 import importlib
 import re
 from dataclasses import replace
-from typing import Any, Callable, Dict, List, Mapping, NamedTuple, Tuple, Union, cast
+from typing import Any, Callable, Mapping, NamedTuple, Union, cast
 from urllib.parse import urlsplit
 
 from .. import arguments
@@ -106,7 +106,7 @@ def client(text: str) -> str:
     return name
 
 
-def credential_route(text: str) -> Tuple[str, str]:
+def credential_route(text: str) -> tuple[str, str]:
     """Reads the name of a header with the prefix of a route."""
     name, _, prefix = text.partition("=")
     require(re.fullmatch(r"/[!-~]*", prefix), text, "HEADER=PREFIX, such as Authorization=/odata/")
@@ -146,7 +146,7 @@ _LIMITS: Mapping[str, Callable[[str], Any]] = {"timeout": seconds, "connections"
 _TLS = ("ca", "certificate", "key")
 
 
-def route_table(given: Mapping[str, Any]) -> Tuple[Route, List[Tuple[str, str]]]:
+def route_table(given: Mapping[str, Any]) -> tuple[Route, list[tuple[str, str]]]:
     """Reads a route of a file, which may have limits, credentials and TLS of its own; and which credentials it gets."""
     for name in given:
         if name not in ("url", "prefix", "send", *_LIMITS, *_TLS):
@@ -154,7 +154,7 @@ def route_table(given: Mapping[str, Any]) -> Tuple[Route, List[Tuple[str, str]]]
     url, prefix = str(given.get("url", "")), given.get("prefix")
     plain = upstream(url) if prefix is None else route(f"{prefix}={url}")
     limits = {name: read(str(given[name])) for name, read in _LIMITS.items() if name in given}
-    files: Dict[str, Any] = {name: str(given[name]) for name in _TLS if name in given}
+    files: dict[str, Any] = {name: str(given[name]) for name in _TLS if name in given}
     if files and not url.startswith("https:"):
         raise argparse.ArgumentTypeError(f"{plain.prefix}: {', '.join(files)}: only for https")
     if "key" in files and "certificate" not in files:
