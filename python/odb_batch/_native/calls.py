@@ -13,9 +13,10 @@ _MODES: tuple[str, ...] = get_args(Mode)
 MAX_WIDTH = 10_000
 #: How much longer than its documents a text is thought to be; a longer one takes a second call.
 MORE = 256
-# How short a request may be in a document, and how many a batch may have.
+#: How many requests a batch may have.
+MAX_REQUESTS = 10_000
+# How short a request may be in a document.
 _SHORTEST = 32
-_MAX_REQUESTS = 10_000
 
 
 def option_number(values: tuple[str, ...], name: str, value: str) -> int:
@@ -76,7 +77,7 @@ def read_fault(line: bytes, *documents: bytes) -> Fault:
 
 def likely_count(batch: bytes) -> int:
     """Returns a guess of how many requests a batch has, or faults if each has one; more take a second call."""
-    return min(len(batch) // _SHORTEST + 1, _MAX_REQUESTS)
+    return min(len(batch) // _SHORTEST + 1, MAX_REQUESTS)
 
 
 def read_faults(batch: bytes) -> tuple[Fault, ...]:

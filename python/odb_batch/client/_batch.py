@@ -4,14 +4,14 @@ import types
 from functools import cached_property
 from typing import Any, Awaitable, Callable, Coroutine, Generator, Iterator, Mapping, Optional, TypeVar, Union, get_args
 
-from .._native.calls import Mode
+from .._native.calls import MAX_REQUESTS, Mode
 from ..commands import plan, rest
 from ..documents.encoding import Document, body_json, document_bytes
 from ..documents.requests import Request, requests
 from ..errors.faults import Fault
 from ..http.messages import Answer
 from ._builder import Builder, Reference
-from ._parts import MAX_REQUESTS, Parts
+from ._parts import Parts
 from ._rest import rest_document
 from ._results import UNSURE, Outcome, RequestFailed, Result, seconds_of
 from ._transports import Posted, read_response

@@ -6,7 +6,7 @@ from dataclasses import dataclass, field, replace
 from typing import Iterable, Mapping, Optional
 from urllib.parse import unquote
 
-from .._native.calls import MAX_WIDTH, Mode, policy_numbers
+from .._native.calls import MAX_REQUESTS, MAX_WIDTH, Mode, policy_numbers
 from ..commands import PlannedRequest, check, match, plan
 from ..documents.encoding import json_bytes
 from ..documents.requests import Request, requests
@@ -17,9 +17,6 @@ from ..http.batches import batch_json, read_answers, request_json
 from ..http.bodies import to_json
 from ..http.messages import BROKEN, LOG, TIMED_OUT, Answer, Answered, Refusal
 from ._transports import is_timeout, to_answer
-
-# How many requests a batch may have.
-MAX_REQUESTS = 10_000
 
 
 @dataclass

@@ -12,8 +12,8 @@ from ._stops import stops
 from ._values import values
 from ._waits import waits
 
-# How many requests the longest batch may have, and how many it has if nobody says.
-MAX_REQUESTS, REQUESTS = 10_000, 100
+# How many requests the longest batch has if nobody says.
+REQUESTS = 100
 
 
 def all_cases(requests: int) -> list[Case]:

@@ -6,9 +6,10 @@ import re
 import sys
 from typing import Any, Sequence, cast
 
+from .._native.calls import MAX_REQUESTS
 from ..arguments import require, seconds, whole_number
 from . import _report
-from ._cases import MAX_REQUESTS, REQUESTS, cases_like
+from ._cases import REQUESTS, cases_like
 from ._entities import Entities
 from ._exact_json import value_of
 from ._interruption import Interrupted, Interruption

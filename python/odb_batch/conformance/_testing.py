@@ -4,7 +4,8 @@ import unittest
 import warnings
 from typing import Any, Mapping
 
-from ._cases import MAX_REQUESTS, REQUESTS, all_cases
+from .._native.calls import MAX_REQUESTS
+from ._cases import REQUESTS, all_cases
 from ._entities import Entities
 from ._interruption import Interruption
 from ._report import failure_text
