@@ -144,7 +144,7 @@ class Results(Mapping[str, Result]):
         self._found = {request_id: _result(found[request_id], answer) for request_id, answer in answers.items()}
 
     def __getitem__(self, request: Union[Reference, str]) -> Result:
-        return self._found[self._batch._name(request)]
+        return self._found[request if isinstance(request, str) else self._batch._name(request)]
 
     def __iter__(self) -> Iterator[str]:
         return iter(self._found)

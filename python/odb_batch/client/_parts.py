@@ -71,10 +71,11 @@ class Parts:
         if isinstance(limit, bool) or not isinstance(limit, int) or not 1 <= limit <= MAX_REQUESTS:
             raise ValueError(f"limit must be a whole number from 1 to {MAX_REQUESTS}, not {limit!r}")
         policy_numbers(mode, MAX_WIDTH)
-        given, self._plan = requests(document), plan(document)
+        given, planned = requests(document), plan(document)
         self.document, self._limit, self._mode = document, limit, mode
         self._requests = {request.id: request for request in given}
-        self._units = units_of(self._plan)
+        self._needs = {entry.id: entry.needs for entry in planned}
+        self._units = units_of(planned)
         for unit in self._units:
             if len(unit.ids) > limit:
                 raise ValueError(f"the group {unit.group} has {len(unit.ids)} requests, and a batch may have {limit}")
@@ -88,9 +89,12 @@ class Parts:
         # The part that is out, and the numbers of its units.
         self._part = b""
         self._out: list[int] = []
-        # Then it is sent as it is. A condition may refer to what is not answered yet, so that its request is not sent.
-        conditions = (request.headers.get(name, "") for request in given for name in CONDITIONS)
-        self._is_one_part = len(given) <= limit and not any(value.startswith("$") for value in conditions)
+        # The requests with a condition that refers to another one, which may not be answered yet: then they are not sent.
+        self._conditional = {
+            request.id for request in given if any(request.headers.get(name, "").startswith("$") for name in CONDITIONS)
+        }
+        # Then it is sent as it is.
+        self._is_one_part = len(given) <= limit and not self._conditional
 
     def next(self) -> Optional[bytes]:
         """Returns the next part; None if nothing more is to be sent."""
@@ -126,15 +130,16 @@ class Parts:
         names.update(unit.ids, () if unit.group is None else (unit.group,))
         found = []
         for request_id in unit.ids:
-            given, headers = self._requests[request_id], self._resolver.headers(request_id, names)
-            request = replace(given, url=self._url(given, names), headers=headers)
-            found.append(request_json(request, [name for name in self._plan.request(request_id).needs if name in names]))
+            request = self._requests[request_id]
+            if request_id in self._conditional:
+                request = replace(request, headers=self._resolver.headers(request_id, names))
+            if request.reference is not None and request.reference not in names:
+                request = replace(request, url=self._url(request))
+            found.append(request_json(request, [name for name in self._needs[request_id] if name in names]))
         return found
 
-    def _url(self, given: Request, names: set[str]) -> str:
-        """The URL of a request in a part, without a reference to another part."""
-        if given.reference is None or given.reference in names:
-            return given.url
+    def _url(self, given: Request) -> str:
+        """The URL of a request that refers to another part, without that reference."""
         try:
             url = self._resolver.url(given.id)
         except Refusal as refusal:
