@@ -63,10 +63,13 @@ class _ServicePlaces(Places):
         self._service, self._upstream = service, upstream
 
     def give_up(self, turn: "asyncio.Future[None]") -> None:
-        if not turn.done():
-            self._upstream.counts.fault("Busy")
-            self._upstream.failures.write(self._service, "Busy", "connections")
+        if not turn.done():  # what has its place is late at the same time, and ends first
+            asyncio.get_running_loop().call_soon(self._note_busy)
         super().give_up(turn)
+
+    def _note_busy(self) -> None:
+        self._upstream.counts.fault("Busy")
+        self._upstream.failures.write(self._service, "Busy", "connections")
 
 
 class UpstreamClient:
