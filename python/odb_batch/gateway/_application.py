@@ -224,7 +224,7 @@ class Gateway:
             document = await self._read(request, budget)
             self._require_running()
             if self._journals is not None and repeatable is not None:
-                same = (request.path, str(self._options.forwards), headers.get("prefer", ""))
+                same = (request.path, str(self._options.groups == "forward"), headers.get("prefer", ""))
                 parts = {"sender": digest(*map(str.encode, same)), "sent": repeatable.first_sent}
                 first = identity(batch=digest(document), mode=batch.mode, **parts)
                 opening = self._journals.journal(repeatable.key, first, budget.hold)

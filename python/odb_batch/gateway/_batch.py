@@ -67,7 +67,7 @@ class GatewayBatch:
             stop=stop,
             deadline=self._options.deadline,
             gate=self._requests.gate,
-            groups=self._send_group if self._options.forwards else None,
+            groups=self._send_group if self._options.groups == "forward" else None,
             journal=journal,
         )
         return batch_response(response, self.mode)

@@ -83,11 +83,6 @@ class Options:
         """The headers by which services know a client."""
         return (*USUAL, *self.credential)
 
-    @property
-    def forwards(self) -> bool:
-        """Whether groups are sent."""
-        return self.groups == "forward"
-
 
 def parser(program: str = PROGRAM) -> argparse.ArgumentParser:
     """Returns the parser of the command line."""
