@@ -46,8 +46,8 @@ def test_its_extras_are_all_that_it_needs(tmp_path, monkeypatch):
 
 @pytest.mark.slow
 @pytest.mark.needs("mypy")
-def test_its_types(tmp_path):
-    print(run("mypy", f"--cache-dir={tmp_path}", cwd=ROOT))
+def test_its_types():
+    print(run("mypy", f"--cache-dir={os.devnull}", cwd=ROOT))
 
 
 @pytest.mark.slow
