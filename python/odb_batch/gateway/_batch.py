@@ -42,7 +42,7 @@ class GatewayBatch:
         self, options: Options, upstream: UpstreamClient, batch_request: BatchRequest, forwarded: dict[str, str],
         public_base: str, budget: BodyBudget,
     ) -> None:  # fmt: skip
-        self._options, self._upstream, self._batch_request = options, upstream, batch_request
+        self._options, self._upstream, self._batch_request, self._public_base = options, upstream, batch_request, public_base
         self._requests = ServiceRequests(upstream, options, batch_request.headers, forwarded, public_base, budget)
         self.mode = batch_request.mode
         self.is_repeated = False
@@ -102,7 +102,8 @@ class GatewayBatch:
         if any(answer.status == 502 and "'BadResponse'" in str(answer.body) for answer in answers):
             self._upstream.failures.write(url, "BadResponse", "no-response")
         urls = [targets[request.id][1] if request.id in targets else url for request in group.requests]
-        return list(map(self._requests.public_answer, urls, answers))
+        public = self._upstream.routes.public_answer
+        return [public(self._public_base, sent, answer) for sent, answer in zip(urls, answers)]
 
     def _member(self, request: Request, targets: dict[str, tuple[Route, str]]) -> Request:
         """Returns a request of a group as its service takes it; notes its route and its URL if it refers to none of the

@@ -1,12 +1,12 @@
 """Where the requests of a batch go: services by the prefixes of paths, and back."""
 
 import re
-from dataclasses import dataclass
+from dataclasses import dataclass, replace
 from typing import Iterable, Optional
 from urllib.parse import SplitResult, urljoin, urlsplit, urlunsplit
 
 from ..http.batch_request import batch_folder
-from ..http.messages import Refusal
+from ..http.messages import Answer, Refusal
 
 _ESCAPE = re.compile("%[0-9A-Fa-f]{2}")
 # What may be escaped in a path without another meaning (RFC 3986, section 2.4; OData URL Conventions 4.01, section 2).
@@ -17,6 +17,8 @@ _IS_BATCH = re.compile(r"/\$batch((;|%3B)[^/]*)?/*$").search
 # What may follow a prefix: the key of an entity, or a further segment.
 _ENDS = ("", "/", "(")
 _PORTS = {"http": 80, "https": 443}
+#: The headers of an answer that have a URL.
+URL_HEADERS = frozenset({"location", "content-location", "odata-entityid"})
 
 
 def normalize_path(path: str) -> str:
@@ -116,6 +118,13 @@ class Routes:
                 front = client[:2] if given.netloc or path.startswith("//") else ("", "")
                 return urlunsplit((*front, path, whole.query, whole.fragment))
         return location
+
+    def public_answer(self, base: str, request_url: str, answer: Answer) -> Answer:
+        """Returns an answer of a service with the URLs in its headers as clients see them; the arguments are as of `public`."""
+        headers = dict(answer.headers)
+        for name in URL_HEADERS & headers.keys():
+            headers[name] = self.public(base, request_url, headers[name])
+        return replace(answer, headers=headers)
 
 
 def _takes(prefix: str, path: str) -> bool:

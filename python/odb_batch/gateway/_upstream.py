@@ -5,7 +5,6 @@ import contextlib
 import logging
 import ssl
 import time
-from dataclasses import replace
 from typing import Any, AsyncContextManager, Collection, Mapping, Optional, Union
 from urllib.parse import urlsplit
 
@@ -25,13 +24,11 @@ from ._failures import FailureLog, error_code, failure_reason
 from ._log import LINES, log_line, trace_id
 from ._metrics import Counts
 from ._options import Options
-from ._routes import Route, Routes
+from ._routes import URL_HEADERS, Route, Routes
 
 _PART = 65_536
-# The headers of an answer that have a URL.
-_URL_HEADERS = frozenset({"location", "content-location", "odata-entityid"})
-# Those that requests of a batch refer to, and of which an answer has one.
-_SINGLE = _URL_HEADERS | {"etag"}
+# The headers that requests of a batch refer to, and of which an answer has one.
+_SINGLE = URL_HEADERS | {"etag"}
 # What was not sent, by the code of its answer.
 _UNSENT = ("Stopping", "Unreachable", "NoJournal", "InProgress")
 
@@ -298,7 +295,9 @@ class ServiceRequests:
             common = self._common.get(route.prefix) or self._common_headers(route)
             outgoing = PreparedRequest(request.id, request.method, url, {**common, **own}, request.body)
             answer = await self.exchange(route, outgoing)
-            return answer if _URL_HEADERS.isdisjoint(answer.headers) else self.public_answer(url, answer)
+            if URL_HEADERS.isdisjoint(answer.headers):
+                return answer
+            return self._upstream.routes.public_answer(self._public_base, url, answer)
         except Refusal as refusal:
             self._counts.fault(error_code(refusal.answer))
             raise
@@ -311,13 +310,6 @@ class ServiceRequests:
         """Returns the headers of a request to a URL: those that the service of its routes gets, and the gateway's."""
         kept = self._upstream.credentials.headers_for(routes, headers)
         return {"accept-encoding": "identity", **kept, **self._forwarded, "host": urlsplit(url).netloc}
-
-    def public_answer(self, sent: str, answer: Answer) -> Answer:
-        """Returns an answer with the URLs in its headers as clients see them."""
-        headers, base, routes = dict(answer.headers), self._public_base, self._upstream.routes
-        for name in _URL_HEADERS & headers.keys():
-            headers[name] = routes.public(base, sent, headers[name])
-        return replace(answer, headers=headers)
 
     async def exchange(self, route: Route, request: PreparedRequest) -> Answer:
         """Sends a request, and counts and logs it."""
