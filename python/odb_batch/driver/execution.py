@@ -73,6 +73,7 @@ class Execution:
         journal: Where its events are kept, and what has happened before.
 
     Attributes:
+        resolver: Prepares its requests.
         resumed: The units that were out when another process ended, and are sent again.
 
     Raises:
@@ -103,7 +104,7 @@ class Execution:
         if has_groups and not (has_transactions or sends_groups):
             raise Refusal(501, "NoGroups", "Atomicity groups are not supported here")
         self._requests = {request.id: request for request in given}
-        self._resolver, self._stop, self._journal = ReferenceResolver(given, base, roots), stop, journal
+        self.resolver, self._stop, self._journal = ReferenceResolver(given, base, roots), stop, journal
         self._plan = plan(batch) if has_groups and sends_groups else None
         # Whether nothing more starts: since that was asked for, and in mode stop after an error.
         self._is_stopped, self._has_failed, self._mode = False, False, mode
@@ -154,8 +155,8 @@ class Execution:
     def _replay_report(self, event: Report) -> None:
         headers = dict(event.headers or {})
         self._run.report(event.id, event.status, headers or None, event.body)
-        if event.id in self._resolver.referred:
-            self._resolver.record(event.id, Answer(event.status, headers, event.body))
+        if event.id in self.resolver.referred:
+            self.resolver.record(event.id, Answer(event.status, headers, event.body))
 
     def begin(self, count: int) -> list[Unit]:
         """Starts the first request of each unit that may begin, or all of them if it is a group that is sent as one; of so many
@@ -215,11 +216,6 @@ class Execution:
         self._is_stopped = True
         self._run.stop()
 
-    def prepare(self, unit: Unit) -> PreparedRequest:
-        """Returns the first request of a unit, as it is sent; raises Refusal if it cannot be."""
-        unit.prepared = self._resolver.prepare(unit.ids[0])
-        return unit.prepared
-
     # A group that is sent as one
 
     def prepare_group(self, unit: Unit) -> PreparedGroup:
@@ -228,7 +224,7 @@ class Execution:
         members, needs, inside = [], {}, frozenset(unit.ids)
         for request_id in unit.ids:
             try:
-                members.append(self._resolver.prepare_member(request_id, inside))
+                members.append(self.resolver.prepare_member(request_id, inside))
             except Refusal as refusal:
                 raise MemberRefused(request_id, refusal.answer) from None
             needs[request_id] = tuple(name for name in self._plan.request(request_id).needs if name in inside)
@@ -275,7 +271,7 @@ class Execution:
             answered: Union[Answer, BaseException, None]
             try:
                 prepared, unit.prepared = unit.prepared, None
-                answered = yield prepared or self._resolver.prepare(request_id)
+                answered = yield prepared or self.resolver.prepare(request_id)
             except Exception as error:
                 answered = error
             what = f"the request {request_id}"
@@ -343,8 +339,8 @@ class Execution:
     def _report(self, request_id: str, answer: Answer) -> tuple[int, dict[str, str], Optional[bytes]]:
         """Reports the answer to a request; returns the status, the headers and the body that the event has."""
         answer, text = self._write_body(request_id, answer)
-        if request_id in self._resolver.referred:
-            self._resolver.record(request_id, answer)
+        if request_id in self.resolver.referred:
+            self.resolver.record(request_id, answer)
         # Before the report, after which another thread may begin what it allows.
         self._has_failed = self._has_failed or (self._mode == "stop" and answer.status >= 400)
         headers = dict(answer.headers)

@@ -55,7 +55,7 @@ class ReferenceResolver:
     def record(self, request_id: str, answer: Answer) -> None:
         """Keeps what a request was answered to which others refer, and its URL, if it was not sent from here."""
         self._answers[request_id] = answer
-        if answer.is_success:
+        if request_id not in self._urls and answer.is_success:
             with contextlib.suppress(Refusal):
                 self.url(request_id)
 

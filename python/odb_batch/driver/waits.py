@@ -324,8 +324,10 @@ class _Tasks:
     def _outgoing(self, unit: Unit) -> Union[PreparedRequest, PreparedGroup, None]:
         """Returns what of a unit is sent first, or None if that cannot be sent."""
         try:
-            is_one = unit.group is not None and self._options.groups is not None
-            return self._execution.prepare_group(unit) if is_one else self._execution.prepare(unit)
+            if unit.group is not None and self._options.groups is not None:
+                return self._execution.prepare_group(unit)
+            unit.prepared = self._execution.resolver.prepare(unit.ids[0])
+            return unit.prepared
         except (MemberRefused, Refusal):
             return None
 
