@@ -39,7 +39,7 @@ done_stable rs statuses u possible i within unit = elim (cases_Bool (is_success 
 ]
 
 -- what a request needs is a unit of the batch
-need_known : (rs : List Record) → HasGoodNames rs → (i : ℕ) (need : Need) → i < length rs → Contains (needs_at rs i) need → unit_needed rs need < unit_count rs
+pub need_known : (rs : List Record) → HasGoodNames rs → (i : ℕ) (need : Need) → i < length rs → Contains (needs_at rs i) need → unit_needed rs need < unit_count rs
 need_known rs good i (One r) within inside = unit_before rs r (length rs) (omega (arith, (needs_before rs good).one i r inside, within))
 need_known rs good i (Group u) within inside = omega (arith, (needs_before rs good).group i u inside, unit_before rs i (length rs) within)
 
@@ -72,7 +72,7 @@ done_repeats : (rs : List Record) (statuses : List ℕ) (i : ℕ) → i < length
 done_repeats rs statuses i within is = let some = slice_get-some rs i within in rw some.1 (success_repeats (get_or statuses i 0) is some.0)
 
 -- a request whose responses are successes has the status of one
-succeeded : (rs : List Record) (es : List Entry) (places statuses : List ℕ) (r : ℕ) → IsTableOf rs es places statuses → r < length rs → Succeeds rs es r → is_success (get_or statuses r 0) ≡ true
+pub succeeded : (rs : List Record) (es : List Entry) (places statuses : List ℕ) (r : ℕ) → IsTableOf rs es places statuses → r < length rs → Succeeds rs es r → is_success (get_or statuses r 0) ≡ true
 succeeded rs es places statuses r table within success =
     let place = slice_get-some places r (omega (arith, table.places_count)) in
     let status = slice_get-some statuses r (omega (arith, table.statuses_count)) in
@@ -81,7 +81,7 @@ succeeded rs es places statuses r table within success =
     ap is_success (get_or_from_slice_get statuses r status.0 0 status.1 ∙ sym row.status_is) ∙ is
 
 -- the response to a request has its status
-responds : (rs : List Record) (es : List Entry) (places statuses : List ℕ) (i : ℕ) → IsTableOf rs es places statuses → i < length rs → (e : Entry) × Responds rs es i e × (e.status ≡ get_or statuses i 0)
+pub responds : (rs : List Record) (es : List Entry) (places statuses : List ℕ) (i : ℕ) → IsTableOf rs es places statuses → i < length rs → (e : Entry) × Responds rs es i e × (e.status ≡ get_or statuses i 0)
 responds rs es places statuses i table within =
     let place = slice_get-some places i (omega (arith, table.places_count)) in
     let status = slice_get-some statuses i (omega (arith, table.statuses_count)) in

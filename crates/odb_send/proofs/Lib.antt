@@ -10,3 +10,4 @@ pub mod TextLemmas
 pub mod PlanLemmas
 pub mod ReadLemmas
 pub mod SoundLemmas
+mod ResendLemmas

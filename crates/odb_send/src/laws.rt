@@ -14,7 +14,7 @@ ghost use Rattle.odb_doc.specs.canonical.CanonicalLaws.{IsDocumentOf};
 ghost use Rattle.odb_reply.specs.Fits.{Fits, IsTableOf};
 ghost use Rattle.odb_reply.specs.ResponseDocuments.{Entry};
 ghost use Rattle.odb_send.specs.declared.rest.Rest.{Rest};
-ghost use Rattle.odb_send.specs.Laws.{HasSucceeded, IsPartOfPlan, MayBeSent};
+ghost use Rattle.odb_send.specs.Laws.{HasSucceeded, IsPartOfPlan, MayBeSent, with_rest};
 ghost use Rattle.odb_send.specs.Rests.{IsRestOf, kept, records_in};
 ghost use Rattle.odb_send.specs.Texts.{IsTextOf};
 ghost use Rattle.odb_send.specs.Units.{IsDone, IsInRest, IsLeftOut};
@@ -49,6 +49,16 @@ pub fn every_unit()
     ensures all { (batch : List Record) (responses : List Entry) (places statuses : List ℕ)
         → HasGoodNames batch → Fits batch responses → IsTableOf batch responses places statuses
         → (u : ℕ) → MayBeSent batch statuses u → IsInRest batch statuses u }
+{}
+
+/// Responses that fit a batch, with responses that fit its rest in place of those to the same requests, fit the batch.
+/// So a rest can be sent, then the rest by these responses, and so on until one is empty (OData JSON Format 4.01,
+/// section 19.5).
+pub fn every_resending()
+    ensures { (batch : List Record) (responses others : List Entry) (places statuses : List ℕ)
+        (locations : ℕ → Option (List ℕ)) (rest : Rest) → HasGoodNames batch → Fits batch responses
+        → IsTableOf batch responses places statuses → IsRestOf batch statuses locations rest
+        → Fits (records_in batch rest) others → Fits batch (with_rest responses others) }
 {}
 
 /// What the text of a rest is read as, whatever numbers its bodies hold (OData JSON Format 4.01, section 19.1).
