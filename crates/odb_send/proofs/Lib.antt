@@ -10,3 +10,5 @@ pub mod TextLemmas
 pub mod PlanLemmas
 pub mod ReadLemmas
 pub mod SoundLemmas
+pub mod NextPartLemmas
+pub mod PartLawLemmas
