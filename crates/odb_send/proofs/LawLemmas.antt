@@ -21,7 +21,7 @@ use Rattle.odb_send.specs.Rests.{HasUrls, IsUrl, is_kept, rest_record, select}
 use Rattle.odb_send.specs.Rests.IsUrl.{same, moved}
 use Rattle.odb_send.proofs.NameLemmas.{HasStayingUrls}
 use Rattle.odb_send.specs.Units.{AreMarksOf, IsDone, IsInRest, IsLeftOut, marked, unit_needed}
-use Rattle.odb_send.specs.Units.IsLeftOut.{own, needing}
+use Rattle.odb_send.specs.Units.IsBarred.{own, needing}
 
 -- an element at a position within
 pub slice_get-some : {X : Type 0} (xs : List X) (i : ℕ) → i < length xs → (x : X) × (slice_get xs i ≡ Some x)
@@ -56,10 +56,10 @@ rest_may_be_sent rs statuses units good are u rest = record {
   not_done = rest.not_done;
   repeats = λ i within unit. elim (cases_Bool (may_repeat_at rs statuses i)) [
     | inl is ↦ is
-    | inr bad ↦ absurd (rest.not_left_out (subst (IsLeftOut rs statuses) unit (own i within bad)))
+    | inr bad ↦ absurd (rest.not_left_out (subst (IsLeftOut rs statuses) unit (own i within refl bad)))
   ];
   met = λ i need within unit inside. met_by rs statuses units (unit_needed rs need) are (need_known rs good i need within inside)
-      (λ left. rest.not_left_out (subst (IsLeftOut rs statuses) unit (needing i need within inside left)));
+      (λ left. rest.not_left_out (subst (IsLeftOut rs statuses) unit (needing i need within refl inside left)));
 }
 
 -- ---- what was done is not left out
@@ -119,8 +119,8 @@ needs_done rs es places statuses good fits table i (One r) within inside done = 
         succeeded rs es places statuses j table inside_too (satisfied j unit)
 
 pub done_stays : (rs : List Record) (es : List Entry) (places statuses : List ℕ) → HasGoodNames rs → Fits rs es → IsTableOf rs es places statuses → (u : ℕ) → IsLeftOut rs statuses u → ¬ IsDone rs statuses u
-done_stays rs es places statuses good fits table u (own i within bad) done = true≢false (sym (done_repeats rs statuses i within (done i within refl)) ∙ bad)
-done_stays rs es places statuses good fits table u (needing i need within inside left) done =
+done_stays rs es places statuses good fits table u (own i within bound bad) done = true≢false (sym (done_repeats rs statuses i within (done i within refl)) ∙ bad)
+done_stays rs es places statuses good fits table u (needing i need within bound inside left) done =
     done_stays rs es places statuses good fits table (unit_needed rs need) left (needs_done rs es places statuses good fits table i need within inside done)
 
 -- ---- nothing is left to send
@@ -143,8 +143,8 @@ none_left rs statuses units list are all = select_none (is_kept rs units) (λ i 
 
 -- what may be sent is not left out
 sent_stays : (rs : List Record) (es : List Entry) (places statuses : List ℕ) → HasGoodNames rs → Fits rs es → IsTableOf rs es places statuses → (u : ℕ) → IsLeftOut rs statuses u → ¬ MayBeSent rs statuses u
-sent_stays rs es places statuses good fits table u (own i within bad) sent = true≢false (sym (sent.repeats i within refl) ∙ bad)
-sent_stays rs es places statuses good fits table u (needing i need within inside left) sent = elim (sent.met i need within refl inside) [
+sent_stays rs es places statuses good fits table u (own i within bound bad) sent = true≢false (sym (sent.repeats i within refl) ∙ bad)
+sent_stays rs es places statuses good fits table u (needing i need within bound inside left) sent = elim (sent.met i need within refl inside) [
   | inl done ↦ done_stays rs es places statuses good fits table (unit_needed rs need) left done
   | inr rest ↦ rest.not_left_out left
 ]

@@ -11,3 +11,5 @@ pub mod PlanLemmas
 pub mod ReadLemmas
 pub mod SoundLemmas
 mod ResendLemmas
+pub mod NextPartLemmas
+pub mod PartLawLemmas
