@@ -55,17 +55,6 @@ def read_text(name: str, *documents: bytes, options: tuple[Any, ...] = (), more:
     raise status_error(name, status)
 
 
-def resolve(base: bytes, roots: bytes, url: bytes, sent: bytes, location: bytes) -> Optional[str]:
-    """Returns the URL to which a request is sent; None if it leads out of the roots, or has a control character."""
-    documents = (base, roots, url, sent, location)
-    status, text = library.call("odb_resolve", documents, (0,), sum(map(len, documents)) + MORE)
-    if status == library.DONE:
-        return text.decode()
-    if status in (library.UNREADABLE, library.OUTSIDE):
-        return None
-    raise status_error("odb_resolve", status)
-
-
 def read_fault(line: bytes, *documents: bytes) -> Fault:
     """Returns the fault of a line ``fault CODE NAME PLACE``, in one of the documents: the batch, and maybe a second."""
     _, code, name, place = line.decode().rstrip("\n").split(" ", 3)

@@ -66,7 +66,7 @@ class GatewayBatch:
             limit=self._options.limit,
             stop=stop,
             deadline=self._options.deadline,
-            gate=self._requests.gate,
+            gate=self._requests.targets.gate,
             groups=self._send_group if self._options.groups == "forward" else None,
             journal=journal,
         )

@@ -1,12 +1,15 @@
 """Where the requests of a batch go: services by the prefixes of paths, and back."""
 
+import contextlib
 import re
 from dataclasses import dataclass, replace
-from typing import Iterable, Optional
+from typing import Any, AsyncContextManager, Iterable, Mapping, Optional, Union
 from urllib.parse import SplitResult, urljoin, urlsplit, urlunsplit
 
+from ..driver.groups import PreparedGroup
+from ..driver.waits import Places
 from ..http.batch_request import batch_folder
-from ..http.messages import Answer, Refusal
+from ..http.messages import Answer, PreparedRequest, Refusal
 
 _ESCAPE = re.compile("%[0-9A-Fa-f]{2}")
 # What may be escaped in a path without another meaning (RFC 3986, section 2.4; OData URL Conventions 4.01, section 2).
@@ -125,6 +128,34 @@ class Routes:
         for name in URL_HEADERS & headers.keys():
             headers[name] = self.public(base, request_url, headers[name])
         return replace(answer, headers=headers)
+
+
+class BatchTargets:
+    """Where the requests of one batch go: the route of each is found once, when its place is asked for.
+
+    Args:
+        routes: All routes.
+        places: What bounds the requests to the service of a route, by its prefix.
+
+    Attributes:
+        found: The routes that were found, with the URL that is sent, by the ids of the requests.
+    """
+
+    def __init__(self, routes: Routes, places: Mapping[str, Places]) -> None:
+        self._routes, self._places = routes, places
+        self.found: dict[str, Optional[tuple[Route, str]]] = {}
+
+    def gate(self, outgoing: Union[PreparedRequest, PreparedGroup]) -> AsyncContextManager[Any]:
+        """Returns what bounds the requests to the service of a request or a group; nothing if no route takes that."""
+        try:
+            if isinstance(outgoing, PreparedGroup):
+                first = next(request for request in outgoing.requests if request.reference is None)
+                route, _ = self._routes.target(first.url)
+            else:
+                route, _ = self.found[outgoing.id] = self._routes.target(outgoing.url)
+        except Refusal:
+            return contextlib.AsyncExitStack()
+        return self._places[route.prefix]
 
 
 def _takes(prefix: str, path: str) -> bool:

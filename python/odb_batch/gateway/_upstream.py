@@ -1,18 +1,16 @@
 """Requests to services: where they go, with which headers, over connections that are kept, and what they are answered."""
 
 import asyncio
-import contextlib
 import logging
 import ssl
 import time
 from contextvars import ContextVar
-from typing import Any, AsyncContextManager, Collection, Mapping, Optional, Union
+from typing import Any, Collection, Mapping, Optional
 from urllib.parse import urlsplit
 
 import aiohttp
 from yarl import URL
 
-from ..driver.groups import PreparedGroup
 from ..driver.waits import Places
 from ..http.batch_request import HeaderPolicy
 from ..http.budget import BodyBudget
@@ -25,7 +23,7 @@ from ._failures import FailureLog, error_code, failure_reason
 from ._log import LINES, log_line, trace_id
 from ._metrics import Counts
 from ._options import Options
-from ._routes import URL_HEADERS, Route, Routes
+from ._routes import URL_HEADERS, BatchTargets, Route, Routes
 
 _PART = 65_536
 # The headers that requests of a batch refer to, and of which an answer has one.
@@ -268,6 +266,7 @@ class ServiceRequests:
         budget: What the batch may hold in memory.
 
     Attributes:
+        targets: Where they go.
         journal: The journal of the batch, if it may be sent again.
         sent: How many requests and groups were sent so far.
         failed: How many of those that were sent, or could not be sent, were not answered 2xx or 3xx.
@@ -281,27 +280,14 @@ class ServiceRequests:
         self._policy, self._forwarded, self._public_base, self._budget = policy, forwarded, public_base, budget
         self.journal: Optional[StoreJournal] = None
         self.sent = self.failed = 0
-        # Found when a place was asked for.
-        self._targets: dict[str, Optional[tuple[Route, str]]] = {}
+        self.targets = BatchTargets(upstream.routes, upstream.places)
         # What all requests of a route have, by its prefix.
         self._common: dict[str, dict[str, str]] = {}
-
-    def gate(self, outgoing: Union[PreparedRequest, PreparedGroup]) -> AsyncContextManager[Any]:
-        """Returns what bounds the requests to the service of a request or a group; nothing if no route takes that."""
-        try:
-            if isinstance(outgoing, PreparedGroup):
-                first = next(request for request in outgoing.requests if request.reference is None)
-                route, _ = self._upstream.routes.target(first.url)
-            else:
-                route, _ = self._targets[outgoing.id] = self._upstream.routes.target(outgoing.url)
-        except Refusal:
-            return contextlib.AsyncExitStack()
-        return self._upstream.places[route.prefix]
 
     async def send(self, request: PreparedRequest) -> Answer:
         """Sends a request to the service of its route."""
         try:
-            route, url = self._targets.pop(request.id, None) or self._upstream.routes.target(request.url)
+            route, url = self.targets.found.pop(request.id, None) or self._upstream.routes.target(request.url)
             own = self._policy.own(request.headers) if request.headers else {}
             if not self._upstream.credentials.withheld[route.prefix].isdisjoint(own):
                 own = self._upstream.credentials.headers_for([route], own)
