@@ -114,7 +114,9 @@ class UpstreamClient:
         self.is_stopping = self._is_broken_off = False
 
     async def open(self) -> None:
-        """Makes what belongs to the running loop; raises OSError if the files of a route cannot be used."""
+        """Makes what belongs to the running loop; raises OSError if the files of a route, or this aiohttp, cannot be used."""
+        if not (hasattr(aiohttp.ClientRequest, "send") and hasattr(aiohttp.ClientRequest, "write_bytes")):
+            raise OSError(f"aiohttp {aiohttp.__version__} sends requests in a way that is not known here")
         self._route_options = {route.prefix: _route_options(route) for route in self._options.routes}
         self._connector = aiohttp.TCPConnector(limit=0, keepalive_timeout=self._options.keep_alive)
         self._session = aiohttp.ClientSession(
