@@ -4,14 +4,14 @@ use Rattle.json.specs.Json as json
 use Rattle.std.specs.List.{All}
 use Rattle.odb_spans.specs.Spans.{IsWithin}
 use Rattle.odb_spans.specs.Parts.{HasItems, ItemsLeft}
-use Rattle.odb_spans.proofs.bodies.bodies_among.Given as goal
+use Rattle.odb_spans.proofs.members.members_among.Given as goal
 
 abbrev pub invariant-items : goal.invariant-items
 invariant-items l = record {
   order : l.start ≤ l.at;
   within : l.at ≤ length l.document;
-  bounds : All (IsWithin (length l.document)) l.bodies.items;
-  remaining : (js : json.Items) (ts : List Token) → HasItems l.document l.start js ts → ItemsLeft l.document l.at l.bodies.items js ts;
+  bounds : All (IsWithin (length l.document)) l.values.items;
+  remaining : (js : json.Items) (ts : List Token) → HasItems l.document l.start js ts → ItemsLeft l.name l.document l.at l.values.items js ts;
 }
 
 abbrev pub decreases-items : goal.decreases-items

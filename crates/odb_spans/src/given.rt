@@ -1,8 +1,8 @@
-//! The body of one request.
+//! A member of one element.
 
 ghost use Rattle.std.specs.Prelude.{◌≡◌, ◌<◌, ℕ, Some, length, IfOk, MatchOption};
 ghost use Rattle.odb_spans.specs.Spans.{IsWithin};
-ghost use Rattle.odb_spans.specs.Parts.{GivesBody, IsGiven, IsNullAt};
+ghost use Rattle.odb_spans.specs.Parts.{GivesMember, IsGiven, IsNullAt};
 
 use crate::extent::value_end;
 use crate::member::last_member;
@@ -30,18 +30,19 @@ fn given(document: &[u8], value: Option<Span>) -> Option<Span>
     }
 }
 
-/// Returns the body of the request at a position, if any, and where the request ends.
-pub(crate) fn body_at(
+/// Returns the member of this name of the element at a position, if any, and where the element ends.
+pub(crate) fn given_at(
     alloc: Global,
     document: &[u8],
     at: usize,
+    name: &str,
 ) -> Result<(Option<Span>, usize), AllocError>
     requires { at < length document.now }
-    ensures { IfOk result (λ found. GivesBody document.now at found.0 found.1) }
+    ensures { IfOk result (λ found. GivesMember name.now document.now at found.0 found.1) }
 {
     if document[at] != b'{' {
         return Ok((None, value_end(document, at)));
     }
-    let (body, end) = last_member(alloc, document, at + 1, "body")?;
-    Ok((given(document, body), end))
+    let (value, end) = last_member(alloc, document, at + 1, name)?;
+    Ok((given(document, value), end))
 }
