@@ -61,7 +61,6 @@ COMPARISONS = [
     ("options in docs and in cases", ["tools/options.py"]),
     ("examples of calls", ["tools/call_examples.py"]),
     ("docs/faults.md", ["tools/faults.py"]),
-    ("explanations of faults", ["tools/explanations.py"]),
 ]
 
 TESTS = ("the tests", f"-m pytest -n {os.cpu_count()} -q --hypothesis-profile gate --durations 10".split())
