@@ -4,6 +4,7 @@ mod FaultLemmas
 mod OutcomeLemmas
 mod PositionLemmas
 mod RequestLemmas
+mod ResponseLemmas
 mod ReturnLemmas
 mod SessionLemmas
 mod TargetLemmas
