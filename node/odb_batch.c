@@ -103,7 +103,7 @@ napi_value written(napi_env env, writer *write, void *given, size_t size)
     struct bytes text = {NULL, 0};
     uint32_t status;
     do {
-        uint8_t *room = realloc(text.at, size);
+        uint8_t *room = realloc(text.at, size > 0 ? size : 1); /* a text may be empty, and realloc frees a block for 0 bytes */
         if (room == NULL) {
             status = ODB_OUT_OF_MEMORY;
             size = 0;
