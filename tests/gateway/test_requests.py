@@ -202,13 +202,30 @@ def test_no_request_is_sent_twice_by_a_library(upstream, loop, method):
         upstreams = UpstreamClient(options_of(["--upstream", service.url]), Counts())
         await upstreams.open()
         try:
-            await upstreams.session(method).request(method, service.url + "/x")
+            await upstreams.request(method, service.url + "/x")
         finally:
             await upstreams.close()
 
     with pytest.raises(aiohttp.ClientConnectionError):
         loop.run(send())
     assert service.paths == ["/x"]
+
+
+@pytest.mark.parametrize("name", ["send", "write_bytes"])
+def test_a_library_that_sends_in_another_way_is_refused(loop, monkeypatch, name):
+    """Else nothing would see to it that a request is sent once."""
+    import aiohttp
+
+    from odb_batch.gateway._metrics import Counts
+    from odb_batch.gateway._options import options_of
+    from odb_batch.gateway._upstream import UpstreamClient
+
+    async def start():
+        await UpstreamClient(options_of(["--upstream", "http://a/"]), Counts()).open()
+
+    monkeypatch.delattr(aiohttp.ClientRequest, name)
+    with pytest.raises(OSError, match="aiohttp .* in a way that is not known here"):
+        loop.run(start())
 
 
 @pytest.mark.parametrize("method, path, body, headers, status, code", [

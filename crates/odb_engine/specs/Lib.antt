@@ -17,10 +17,12 @@ pub mod Rests
 pub mod Contents
 pub mod FullPlans
 pub mod Tasks
+pub mod Written
 pub mod Located
 pub mod Labels
 pub mod Live
 pub mod Requests
+pub mod ServiceResponses
 pub mod lines
 -- For invariants and private clauses.
 pub mod Answered

@@ -1,4 +1,5 @@
 mod PartLemmas
+mod ResponseLemmas
 pub mod MarkLemmas
 pub mod SelectLemmas
 pub mod PositionLemmas
@@ -10,3 +11,6 @@ pub mod TextLemmas
 pub mod PlanLemmas
 pub mod ReadLemmas
 pub mod SoundLemmas
+mod ResendLemmas
+pub mod NextPartLemmas
+pub mod PartLawLemmas

@@ -1,9 +1,11 @@
 -- What public clauses cite, and has to be believed.
 pub mod Parts
+pub mod ResponseParts
 pub mod Repeats
 pub mod Units
 pub mod Locations
 pub mod Rests
+pub mod NextPart
 pub mod Faults
 pub mod Laws
 pub mod Texts
