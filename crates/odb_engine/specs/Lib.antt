@@ -22,6 +22,7 @@ pub mod Located
 pub mod Labels
 pub mod Live
 pub mod Requests
+pub mod ServiceResponses
 pub mod lines
 -- For invariants and private clauses.
 pub mod Answered
