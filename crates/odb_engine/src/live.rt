@@ -17,6 +17,7 @@ ghost use Rattle.odb_engine.specs.Labels.{id_lines, position_of};
 ghost use Rattle.odb_engine.specs.Live as live;
 
 mod labels;
+mod parts;
 mod requests;
 mod units;
 
