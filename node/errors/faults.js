@@ -2,7 +2,7 @@
 
 // Why a call does not do what it is asked for.
 
-const { describeFault } = require('./findings.js')
+const { Findings } = require('./findings.js')
 const explanations = require('./explanations.json')
 const library = require('../library/index.js')
 
@@ -14,17 +14,18 @@ const REFUSED = 1
 const OUT_OF_MEMORY = 4
 
 class Fault extends Error {
-  // The bytes of the document, if there is one, and where the place is in it, once that is known.
-  #document
+  // What the document says, if there is one, and where the place is in it, once that is known.
+  #findings
   #position
 
+  /** `document` is its bytes, or what it says, which all its faults share. */
   constructor(code, faultName, place, document, position) {
     super(`${code} ${faultName} ${place}`)
     this.name = 'Fault'
     this.code = code
     this.faultName = faultName
     this.place = place
-    this.#document = document
+    this.#findings = document === undefined || document instanceof Findings ? document : new Findings(document)
     this.#position = position
   }
 
@@ -45,12 +46,12 @@ class Fault extends Error {
   }
 
   get details() {
-    const begin = this.#document === undefined ? '' : describeFault(this.code, this.#document, this.place)
+    const begin = this.#findings?.describe(this.code, this.place) ?? ''
     return `${begin}${this.faultName}: ${this.explanation.replace(/\s+/g, ' ').trim()}`
   }
 
   get #numbers() {
-    this.#position ??= this.#document === undefined ? [] : findPlace(this.#document, this.place)
+    this.#position ??= this.#findings === undefined ? [] : findPlace(this.#findings.document, this.place)
     return this.#position
   }
 }
@@ -90,10 +91,11 @@ function readFault(line, documents) {
 
 /** The faults whose words lie in a text of ASCII, by the numbers of each: all faults of a batch. */
 function listedFaults(batch, text, numbers) {
+  const findings = new Findings(batch)
   return Array.from({ length: numbers.length / OF_FAULT }, (_, i) => {
     const own = numbers.subarray(OF_FAULT * i, OF_FAULT * (i + 1))
     const words = [0, 2, 4].map((at) => text.slice(own[at], own[at] + own[at + 1]))
-    return new Fault(...words, batch, [...own.subarray(6)])
+    return new Fault(...words, findings, [...own.subarray(6)])
   })
 }
 

@@ -23,6 +23,7 @@ pub mod Labels
 pub mod Live
 pub mod LiveParts
 pub mod Requests
+pub mod ServiceResponses
 pub mod lines
 -- For invariants and private clauses.
 pub mod Answered

@@ -4,6 +4,7 @@ from functools import partial
 from typing import Any, Literal, Optional, get_args
 
 from ..errors.faults import Fault, Position
+from ..errors.findings import Findings
 from . import library
 
 #: Whether a run goes on after an error; the position of a mode is its number.
@@ -74,15 +75,15 @@ def read_faults(batch: bytes) -> tuple[Fault, ...]:
     status, text, found = library.call_faults(batch, len(batch) + MORE, likely_count(batch))
     if status not in (library.DONE, library.REFUSED):
         raise status_error("odb_faults", status)
-    words = text.decode()
-    return tuple(_listed_fault(batch, words, numbers) for numbers in found)
+    words, findings = text.decode(), Findings(batch)
+    return tuple(_listed_fault(findings, words, numbers) for numbers in found)
 
 
-def _listed_fault(batch: bytes, text: str, numbers: tuple[int, ...]) -> Fault:
+def _listed_fault(findings: Findings, text: str, numbers: tuple[int, ...]) -> Fault:
     """Returns the fault whose words lie there in a text of ASCII."""
     code, code_length, name, name_length, place, place_length, line, column, offset = numbers
     fault = Fault(text[code : code + code_length], text[name : name + name_length], text[place : place + place_length])
-    return fault.at(batch, Position(line, column, offset))
+    return fault.at(findings, Position(line, column, offset))
 
 
 def _position(document: bytes, place: str) -> Optional[Position]:

@@ -5,7 +5,7 @@ import pkgutil
 from functools import cache
 from typing import Callable, NamedTuple, Optional
 
-from .findings import describe
+from .findings import Findings
 
 
 @cache
@@ -65,7 +65,8 @@ class Fault(OdbError, ValueError):
     """
 
     place: str
-    _document: Optional[bytes] = None
+    # What its document says for people; the faults of a document share it.
+    _findings: Optional[Findings] = None
     # Where it is, or until that is asked for what looks it up.
     _found: Optional[Position] = None
     _locate: Optional[Callable[[], Optional[Position]]] = None
@@ -78,12 +79,12 @@ class Fault(OdbError, ValueError):
 
     def in_document(self, document: bytes, locate: Callable[[], Optional[Position]]) -> "Fault":
         """Notes the document that has the fault, and what looks up where; returns the fault itself."""
-        self._document, self._locate = document, locate
+        self._findings, self._locate = Findings(document), locate
         return self
 
-    def at(self, document: bytes, position: Position) -> "Fault":
-        """Notes the document that has the fault, and where; returns the fault itself."""
-        self._document, self._found = document, position
+    def at(self, findings: Findings, position: Position) -> "Fault":
+        """Notes what the document says that has the fault, and where it is; returns the fault itself."""
+        self._findings, self._found = findings, position
         return self
 
     def of_builder(self) -> "Fault":
@@ -106,7 +107,7 @@ class Fault(OdbError, ValueError):
         ...     print(fault.message[:54])
         a: "b" in dependsOn is unknown. UnknownName: A name in
         """
-        found = "" if self._document is None else describe(self.code, self._document, self.place)
+        found = "" if self._findings is None else self._findings.describe(self.code, self.place)
         return f"{found}{self.name}: {' '.join(self.explanation.split())}"
 
     def _position(self) -> Optional[Position]:
