@@ -7,6 +7,7 @@ from hypothesis import given
 
 from odb_batch import Fault, check, faults
 from odb_batch.errors.findings import Findings
+from support.profiles import share
 from support.strategies import batches
 
 
@@ -56,6 +57,7 @@ def test_the_line_of_a_fault_stays():
     assert str(raised.value) == "F40 UnknownName /requests/0"
 
 
+@share(4)
 @given(batches(60))
 def test_of_each_fault_of_a_random_batch(batch):
     """It begins with the id, and names only what is in the request."""

@@ -21,6 +21,7 @@ pub mod Written
 pub mod Located
 pub mod Labels
 pub mod Live
+pub mod LiveParts
 pub mod Requests
 pub mod ServiceResponses
 pub mod lines

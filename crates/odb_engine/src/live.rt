@@ -18,6 +18,7 @@ ghost use Rattle.odb_engine.specs.Live as live;
 
 mod labels;
 mod opened;
+mod parts;
 mod requests;
 mod responses;
 mod units;

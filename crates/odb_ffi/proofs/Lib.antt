@@ -3,6 +3,7 @@ mod AnswerLemmas
 mod FaultLemmas
 mod OutcomeLemmas
 mod PositionLemmas
+mod ReportedLemmas
 mod RequestLemmas
 mod ResponseLemmas
 mod ReturnLemmas

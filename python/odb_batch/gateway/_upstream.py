@@ -59,7 +59,8 @@ class _Request(aiohttp.ClientRequest):
     async def write_bytes(self, writer: Any, conn: Any, *more: Any) -> None:
         """Writes the body, unless another gateway goes on meanwhile: a service does not perform a head alone."""
         try:
-            self._require_held()
+            if self.body:
+                self._require_held()
         except Late:
             conn.protocol.set_exception(aiohttp.ClientConnectionError("the gateway was paused while it sent the request"))
         else:
