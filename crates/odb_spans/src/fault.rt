@@ -1,13 +1,12 @@
-//! Where parsing a document fails.
+//! Where a document that is not JSON goes wrong.
 
-ghost use Rattle.std.specs.Prelude.{◌≤◌, ◌<◌, ◌+◌, length, IfOk, IfSome, OnErr};
-ghost use Rattle.serde_json.specs.Data.{Data};
-ghost use Rattle.odb_doc.specs.Documents.{IsJson};
+ghost use Rattle.std.specs.Prelude.{◌≡◌, ◌≤◌, ◌<◌, ◌+◌, length, IfOk, OnErr};
 
 use crate::byte::has_byte;
 use crate::extent::value_end;
+use crate::front::Front;
+use crate::parsing::ParseError;
 use crate::walk::past_blanks;
-use odb_doc::MAX_DOCUMENT_BYTES;
 use serde_json::Value;
 use std::alloc::{AllocError, Global};
 
@@ -42,13 +41,7 @@ fn utf8_bytes(document: &[u8]) -> usize
 }
 
 /// Returns whether bytes may follow with which these are JSON, or none need to.
-///
-/// # Errors
-///
-/// If memory for the value of the bytes cannot be allocated.
-fn begins_json(alloc: Global, bytes: &[u8]) -> Result<bool, AllocError>
-    ensures { OnErr result (0 < length bytes.now) }
-{
+fn begins_json(alloc: Global, bytes: &[u8]) -> Result<bool, AllocError> {
     match Value::from_slice(alloc, bytes) {
         Ok(_) => Ok(true),
         Err(error) if error.is_memory() => Err(AllocError),
@@ -73,7 +66,8 @@ fn between(low: usize, high: usize, guess: usize, reach: usize) -> usize
 /// number or a word.
 fn token_end(text: &[u8], start: usize) -> usize
     requires { start ≤ length text.now }
-    ensures { result ≤ length text.now }
+    ensures after { start ≤ result }
+    ensures within { result ≤ length text.now }
 {
     let end = value_end(text, start);
     if end == text.len() || has_byte(text, start, b'"') {
@@ -83,27 +77,59 @@ fn token_end(text: &[u8], start: usize) -> usize
     }
 }
 
-/// Returns the first byte that cannot be there, or the end of the text if it only ends too soon. `guess` is what
-/// the parser reports: where the token of that byte begins, or the token after it. If only half a surrogate pair
-/// is wrong, the position is that of its string.
-///
-/// # Errors
-///
-/// If memory for the value of a part of the text cannot be allocated.
-fn first_wrong(alloc: Global, text: &[u8], guess: usize) -> Result<usize, AllocError>
-    requires { guess ≤ length text.now }
-    ensures within { IfOk result (λ at. at ≤ length text.now) }
-    ensures memory { OnErr result (0 < length text.now) }
-{
-    let start = past_blanks(text, guess);
-    let end = token_end(text, start);
-    if begins_json(alloc, &text[..end])? {
-        return Ok(if end == text.len() { end } else { start });
+/// A part of a text, after a short front in place of a long one.
+#[derive(Drop)]
+struct Part {
+    bytes: Vec<u8>,
+    /// How many bytes the long front has.
+    from: usize,
+    /// How many bytes the short one has.
+    short: usize,
+}
+
+impl Part {
+    /// Returns the part of a text after a front of it, up to a position.
+    fn after(alloc: Global, text: &[u8], front: Front, end: usize) -> Result<Self, AllocError>
+        requires order { front.end ≤ end }
+        requires within { end ≤ length text.now }
+    {
+        let mut bytes = front.shortened(alloc)?;
+        let short = bytes.len();
+        bytes.extend_from_slice(&text[front.end..end])?;
+        Ok(Part {
+            bytes,
+            from: front.end,
+            short,
+        })
     }
-    let (mut good, mut bad, mut reach) = (0, end, 0_usize);
+
+    /// Returns whether the text is [`begins_json`] up to a position.
+    fn begins_json(&self, alloc: Global, end: usize) -> Result<bool, AllocError> {
+        let end = self.short.saturating_add(end.saturating_sub(self.from));
+        begins_json(alloc, &self.bytes[..self.bytes.len().min(end)])
+    }
+}
+
+/// Returns the first byte of a text that cannot be there, or the end of the text if it only ends too soon. The parser
+/// reports where the token of that byte begins, or the token after it. If only half a surrogate pair is wrong, the
+/// position is that of its string.
+fn first_wrong(alloc: Global, text: &[u8], error: ParseError) -> Result<usize, AllocError>
+    ensures { IfOk result (λ at. at ≤ length text.now) }
+{
+    let start = past_blanks(text, bytes_before(text, error.line, error.column));
+    let end = token_end(text, start);
+    if end == text.len() && error.is_eof {
+        return Ok(end);
+    }
+    let front = Front::before(text, start);
+    let part = Part::after(alloc, text, front, end)?;
+    if end < text.len() && part.begins_json(alloc, end)? {
+        return Ok(start);
+    }
+    let (mut good, mut bad, mut reach) = (front.end, end, 0_usize);
     'search: while good + 1 < bad {
         let at = between(good, bad, start, reach);
-        if begins_json(alloc, &text[..at])? {
+        if part.begins_json(alloc, at)? {
             good = at;
         } else {
             bad = at;
@@ -113,29 +139,33 @@ fn first_wrong(alloc: Global, text: &[u8], guess: usize) -> Result<usize, AllocE
     Ok(good)
 }
 
-/// Returns the first byte of a document that cannot be there, or its end if it ends too soon. None for JSON,
-/// and for a document that is too large to be parsed.
+/// Returns the first byte of a document that cannot be there, or its end if it ends too soon, by what the parser
+/// reports of it.
 ///
-/// Costs O(n log k) for a document of n bytes with a wrong token of k bytes.
+/// Costs O(n) for a document of n bytes, and O(k log k) for a wrong token of k bytes. What of it is UTF-8 is parsed once
+/// more if that is not all.
 ///
 /// # Errors
 ///
-/// If memory for the document's value cannot be allocated.
-pub(crate) fn fault_in(alloc: Global, document: &[u8]) -> Result<Option<usize>, AllocError>
-    ensures within { IfOk result (λ found. IfSome found (λ at. at ≤ length document.now)) }
-    ensures fault { IfOk result (λ found. IfSome found (λ at. (d : Data) → ¬ IsJson document.now d)) }
+/// If an allocation fails. Not for an empty document.
+pub(crate) fn fault_in(
+    alloc: Global,
+    document: &[u8],
+    error: ParseError,
+) -> Result<usize, AllocError>
+    ensures within { IfOk result (λ at. at ≤ length document.now) }
     ensures memory { OnErr result (0 < length document.now) }
 {
-    if document.len() > MAX_DOCUMENT_BYTES {
-        return Ok(None);
+    if document.is_empty() {
+        return Ok(0);
     }
-    match Value::from_slice(alloc, document) {
-        Ok(_) => Ok(None),
+    let text = &document[..utf8_bytes(document)];
+    if text.len() == document.len() {
+        return first_wrong(alloc, text, error);
+    }
+    match Value::from_slice(alloc, text) {
+        Ok(_) => Ok(text.len()),
         Err(error) if error.is_memory() => Err(AllocError),
-        Err(error) => {
-            let text = &document[..utf8_bytes(document)];
-            let guess = bytes_before(text, error.line(), error.column());
-            Ok(Some(first_wrong(alloc, text, guess)?))
-        }
+        Err(error) => first_wrong(alloc, text, ParseError::of(&error)),
     }
 }

@@ -12,6 +12,7 @@ use crate::byte::has_byte;
 use crate::fault::fault_in;
 use crate::item::{items_at, next_item};
 use crate::member::last_member;
+use crate::parsing::{ParseError, error_in};
 use crate::position::Position;
 use crate::span::Span;
 use crate::walk::value_start;
@@ -92,30 +93,39 @@ pub fn is_in_batch(place: Place) -> bool
     matches!(place, Place::Batch | Place::Request(_))
 }
 
-/// Returns where parsing a document fails, for the place of a whole document. A document with a fault at
+/// Returns where the parser stops in a document, for the place of a whole document. A document with a fault at
 /// an element is JSON, so it is not parsed again.
-fn fault_at(alloc: Global, document: &[u8], place: Place) -> Result<Option<usize>, AllocError>
-    ensures within { IfOk result (λ found. IfSome found (λ at. at ≤ length document.now)) }
-    ensures fault { IfOk result (λ found. IfSome found (λ at. (d : Data) → ¬ IsJson document.now d)) }
+pub(crate) fn error_at(
+    alloc: Global,
+    document: &[u8],
+    place: Place,
+) -> Result<Option<ParseError>, AllocError>
+    ensures fault { IfOk result (λ found. IfSome found (λ _. (d : Data) → ¬ IsJson document.now d)) }
     ensures memory { OnErr result (0 < length document.now) }
 {
     match place {
         Place::Batch | Place::Outcomes | Place::Responses | Place::Events => {
-            fault_in(alloc, document)
+            error_in(alloc, document)
         }
         Place::Request(_) | Place::Outcome(_) | Place::Response(_) | Place::Event(_) => Ok(None),
     }
 }
 
-/// Returns the offset of the position in a document.
-pub(crate) fn offset_of(alloc: Global, document: &[u8], place: Place) -> Result<usize, AllocError>
+/// Returns the offset of the position in a document, by where the parser stopped in one that is not JSON.
+pub(crate) fn offset_of(
+    alloc: Global,
+    document: &[u8],
+    error: Option<ParseError>,
+    place: Place,
+) -> Result<usize, AllocError>
+    requires { IfSome error (λ _. (d : Data) → ¬ IsJson document.now d) }
     ensures begins { IfOk result (λ offset. (d : Data) → IsJson document.now d
         → ValueBeginsAt document.now offset d place) }
     ensures within { IfOk result (λ offset. offset ≤ length document.now) }
     ensures memory { OnErr result (0 < length document.now) }
 {
-    match fault_at(alloc, document, place)? {
-        Some(fault) => Ok(fault),
+    match error {
+        Some(error) => fault_in(alloc, document, error),
         None => value_offset(alloc, document, place),
     }
 }
@@ -184,13 +194,19 @@ fn value_offset_in_pair(alloc: Global, line: &[u8], place: Place) -> Result<usiz
 }
 
 /// Returns the offset of the position in a line that holds a pair.
-fn offset_in_pair(alloc: Global, line: &[u8], place: Place) -> Result<usize, AllocError>
+fn offset_in_pair(
+    alloc: Global,
+    line: &[u8],
+    error: Option<ParseError>,
+    place: Place,
+) -> Result<usize, AllocError>
+    requires { IfSome error (λ _. (d : Data) → ¬ IsJson line.now d) }
     ensures begins { IfOk result (λ offset. BeginsInPair line.now offset place) }
     ensures within { IfOk result (λ offset. offset ≤ length line.now) }
     ensures memory { OnErr result (0 < length line.now) }
 {
-    match fault_at(alloc, line, place)? {
-        Some(fault) => Ok(fault),
+    match error {
+        Some(error) => fault_in(alloc, line, error),
         None => value_offset_in_pair(alloc, line, place),
     }
 }
@@ -205,7 +221,7 @@ fn offset_in_pair(alloc: Global, line: &[u8], place: Place) -> Result<usize, All
 /// there, or the end of a document that ends too soon. A document larger than
 /// [`odb_doc::MAX_DOCUMENT_BYTES`] is not parsed: the position is that of its value.
 ///
-/// Costs O(n) for a document of n bytes; if it is not JSON, O(n log k) for a wrong token of k bytes.
+/// Costs O(n) for a document of n bytes; if it is not JSON, O(k log k) more for a wrong token of k bytes.
 ///
 /// # Errors
 ///
@@ -215,7 +231,27 @@ pub fn position_of(alloc: Global, document: &[u8], place: Place) -> Result<Posit
     ensures stands { IfOk result (λ position. Stands document.now place position) }
     ensures memory { OnErr result (0 < length document.now) }
 {
-    let offset = offset_of(alloc, document, place)?;
+    let error = error_at(alloc, document, place)?;
+    position_by(alloc, document, error, place)
+}
+
+/// Returns what [`position_of`] returns of a document that [`crate::parse`] has parsed: it is not parsed again. `error`
+/// is where the parser stopped in it, if it is not JSON.
+///
+/// # Errors
+///
+/// Those of [`position_of`].
+pub fn position_by(
+    alloc: Global,
+    document: &[u8],
+    error: Option<ParseError>,
+    place: Place,
+) -> Result<Position, AllocError>
+    requires { IfSome error (λ _. (d : Data) → ¬ IsJson document.now d) }
+    ensures stands { IfOk result (λ position. Stands document.now place position) }
+    ensures memory { OnErr result (0 < length document.now) }
+{
+    let offset = offset_of(alloc, document, error, place)?;
     Ok(Position::at(document, offset))
 }
 
@@ -226,15 +262,22 @@ pub fn position_of(alloc: Global, document: &[u8], place: Place) -> Result<Posit
 /// position is that of the line's value; if it is not JSON, the position for a whole document is that of
 /// the first byte that cannot be there.
 ///
-/// Costs O(n) for a line of n bytes.
+/// The line was parsed by [`crate::parse`]; `error` is where the parser stopped in it, if it is not JSON. Costs O(n) for
+/// a line of n bytes.
 ///
 /// # Errors
 ///
 /// As [`position_of`].
-pub fn position_in_pair(alloc: Global, line: &[u8], place: Place) -> Result<Position, AllocError>
+pub fn position_in_pair(
+    alloc: Global,
+    line: &[u8],
+    error: Option<ParseError>,
+    place: Place,
+) -> Result<Position, AllocError>
+    requires { IfSome error (λ _. (d : Data) → ¬ IsJson line.now d) }
     ensures stands { IfOk result (λ position. StandsInPair line.now place position) }
     ensures memory { OnErr result (0 < length line.now) }
 {
-    let offset = offset_in_pair(alloc, line, place)?;
+    let offset = offset_in_pair(alloc, line, error, place)?;
     Ok(Position::at(line, offset))
 }

@@ -1,13 +1,14 @@
 //! Where the elements begin that the places of many faults name, in one scan.
 
-ghost use Rattle.std.specs.Prelude.{◌≤◌, ◌<◌, length, IfOk, OnErr};
+ghost use Rattle.std.specs.Prelude.{◌≤◌, ◌<◌, length, IfOk, IfSome, OnErr};
 ghost use Rattle.std.specs.List.{AllZip};
 ghost use Rattle.serde_json.specs.Data.{Data};
 ghost use Rattle.odb_doc.specs.Documents.{IsJson};
 ghost use Rattle.odb_spans.specs.Parts.{BeginRequests};
 ghost use Rattle.odb_spans.specs.Positions.{IsPosition, Stands, ValueBeginsAt};
 
-use crate::locate::{elements_in, offset_of, span_at};
+use crate::locate::{elements_in, error_at, offset_of, span_at};
+use crate::parsing::ParseError;
 use crate::position::Position;
 use crate::span::Span;
 use crate::walk::value_start;
@@ -34,10 +35,12 @@ fn requests_in(alloc: Global, document: &[u8], faults: &[Refusal]) -> Result<Vec
 fn offset_among(
     alloc: Global,
     document: &[u8],
+    error: Option<ParseError>,
     requests: &[Span],
     place: Place,
 ) -> Result<usize, AllocError>
-    requires { BeginRequests document.now requests.now }
+    requires error { IfSome error (λ _. (d : Data) → ¬ IsJson document.now d) }
+    requires requests { BeginRequests document.now requests.now }
     ensures begins { IfOk result (λ offset. (d : Data) → IsJson document.now d
         → ValueBeginsAt document.now offset d place) }
     ensures within { IfOk result (λ offset. offset ≤ length document.now) }
@@ -45,9 +48,9 @@ fn offset_among(
     match place {
         Place::Request(at) => match span_at(requests, at) {
             Some(request) => Ok(request.start),
-            None => offset_of(alloc, document, place),
+            None => offset_of(alloc, document, error, place),
         },
-        _ => offset_of(alloc, document, place),
+        _ => offset_of(alloc, document, error, place),
     }
 }
 
@@ -55,15 +58,17 @@ fn offset_among(
 fn next_position(
     alloc: Global,
     document: &[u8],
+    error: Option<ParseError>,
     requests: &[Span],
     last: Position,
     place: Place,
 ) -> Result<Position, AllocError>
+    requires error { IfSome error (λ _. (d : Data) → ¬ IsJson document.now d) }
     requires requests { BeginRequests document.now requests.now }
     requires counts { IsPosition document.now last }
     ensures { IfOk result (Stands document.now place) }
 {
-    let offset = offset_among(alloc, document, requests, place)?;
+    let offset = offset_among(alloc, document, error, requests, place)?;
     Ok(last.moved_to(document, offset))
 }
 
@@ -84,11 +89,35 @@ pub fn positions_of(
         faults.now positions.items) }
     ensures memory { OnErr result (0 < length faults.now) }
 {
+    let error = match faults.first() {
+        Some(fault) => error_at(alloc, document, fault.place)?,
+        None => None,
+    };
+    positions_by(alloc, document, error, faults)
+}
+
+/// Returns what [`positions_of`] returns of a document that [`crate::parse`] has parsed: it is not parsed again. `error`
+/// is where the parser stopped in it, if it is not JSON.
+///
+/// # Errors
+///
+/// Those of [`positions_of`].
+pub fn positions_by(
+    alloc: Global,
+    document: &[u8],
+    error: Option<ParseError>,
+    faults: &[Refusal],
+) -> Result<Vec<Position>, AllocError>
+    requires { IfSome error (λ _. (d : Data) → ¬ IsJson document.now d) }
+    ensures stand { IfOk result (λ positions. AllZip (λ fault. Stands document.now fault.place)
+        faults.now positions.items) }
+    ensures memory { OnErr result (0 < length faults.now) }
+{
     let requests = requests_in(alloc, document, faults)?;
     let mut positions = Vec::with_capacity(alloc, faults.len())?;
     let mut last = Position::START;
     for fault in faults {
-        last = next_position(alloc, document, &requests, last, fault.place)?;
+        last = next_position(alloc, document, error, &requests, last, fault.place)?;
         positions.push(last)?;
     }
     Ok(positions)

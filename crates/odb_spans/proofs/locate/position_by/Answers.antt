@@ -1,6 +1,6 @@
 use Rattle.std.proofs.Common.{sym, subst}
 use Rattle.odb_spans.specs.Positions.{ValueBeginsAt}
-use Rattle.odb_spans.proofs.locate.position_of.Goals as goal
+use Rattle.odb_spans.proofs.locate.position_by.Goals as goal
 
 pub returns-clause-stands : goal.returns-clause-stands
 returns-clause-stands c = record {

@@ -1,5 +1,5 @@
 use Rattle.odb_spans.proofs.FoundLemmas.{next-stands}
-use Rattle.odb_spans.proofs.positions.positions_of.Goals as goal
+use Rattle.odb_spans.proofs.positions.positions_by.Goals as goal
 
 pub loop-fault-preserved : goal.loop-fault-preserved
 loop-fault-preserved c = record {
