@@ -39,7 +39,7 @@ pub use lines::{EachLine, LineCommand, LineInput, answer_lines};
 pub use live::{LiveRun, open_run, requests_in};
 pub use setup::Setup;
 pub use tasks::{
-    Answer, Command, Document, Names, Source, Task, answer_in_memory, answer_line, answer_located,
-    answer_task, canon_batch, check_batch, faults_in, locate_batch, locate_pair, match_batch,
-    plan_batch, plan_of, replay_batch, run_batch, text_of,
+    Answer, Command, Document, Names, Slice, Source, Task, answer_in_memory, answer_line,
+    answer_located, answer_task, canon_batch, check_batch, faults_in, locate_batch, locate_pair,
+    match_batch, plan_batch, plan_of, replay_batch, run_batch, text_of,
 };

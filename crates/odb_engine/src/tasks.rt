@@ -15,7 +15,7 @@ mod replay;
 mod response;
 mod rest;
 pub(crate) mod run;
-mod source;
+pub(crate) mod source;
 pub(crate) mod task;
 
 pub use all_faults::faults_in;
@@ -28,5 +28,5 @@ pub use match_responses::match_batch;
 pub use plan::plan_batch;
 pub use replay::replay_batch;
 pub use run::run_batch;
-pub use source::{Document, Source};
+pub use source::{Document, Slice, Source};
 pub use task::Task;

@@ -30,7 +30,7 @@ impl LineCommand for EachLine {
         output: &mut Output<W>,
     ) -> Result<Ended, EngineFault> {
         let mut faults = Vec::new(alloc);
-        let found = text_of_line(alloc, line, self.task, self.setup, &mut faults);
+        let found = text_of_line(alloc, line, self.task, self.setup, &mut faults, &mut None);
         let all = self.task.lists_all();
         end(alloc, self.setup.form, all, found, &faults, output)
     }

@@ -14,6 +14,7 @@ use crate::halt::Halt;
 use crate::lines::text_of_line;
 use crate::setup::Setup;
 use crate::tasks::command::{Command, text_of};
+use crate::tasks::source::Slice;
 use crate::tasks::task::Task;
 use odb_doc::Refusal;
 use std::alloc::{AllocError, Global};
@@ -124,7 +125,7 @@ pub fn answer_in_memory(
         answer.ended answer.text.items) }
 {
     let all = task.lists_all();
-    let (mut first, mut second, mut task) = (batch, second, task);
+    let (mut first, mut second, mut task) = (Slice::new(batch), Slice::new(second), task);
     let mut faults = Vec::new(alloc);
     let found = text_of(
         alloc,
@@ -154,6 +155,6 @@ pub fn answer_line(
     ensures { IfOk result (λ answer. OfWholeLine task line.now setup.form answer.ended answer.text.items) }
 {
     let mut faults = Vec::new(alloc);
-    let found = text_of_line(alloc, line, task, setup, &mut faults);
+    let found = text_of_line(alloc, line, task, setup, &mut faults, &mut None);
     Answer::listed(alloc, setup.form, task.lists_all(), found, &faults)
 }

@@ -3,7 +3,9 @@
 //! A position can be found only in the bytes of a document, so the documents are held in memory. What a command writes
 //! of good documents is the same, and takes no more time.
 
-ghost use Rattle.std.specs.Prelude.{◌≡◌, ◌↔◌, true, false, Err, IfOk, IsTrue, None, map, string_bytes};
+ghost use Rattle.std.specs.Prelude.{◌≡◌, ◌↔◌, true, false, Err, IfOk, IfSome, IsTrue, None, map, string_bytes};
+ghost use Rattle.serde_json.specs.Data.{Data};
+ghost use Rattle.odb_doc.specs.Documents.{IsJson};
 ghost use Rattle.odb_doc.specs.Refusals.{printed};
 ghost use Rattle.odb_text.specs.Lines.{printed_at};
 ghost use Rattle.odb_engine.specs.declared.halt.Halt.TheVariants as halts;
@@ -26,7 +28,7 @@ use crate::tasks::command::Command;
 use crate::tasks::task::Task;
 use odb_doc::{Place, Refusal};
 use odb_io::{Input, Output};
-use odb_spans::{Position, position_in_pair, position_of, positions_of};
+use odb_spans::{ParseError, Position, position_by, position_in_pair, positions_by};
 use odb_text::{Located, all_located_json, located_json, located_line, located_lines};
 pub use pair::{Names, locate_pair};
 use std::alloc::{AllocError, Global};
@@ -58,19 +60,22 @@ fn all_located_text(
     }
 }
 
-/// Returns where a fault is in a document, or in an array of two documents.
+/// Returns where a fault is in a document, or in an array of two documents. `error` is where the parser stopped in it, if
+/// it is not JSON.
 fn found_at(
     alloc: Global,
     document: &[u8],
+    error: Option<ParseError>,
     is_pair: bool,
     place: Place,
 ) -> Result<Position, AllocError>
+    requires { IfSome error (λ _. (d : Data) → ¬ IsJson document.now d) }
     ensures { IfOk result (StandsIn is_pair document.now place) }
 {
     if is_pair {
-        position_in_pair(alloc, document, place)
+        position_in_pair(alloc, document, error, place)
     } else {
-        position_of(alloc, document, place)
+        position_by(alloc, document, error, place)
     }
 }
 
@@ -88,13 +93,15 @@ fn numbered(number: Option<usize>, position: Position) -> Position
 fn position_at(
     alloc: Global,
     document: &[u8],
+    error: Option<ParseError>,
     number: Option<usize>,
     is_pair: bool,
     place: Place,
 ) -> Result<Position, AllocError>
+    requires { IfSome error (λ _. (d : Data) → ¬ IsJson document.now d) }
     ensures { IfOk result (HasPosition number is_pair document.now place) }
 {
-    let found = found_at(alloc, document, is_pair, place)?;
+    let found = found_at(alloc, document, error, is_pair, place)?;
     Ok(numbered(number, found))
 }
 
@@ -102,16 +109,18 @@ fn position_at(
 fn locate(
     alloc: Global,
     document: &[u8],
+    error: Option<ParseError>,
     is_pair: bool,
     name: &str,
     number: Option<usize>,
     form: Form,
     refusal: Refusal,
 ) -> Result<Answer, AllocError>
+    requires { IfSome error (λ _. (d : Data) → ¬ IsJson document.now d) }
     ensures { IfOk result (λ answer. LocatesFault (HasPosition number is_pair document.now refusal.place)
         form name.now (printed refusal) answer.ended answer.text.items) }
 {
-    let position = position_at(alloc, document, number, is_pair, refusal.place)?;
+    let position = position_at(alloc, document, error, number, is_pair, refusal.place)?;
     let text = located_text(alloc, form, name, Located { refusal, position })?;
     Ok(Answer {
         ended: Ended::Refused,
@@ -131,12 +140,21 @@ fn answer_of_task(
     ensures { IfOk result (λ answer. LocatesBy false task name.now number document.now setup.form
         answer.ended answer.text.items) }
 {
-    match text_of_line(alloc, document, task, setup, &mut Vec::new(alloc)) {
+    let mut error = None;
+    match text_of_line(
+        alloc,
+        document,
+        task,
+        setup,
+        &mut Vec::new(alloc),
+        &mut error,
+    ) {
         Ok(text) => Ok(Answer::done(text)),
         Err(Halt::Refused(refusal)) => {
             locate(
                 alloc,
                 document,
+                error,
                 task.takes_second(),
                 name,
                 number,
@@ -152,13 +170,15 @@ fn answer_of_task(
 fn all_located(
     alloc: Global,
     document: &[u8],
+    error: Option<ParseError>,
     number: Option<usize>,
     refusals: &[Refusal],
 ) -> Result<Vec<Located>, AllocError>
+    requires { IfSome error (λ _. (d : Data) → ¬ IsJson document.now d) }
     ensures { IfOk result (λ faults. AreLocated number document.now (map printed refusals.now)
         (map printed_at faults.items)) }
 {
-    let positions = positions_of(alloc, document, refusals)?;
+    let positions = positions_by(alloc, document, error, refusals)?;
     let mut faults = Vec::with_capacity(alloc, refusals.len())?;
     for at in 0..refusals.len() {
         faults.push(Located {
@@ -173,15 +193,17 @@ fn all_located(
 fn located_answer(
     alloc: Global,
     document: &[u8],
+    error: Option<ParseError>,
     name: &str,
     number: Option<usize>,
     form: Form,
     refusals: &[Refusal],
 ) -> Result<Answer, AllocError>
+    requires { IfSome error (λ _. (d : Data) → ¬ IsJson document.now d) }
     ensures { IfOk result (λ answer. PrintsAll name.now number document.now form (map printed refusals.now)
         answer.ended answer.text.items) }
 {
-    let faults = all_located(alloc, document, number, refusals)?;
+    let faults = all_located(alloc, document, error, number, refusals)?;
     let text = all_located_text(alloc, form, name, &faults)?;
     Ok(Answer {
         ended: Ended::Refused,
@@ -202,12 +224,12 @@ fn answer_of_all(
     ensures { IfOk result (λ answer. LocatesBy true task name.now number document.now setup.form
         answer.ended answer.text.items) }
 {
-    let mut faults = Vec::new(alloc);
-    match text_of_line(alloc, document, task, setup, &mut faults) {
+    let (mut faults, mut error) = (Vec::new(alloc), None);
+    match text_of_line(alloc, document, task, setup, &mut faults, &mut error) {
         Ok(text) => Ok(Answer::done(text)),
-        Err(Halt::Refused(_)) => {
-            located_answer(alloc, document, name, number, setup.form, &faults)
-        }
+        Err(Halt::Refused(_)) => located_answer(
+            alloc, document, error, name, number, setup.form, &faults,
+        ),
         Err(_) => Err(AllocError),
     }
 }
