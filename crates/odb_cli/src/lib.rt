@@ -16,7 +16,6 @@ mod explain;
 mod log;
 mod man;
 mod names;
-mod numbered;
 mod page;
 mod parser;
 mod progress;

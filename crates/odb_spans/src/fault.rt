@@ -30,13 +30,16 @@ fn bytes_before(document: &[u8], line: usize, column: usize) -> usize
     document.len().min(start.saturating_add(columns))
 }
 
-/// Returns how many bytes of the document are UTF-8; also those of a character that it cuts at its end.
-fn utf8_bytes(document: &[u8]) -> usize
-    ensures { result ≤ length document.now }
+/// Returns the document up to its first byte that is not UTF-8, or the whole document. `guess` is where the parser
+/// stopped: there, if there is such a byte. A character that the document cuts at its end is not one.
+fn utf8_part(document: &[u8], guess: usize) -> &[u8]
+    requires { guess ≤ length document.now }
+    ensures { length result.now ≤ length document.now }
 {
-    match str::from_utf8(document) {
-        Err(error) if error.error_len().is_some() => error.valid_up_to().min(document.len()),
-        _ => document.len(),
+    let end = document.len().min(guess.saturating_add(4));
+    match str::from_utf8(&document[guess..end]) {
+        Err(error) if error.error_len().is_some() && error.valid_up_to() == 0 => &document[..guess],
+        _ => document,
     }
 }
 
@@ -110,15 +113,16 @@ impl Part {
     }
 }
 
-/// Returns the first byte of a text that cannot be there, or the end of the text if it only ends too soon. The parser
-/// reports where the token of that byte begins, or the token after it. If only half a surrogate pair is wrong, the
-/// position is that of its string.
-fn first_wrong(alloc: Global, text: &[u8], error: ParseError) -> Result<usize, AllocError>
+/// Returns the first byte of a text that cannot be there, or the end of the text if it only ends too soon. `guess` is
+/// where the parser stopped: where the token of that byte begins, or the token after it. If only half a surrogate pair is
+/// wrong, the position is that of its string.
+fn first_wrong(alloc: Global, text: &[u8], guess: usize, is_eof: bool) -> Result<usize, AllocError>
+    requires { guess ≤ length text.now }
     ensures { IfOk result (λ at. at ≤ length text.now) }
 {
-    let start = past_blanks(text, bytes_before(text, error.line, error.column));
+    let start = past_blanks(text, guess);
     let end = token_end(text, start);
-    if end == text.len() && error.is_eof {
+    if end == text.len() && is_eof {
         return Ok(end);
     }
     let front = Front::before(text, start);
@@ -159,13 +163,17 @@ pub(crate) fn fault_in(
     if document.is_empty() {
         return Ok(0);
     }
-    let text = &document[..utf8_bytes(document)];
+    let guess = bytes_before(document, error.line, error.column);
+    let text = utf8_part(document, guess);
     if text.len() == document.len() {
-        return first_wrong(alloc, text, error);
+        return first_wrong(alloc, document, guess, error.is_eof);
     }
     match Value::from_slice(alloc, text) {
         Ok(_) => Ok(text.len()),
         Err(error) if error.is_memory() => Err(AllocError),
-        Err(error) => first_wrong(alloc, text, ParseError::of(&error)),
+        Err(error) => {
+            let guess = bytes_before(text, error.line(), error.column());
+            first_wrong(alloc, text, guess, error.is_eof())
+        }
     }
 }

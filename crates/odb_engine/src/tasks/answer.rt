@@ -6,14 +6,17 @@ ghost use Rattle.odb_engine.specs.Answered.{listed_found};
 ghost use Rattle.odb_engine.specs.Contents.Given.{InMemory};
 ghost use Rattle.odb_engine.specs.declared.ending.Ended.TheVariants.{Done};
 ghost use Rattle.odb_engine.specs.Halts.{text_found};
+ghost use Rattle.odb_engine.specs.lines.Numbers.{OfLocated, OfNumbered};
 ghost use Rattle.odb_engine.specs.Tasks.{OfDocuments, OfWholeLine};
 
 use crate::ending::{Ended, fault_text, refused_text};
 use crate::form::Form;
 use crate::halt::Halt;
+use crate::lines::number::with_number;
 use crate::lines::text_of_line;
 use crate::setup::Setup;
 use crate::tasks::command::{Command, text_of};
+use crate::tasks::located::answer_located;
 use crate::tasks::source::Slice;
 use crate::tasks::task::Task;
 use odb_doc::Refusal;
@@ -138,15 +141,8 @@ pub fn answer_in_memory(
     Answer::listed(alloc, setup.form, all, found, &faults)
 }
 
-/// Does a task on a line of a log: returns what is written of the document in it, or of the two
-/// documents in it if the task takes two, in the form of the setup. The line may be any bytes; they are not copied.
-///
-/// Example: `line_answered` in crates/odb_tests_tasks/src/laws/engines.rt.
-///
-/// # Errors
-///
-/// `AllocError` if an allocation fails.
-pub fn answer_line(
+/// Returns what a task writes of a line, with its faults as they are.
+fn answer_plainly(
     alloc: Global,
     line: &[u8],
     task: Task,
@@ -157,4 +153,54 @@ pub fn answer_line(
     let mut faults = Vec::new(alloc);
     let found = text_of_line(alloc, line, task, setup, &mut faults, &mut None);
     Answer::listed(alloc, setup.form, task.lists_all(), found, &faults)
+}
+
+/// Returns what a task writes of the line of this number in the log of this name, with where its faults are if they are
+/// located.
+fn answer_unnumbered(
+    alloc: Global,
+    name: &str,
+    number: usize,
+    line: &[u8],
+    task: Task,
+    setup: Setup,
+) -> Result<Answer, AllocError>
+    ensures { IfOk result (λ answer. OfLocated setup.faults.located name.now task number line.now setup.form
+        answer.ended answer.text.items) }
+{
+    if setup.faults.located {
+        answer_located(alloc, line, name, Some(number), task, setup)
+    } else {
+        answer_plainly(alloc, line, task, setup)
+    }
+}
+
+/// Does a task on a line of a log: returns what is written of the document in it, or of the two
+/// documents in it if the task takes two, by the setup. The line may be any bytes; they are not copied.
+///
+/// `name` is that of the log, and `number` that of the line: faults are printed with both if the setup asks for that.
+///
+/// Example: `line_answered` in crates/odb_tests_tasks/src/laws/engines.rt.
+///
+/// # Errors
+///
+/// `AllocError` if an allocation fails.
+pub fn answer_line(
+    alloc: Global,
+    name: &str,
+    number: usize,
+    line: &[u8],
+    task: Task,
+    setup: Setup,
+) -> Result<Answer, AllocError>
+    ensures { IfOk result (λ answer. OfNumbered setup.faults.numbered setup.faults.located name.now task number
+        line.now setup.form answer.ended answer.text.items) }
+{
+    let answer = answer_unnumbered(alloc, name, number, line, task, setup)?;
+    match answer.ended {
+        Ended::Refused if setup.faults.numbered => {
+            with_number(alloc, name, number, setup, &answer.text)
+        }
+        _ => Ok(answer),
+    }
 }

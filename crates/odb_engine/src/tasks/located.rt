@@ -3,7 +3,7 @@
 //! A position can be found only in the bytes of a document, so the documents are held in memory. What a command writes
 //! of good documents is the same, and takes no more time.
 
-ghost use Rattle.std.specs.Prelude.{◌≡◌, ◌↔◌, true, false, Err, IfOk, IfSome, IsTrue, None, map, string_bytes};
+ghost use Rattle.std.specs.Prelude.{◌≡◌, ◌⊎◌, ◌↔◌, true, false, Err, IfOk, IfSome, IsTrue, None, map, string_bytes};
 ghost use Rattle.serde_json.specs.Data.{Data};
 ghost use Rattle.odb_doc.specs.Documents.{IsJson};
 ghost use Rattle.odb_doc.specs.Refusals.{printed};
@@ -12,8 +12,10 @@ ghost use Rattle.odb_engine.specs.declared.halt.Halt.TheVariants as halts;
 ghost use Rattle.odb_engine.specs.Answered.{LocatesFault, answer_found};
 ghost use Rattle.odb_engine.specs.Engines.{Ends};
 ghost use Rattle.odb_engine.specs.Inputs.{IsFresh, ReadsFew, SomeDocument};
-ghost use Rattle.odb_engine.specs.Tasks.{lists_all};
-ghost use Rattle.odb_engine.specs.Located.{AreLocated, HasPosition, LocatesBy, LocatesTask, PrintsAll, StandsIn, all_located_text, located_text, numbered};
+ghost use Rattle.odb_engine.specs.Contents.{AskedFor};
+ghost use Rattle.odb_engine.specs.Contents.Given.{ByReader};
+ghost use Rattle.odb_engine.specs.Tasks.{OfDocuments, lists_all};
+ghost use Rattle.odb_engine.specs.Located.{AreLocated, HasPosition, LocatesBy, LocatesDocuments, LocatesTask, PrintsAll, StandsIn, all_located_text, located_text, numbered};
 
 mod pair;
 
@@ -24,13 +26,14 @@ use crate::input::read_document;
 use crate::lines::text_of_line;
 use crate::setup::Setup;
 use crate::tasks::answer::Answer;
-use crate::tasks::command::Command;
+use crate::tasks::command::{Command, answer_task};
 use crate::tasks::task::Task;
 use odb_doc::{Place, Refusal};
 use odb_io::{Input, Output};
 use odb_spans::{ParseError, Position, position_by, position_in_pair, positions_by};
 use odb_text::{Located, all_located_json, located_json, located_line, located_lines};
-pub use pair::{Names, locate_pair};
+pub use pair::Names;
+use pair::locate_pair;
 use std::alloc::{AllocError, Global};
 use std::io::{Read, Write};
 
@@ -234,17 +237,12 @@ fn answer_of_all(
     }
 }
 
-/// Does a task on a document in memory, or on a line of a log, as [`crate::answer_line`] does: returns what is written, in the form of the setup, and each fault with where it
-/// is in the document: after `NAME:LINE:COLUMN: `, or as the members `line`, `column` and `offset` of its JSON.
+/// Returns what a task writes of a document in memory or of a line of a log, and each fault with where it is.
 ///
 /// `name` is that of the document, or of the log. If the document is a line of a log, `number` is that of the line,
-/// which is reported as the line of each fault; the column and the offset count within it. Of a good document nothing
-/// else is written, and it takes no more time; the positions of all faults are found in O(n) for a document of n bytes.
-///
-/// # Errors
-///
-/// `AllocError` if an allocation fails.
-pub fn answer_located(
+/// which is reported as the line of each fault; the column and the offset count within it. The positions of all faults
+/// are found in O(n) for a document of n bytes.
+pub(crate) fn answer_located(
     alloc: Global,
     document: &[u8],
     name: &str,
@@ -299,15 +297,8 @@ fn answer_of<R: Read>(
     Ok(answer_located(alloc, &document, name, None, task, setup)?)
 }
 
-/// Does a task on the document of a reader: writes its result, or each fault with where it is in the document of this
-/// name, as [`answer_located`] does.
-///
-/// The input must be new, and the output must not have failed. The document and the text are held in memory.
-///
-/// # Errors
-///
-/// Those of [`crate::check_batch`].
-pub fn locate_batch<R: Read, W: Write>(
+/// Does a task on the document of a reader, and writes each fault with where it is in the document of this name.
+fn locate_batch<R: Read, W: Write>(
     alloc: Global,
     input: &mut Input<R>,
     output: &mut Output<W>,
@@ -325,4 +316,77 @@ pub fn locate_batch<R: Read, W: Write>(
 {
     let found = answer_of(alloc, input, name, task, setup);
     put_answer(found, output)
+}
+
+/// Does a task on the documents of readers, which have these names, and writes each fault with where it is in its
+/// document.
+fn locate_documents<R: Read, S: Read, W: Write>(
+    alloc: Global,
+    first: &mut Input<R>,
+    second: &mut Input<S>,
+    output: &mut Output<W>,
+    names: Names<'_>,
+    task: Task,
+    setup: Setup,
+) -> Result<Ended, EngineFault>
+    requires first { IsFresh first.old }
+    requires second { IsFresh second.old }
+    requires output { output.old.failed ≡ false }
+    ensures ends { SomeDocument (R.remaining first.old.reader) (λ bytes.
+        SomeDocument (S.remaining second.old.reader) (λ other. Ends W.contents
+        (LocatesDocuments task names.entry.batch.now bytes names.entry.second.now other setup.form)
+        (IsTrue first.new.failed ⊎ IsTrue second.new.failed) output.old output.new result)
+        × AskedFor R.remaining first.old first.new bytes second.old second.new) }
+    ensures memory { result ≡ Err EngineFault.OutOfMemory → output.new ≡ output.old }
+    ensures first { ReadsFew R.remaining first.old first.new }
+    ensures second { ReadsFew S.remaining second.old second.new }
+{
+    if task.takes_second() {
+        return locate_pair(alloc, first, second, output, names, task, setup);
+    }
+    locate_batch(alloc, first, output, names.batch, task, setup)
+}
+
+/// Does a task on the documents of readers, which have these names: writes its result, or the first fault, or all
+/// faults of the batch document, as the setup asks. The second document is read only if the task takes one, and the
+/// check accepts the batch.
+///
+/// The inputs must be new, and the output must not have failed. The text is held in memory and written whole; if faults
+/// are located, so are the documents.
+///
+/// Example: `called_plainly` in crates/odb_tests_tasks/src/engines.rt.
+///
+/// # Errors
+///
+/// Those of [`crate::check_batch`], of either input.
+pub fn answer_documents<R: Read, S: Read, W: Write>(
+    alloc: Global,
+    first: &mut Input<R>,
+    second: &mut Input<S>,
+    output: &mut Output<W>,
+    names: Names<'_>,
+    task: Task,
+    setup: Setup,
+) -> Result<Ended, EngineFault>
+    requires first { IsFresh first.old }
+    requires second { IsFresh second.old }
+    requires output { output.old.failed ≡ false }
+    ensures plain { setup.faults.located ≡ false → SomeDocument (R.remaining first.old.reader) (λ bytes.
+        Ends W.contents (OfDocuments task (ByReader (S.remaining second.old.reader)) bytes setup.form)
+        (IsTrue first.new.failed ⊎ IsTrue second.new.failed) output.old output.new result
+        × AskedFor R.remaining first.old first.new bytes second.old second.new) }
+    ensures located { setup.faults.located ≡ true → SomeDocument (R.remaining first.old.reader) (λ bytes.
+        SomeDocument (S.remaining second.old.reader) (λ other. Ends W.contents
+        (LocatesDocuments task names.entry.batch.now bytes names.entry.second.now other setup.form)
+        (IsTrue first.new.failed ⊎ IsTrue second.new.failed) output.old output.new result)
+        × AskedFor R.remaining first.old first.new bytes second.old second.new) }
+    ensures memory { result ≡ Err EngineFault.OutOfMemory → output.new ≡ output.old }
+    ensures first { ReadsFew R.remaining first.old first.new }
+    ensures second { ReadsFew S.remaining second.old second.new }
+{
+    if setup.faults.located {
+        locate_documents(alloc, first, second, output, names, task, setup)
+    } else {
+        answer_task(alloc, first, second, output, task, setup)
+    }
 }

@@ -251,16 +251,8 @@ fn answer_of<R: Read, S: Read>(
     answer_second(alloc, &document, second, names, task, setup)
 }
 
-/// Does a task on the batch in the document of a reader, by the second document of another: writes its result, or the
-/// least fault with where it is in either document, in the form of the setup: after `NAME:LINE:COLUMN: `, or as the
-/// members `line`, `column` and `offset` of its JSON.
-///
-/// The second document is read only if the check accepts the batch. The inputs must be new, and the output must not
-/// have failed. The documents and the text are held in memory.
-///
-/// # Errors
-///
-/// Those of [`crate::check_batch`], of either input.
+/// Does a task on the batch in the document of a reader, by the second document of another, and writes the first fault
+/// with where it is in either.
 pub fn locate_pair<R: Read, S: Read, W: Write>(
     alloc: Global,
     batch: &mut Input<R>,

@@ -5,7 +5,7 @@ use Rattle.odb_engine.specs.AllFaults.{AreFaultsIn}
 use Rattle.odb_engine.specs.Answered.{listed_found}
 use Rattle.odb_engine.specs.Tasks.{OfLine, lists_all}
 use Rattle.odb_engine.proofs.AllFaultLemmas.{lists-in}
-use Rattle.odb_engine.proofs.tasks.answer.answer_line.Goals as goal
+use Rattle.odb_engine.proofs.tasks.answer.answer_plainly.Goals as goal
 
 pub returns : goal.returns
 returns c =
