@@ -44,7 +44,7 @@ impl Environment {
 }
 
 /// Does a job on its documents. All files are opened before one is read.
-pub fn answer_documents<R: Runtime + AllocGlobal>(
+pub fn answer_job<R: Runtime + AllocGlobal>(
     rt: &R,
     environment: Environment,
     job: Job<'_>,
