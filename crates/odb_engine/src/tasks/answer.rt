@@ -1,10 +1,11 @@
 //! What a command writes, in memory.
 
-ghost use Rattle.std.specs.Prelude.{◌≡◌, ◌≤◌, ◌++◌, ◌↔◌, true, false, length, drop, map, IfOk, IsTrue, string_bytes};
+ghost use Rattle.std.specs.Prelude.{◌≡◌, ◌≤◌, ◌++◌, ◌↔◌, true, false, length, drop, map, Err, IfOk, IsTrue, Ok, string_bytes};
 ghost use Rattle.odb_doc.specs.Refusals.{printed};
 ghost use Rattle.odb_engine.specs.Answered.{listed_found};
 ghost use Rattle.odb_engine.specs.Contents.Given.{InMemory};
 ghost use Rattle.odb_engine.specs.declared.ending.Ended.TheVariants.{Done};
+ghost use Rattle.odb_engine.specs.declared.halt.Halt.TheVariants as halts;
 ghost use Rattle.odb_engine.specs.Halts.{text_found};
 ghost use Rattle.odb_engine.specs.lines.Numbers.{OfLocated, OfNumbered};
 ghost use Rattle.odb_engine.specs.Tasks.{OfDocuments, OfWholeLine};
@@ -54,26 +55,27 @@ impl Answer {
     ///
     /// # Errors
     ///
-    /// `AllocError` if memory ran out, or if a read failed, which no read of memory does.
+    /// `Read` if and only if that was found; `OutOfMemory` if that was found, or an allocation fails.
     pub(crate) fn listed(
         alloc: Global,
         form: Form,
         all: bool,
         found: Result<String, Halt>,
         faults: &[Refusal],
-    ) -> Result<Self, AllocError>
-        ensures { IfOk result (λ answer. listed_found all form (map printed faults.now) found
+    ) -> Result<Self, Halt>
+        ensures listed { IfOk result (λ answer. listed_found all form (map printed faults.now) found
             answer.ended answer.text.items) }
+        ensures read { (result ≡ Err halts.Read) ↔ (found ≡ Err halts.Read) }
     {
         let (ended, text) = match found {
             Ok(text) => (Ended::Done, text),
-            Err(halt) => {
-                let refusal = halt.refusal()?;
+            Err(Halt::Refused(refusal)) => {
                 (
                     Ended::Refused,
                     refused_text(alloc, form, all, refusal, faults)?,
                 )
             }
+            Err(halt) => return Err(halt),
         };
         Ok(Answer {
             ended,
@@ -109,6 +111,16 @@ impl Answer {
     }
 }
 
+/// Returns the answer that was found of documents in memory, which no read of them fails.
+fn of_memory(found: Result<Answer, Halt>) -> Result<Answer, AllocError>
+    ensures { IfOk result (λ answer. found ≡ Ok answer) }
+{
+    match found {
+        Ok(answer) => Ok(answer),
+        Err(_) => Err(AllocError),
+    }
+}
+
 /// Does a task on a batch document in memory, and on a second document if the task takes one: returns what
 /// is written, in the form of the setup. The documents are not copied.
 ///
@@ -138,7 +150,7 @@ pub fn answer_in_memory(
         setup,
         &mut faults,
     );
-    Answer::listed(alloc, setup.form, all, found, &faults)
+    of_memory(Answer::listed(alloc, setup.form, all, found, &faults))
 }
 
 /// Returns what a task writes of a line, with its faults as they are.
@@ -152,7 +164,8 @@ fn answer_plainly(
 {
     let mut faults = Vec::new(alloc);
     let found = text_of_line(alloc, line, task, setup, &mut faults, &mut None);
-    Answer::listed(alloc, setup.form, task.lists_all(), found, &faults)
+    let all = task.lists_all();
+    of_memory(Answer::listed(alloc, setup.form, all, found, &faults))
 }
 
 /// Returns what a task writes of the line of this number in the log of this name, with where its faults are if they are

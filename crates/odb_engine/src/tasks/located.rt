@@ -9,7 +9,7 @@ ghost use Rattle.odb_doc.specs.Documents.{IsJson};
 ghost use Rattle.odb_doc.specs.Refusals.{printed};
 ghost use Rattle.odb_text.specs.Lines.{printed_at};
 ghost use Rattle.odb_engine.specs.declared.halt.Halt.TheVariants as halts;
-ghost use Rattle.odb_engine.specs.Answered.{LocatesFault, answer_found};
+ghost use Rattle.odb_engine.specs.Answered.{LocatesFault};
 ghost use Rattle.odb_engine.specs.Engines.{Ends};
 ghost use Rattle.odb_engine.specs.Inputs.{IsFresh, ReadsFew, SomeDocument};
 ghost use Rattle.odb_engine.specs.Contents.{AskedFor};
@@ -19,7 +19,7 @@ ghost use Rattle.odb_engine.specs.Located.{AreLocated, HasPosition, LocatesBy, L
 
 mod pair;
 
-use crate::ending::{Ended, EngineFault};
+use crate::ending::{Ended, EngineFault, end};
 use crate::form::Form;
 use crate::halt::Halt;
 use crate::input::read_document;
@@ -260,25 +260,6 @@ pub(crate) fn answer_located(
     }
 }
 
-/// Writes an answer, and returns how the engine ended.
-pub(crate) fn put_answer<W: Write>(
-    found: Result<Answer, Halt>,
-    output: &mut Output<W>,
-) -> Result<Ended, EngineFault>
-    requires { output.old.failed ≡ false }
-    ensures ends { Ends W.contents (answer_found found) (found ≡ Err halts.Read)
-        output.old output.new result }
-    ensures memory { result ≡ Err EngineFault.OutOfMemory → output.new ≡ output.old }
-{
-    let answer = match found {
-        Ok(answer) => answer,
-        Err(Halt::Read) => return Err(EngineFault::Read),
-        Err(_) => return Err(EngineFault::OutOfMemory),
-    };
-    output.put_all(&answer.text)?;
-    Ok(answer.ended)
-}
-
 /// Returns what is written of the document of a reader.
 fn answer_of<R: Read>(
     alloc: Global,
@@ -315,7 +296,7 @@ fn locate_batch<R: Read, W: Write>(
     ensures reads { ReadsFew R.remaining input.old input.new }
 {
     let found = answer_of(alloc, input, name, task, setup);
-    put_answer(found, output)
+    end(found, output)
 }
 
 /// Does a task on the documents of readers, which have these names, and writes each fault with where it is in its

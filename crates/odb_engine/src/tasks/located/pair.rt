@@ -20,14 +20,14 @@ ghost use Rattle.odb_engine.specs.Located.{LocatesPair};
 ghost use Rattle.odb_engine.specs.Tasks.{OfTask};
 
 use crate::disposal::DropOrLeak;
-use crate::ending::{Ended, EngineFault};
+use crate::ending::{Ended, EngineFault, end};
 use crate::form::Form;
 use crate::halt::Halt;
 use crate::input::{read_document, value_or_error};
 use crate::setup::Setup;
 use crate::tasks::answer::Answer;
 use crate::tasks::command::{Command, plan_of};
-use crate::tasks::located::{locate, put_answer};
+use crate::tasks::located::locate;
 use crate::tasks::source::Slice;
 use crate::tasks::task::Task;
 use odb_check::Plan;
@@ -275,5 +275,5 @@ pub fn locate_pair<R: Read, S: Read, W: Write>(
     ensures second { ReadsFew S.remaining second.old second.new }
 {
     let found = answer_of(alloc, batch, second, names, task, setup);
-    put_answer(found, output)
+    end(found, output)
 }

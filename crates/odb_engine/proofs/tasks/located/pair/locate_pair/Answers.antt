@@ -14,8 +14,8 @@ returns-clause-ends g c =
         (
           other,
           gives_other,
-          ends-answered g.W.Write.contents (LocatesPair c.args.task c.args.names.batch.now bytes c.args.names.second.now other c.args.setup.form) failed c.args.output.now c.put_answer.new.output c.answer_of-found.result c.put_answer.result so
-              c.answer_of-found.ensures.read c.put_answer.ensures.ends,
+          ends-answered g.W.Write.contents (LocatesPair c.args.task c.args.names.batch.now bytes c.args.names.second.now other c.args.setup.form) failed c.args.output.now c.end.new.output c.answer_of-found.result c.end.result so
+              c.answer_of-found.ensures.read c.end.ensures.ends,
         ),
         asked,
       ),
