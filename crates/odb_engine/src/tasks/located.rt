@@ -33,7 +33,7 @@ use odb_io::{Input, Output};
 use odb_spans::{ParseError, Position, position_by, position_in_pair, positions_by};
 use odb_text::{Located, all_located_json, located_json, located_line, located_lines};
 pub use pair::Names;
-use pair::locate_pair;
+use pair::answer_second;
 use std::alloc::{AllocError, Global};
 use std::io::{Read, Write};
 
@@ -260,72 +260,30 @@ pub(crate) fn answer_located(
     }
 }
 
-/// Returns what is written of the document of a reader.
-fn answer_of<R: Read>(
-    alloc: Global,
-    input: &mut Input<R>,
-    name: &str,
-    task: Task,
-    setup: Setup,
-) -> Result<Answer, Halt>
-    requires { IsFresh input.old }
-    ensures found { SomeDocument (R.remaining input.old.reader) (λ bytes. IfOk result (λ answer.
-        LocatesTask task name.now None bytes setup.form answer.ended answer.text.items)) }
-    ensures read { (result ≡ Err halts.Read) ↔ IsTrue input.new.failed }
-    ensures few { ReadsFew R.remaining input.old input.new }
-{
-    let document = read_document(alloc, input)?;
-    Ok(answer_located(alloc, &document, name, None, task, setup)?)
-}
-
-/// Does a task on the document of a reader, and writes each fault with where it is in the document of this name.
-fn locate_batch<R: Read, W: Write>(
-    alloc: Global,
-    input: &mut Input<R>,
-    output: &mut Output<W>,
-    name: &str,
-    task: Task,
-    setup: Setup,
-) -> Result<Ended, EngineFault>
-    requires input { IsFresh input.old }
-    requires output { output.old.failed ≡ false }
-    ensures ends { SomeDocument (R.remaining input.old.reader) (λ bytes. Ends W.contents
-        (LocatesTask task name.now None bytes setup.form) (IsTrue input.new.failed)
-        output.old output.new result) }
-    ensures memory { result ≡ Err EngineFault.OutOfMemory → output.new ≡ output.old }
-    ensures reads { ReadsFew R.remaining input.old input.new }
-{
-    let found = answer_of(alloc, input, name, task, setup);
-    end(found, output)
-}
-
-/// Does a task on the documents of readers, which have these names, and writes each fault with where it is in its
-/// document.
-fn locate_documents<R: Read, S: Read, W: Write>(
+/// Returns what a task writes of the documents of readers, which have these names, and each fault with where it is.
+fn answer_of<R: Read, S: Read>(
     alloc: Global,
     first: &mut Input<R>,
     second: &mut Input<S>,
-    output: &mut Output<W>,
     names: Names<'_>,
     task: Task,
     setup: Setup,
-) -> Result<Ended, EngineFault>
+) -> Result<Answer, Halt>
     requires first { IsFresh first.old }
     requires second { IsFresh second.old }
-    requires output { output.old.failed ≡ false }
-    ensures ends { SomeDocument (R.remaining first.old.reader) (λ bytes.
-        SomeDocument (S.remaining second.old.reader) (λ other. Ends W.contents
-        (LocatesDocuments task names.entry.batch.now bytes names.entry.second.now other setup.form)
-        (IsTrue first.new.failed ⊎ IsTrue second.new.failed) output.old output.new result)
+    ensures found { SomeDocument (R.remaining first.old.reader) (λ bytes.
+        SomeDocument (S.remaining second.old.reader) (λ other. IfOk result (λ answer. LocatesDocuments task
+        names.entry.batch.now bytes names.entry.second.now other setup.form answer.ended answer.text.items))
         × AskedFor R.remaining first.old first.new bytes second.old second.new) }
-    ensures memory { result ≡ Err EngineFault.OutOfMemory → output.new ≡ output.old }
+    ensures read { (result ≡ Err halts.Read) ↔ (IsTrue first.new.failed ⊎ IsTrue second.new.failed) }
     ensures first { ReadsFew R.remaining first.old first.new }
     ensures second { ReadsFew S.remaining second.old second.new }
 {
+    let document = read_document(alloc, first)?;
     if task.takes_second() {
-        return locate_pair(alloc, first, second, output, names, task, setup);
+        return answer_second(alloc, &document, second, names, task, setup);
     }
-    locate_batch(alloc, first, output, names.batch, task, setup)
+    Ok(answer_located(alloc, &document, names.batch, None, task, setup)?)
 }
 
 /// Does a task on the documents of readers, which have these names: writes its result, or the first fault, or all
@@ -365,9 +323,9 @@ pub fn answer_documents<R: Read, S: Read, W: Write>(
     ensures first { ReadsFew R.remaining first.old first.new }
     ensures second { ReadsFew S.remaining second.old second.new }
 {
-    if setup.faults.located {
-        locate_documents(alloc, first, second, output, names, task, setup)
-    } else {
-        answer_task(alloc, first, second, output, task, setup)
+    if !setup.faults.located {
+        return answer_task(alloc, first, second, output, task, setup);
     }
+    let found = answer_of(alloc, first, second, names, task, setup);
+    end(found, output)
 }

@@ -23,7 +23,6 @@ use crate::setup::Setup;
 use crate::tasks::command::answer_task;
 use crate::tasks::task::Task;
 use odb_check::Plan;
-use odb_doc::Place;
 use odb_io::{Input, Output};
 use odb_reply::{Responses, StatusFault, Table, check_statuses, match_responses};
 use odb_sched::Mode;

@@ -10,9 +10,7 @@ ghost use Rattle.odb_doc.specs.Refusals.{printed};
 ghost use Rattle.odb_send.specs.Parts.{IsBatchIn};
 ghost use Rattle.odb_engine.specs.Cascade.{Accepts, Answers, IsLeast};
 ghost use Rattle.odb_engine.specs.declared.halt.Halt.TheVariants as halts;
-ghost use Rattle.odb_engine.specs.Engines.{Ends};
 ghost use Rattle.odb_engine.specs.Halts.{Found, Halted};
-ghost use Rattle.odb_engine.specs.Contents.{AskedFor};
 ghost use Rattle.odb_engine.specs.Contents.Given.{InMemory};
 ghost use Rattle.odb_engine.specs.Inputs.{GivesDocument, IsFresh, ReadsFew, SomeDocument};
 ghost use Rattle.odb_engine.specs.Answered.{LocatesEither, LocatesFound};
@@ -20,7 +18,6 @@ ghost use Rattle.odb_engine.specs.Located.{LocatesPair};
 ghost use Rattle.odb_engine.specs.Tasks.{OfTask};
 
 use crate::disposal::DropOrLeak;
-use crate::ending::{Ended, EngineFault, end};
 use crate::form::Form;
 use crate::halt::Halt;
 use crate::input::{read_document, value_or_error};
@@ -32,10 +29,10 @@ use crate::tasks::source::Slice;
 use crate::tasks::task::Task;
 use odb_check::Plan;
 use odb_doc::{Batch, Place, Refusal};
-use odb_io::{Input, Output};
+use odb_io::Input;
 use odb_spans::{ParseError, is_in_batch};
 use std::alloc::{AllocError, Global};
-use std::io::{Read, Write};
+use std::io::Read;
 
 /// The names of the documents, as faults are reported with them.
 #[derive(Clone, Copy, Debug)]
@@ -193,7 +190,7 @@ fn locate_found(
 }
 
 /// Returns what is written of the batch in a document by the second document of a reader.
-fn answer_second<S: Read>(
+pub fn answer_second<S: Read>(
     alloc: Global,
     document: &[u8],
     second: &mut Input<S>,
@@ -226,54 +223,4 @@ fn answer_second<S: Read>(
         }
         Err(halt) => Err(halt),
     }
-}
-
-/// Returns what is written of the documents of two readers.
-fn answer_of<R: Read, S: Read>(
-    alloc: Global,
-    batch: &mut Input<R>,
-    second: &mut Input<S>,
-    names: Names<'_>,
-    task: Task,
-    setup: Setup,
-) -> Result<Answer, Halt>
-    requires batch { IsFresh batch.old }
-    requires second { IsFresh second.old }
-    ensures found { SomeDocument (R.remaining batch.old.reader) (λ bytes.
-        SomeDocument (S.remaining second.old.reader) (λ other. IfOk result (λ answer. LocatesPair task
-        names.entry.batch.now bytes names.entry.second.now other setup.form answer.ended answer.text.items))
-        × AskedFor R.remaining batch.old batch.new bytes second.old second.new) }
-    ensures read { (result ≡ Err halts.Read) ↔ (IsTrue batch.new.failed ⊎ IsTrue second.new.failed) }
-    ensures batch { ReadsFew R.remaining batch.old batch.new }
-    ensures second { ReadsFew S.remaining second.old second.new }
-{
-    let document = read_document(alloc, batch)?;
-    answer_second(alloc, &document, second, names, task, setup)
-}
-
-/// Does a task on the batch in the document of a reader, by the second document of another, and writes the first fault
-/// with where it is in either.
-pub fn locate_pair<R: Read, S: Read, W: Write>(
-    alloc: Global,
-    batch: &mut Input<R>,
-    second: &mut Input<S>,
-    output: &mut Output<W>,
-    names: Names<'_>,
-    task: Task,
-    setup: Setup,
-) -> Result<Ended, EngineFault>
-    requires batch { IsFresh batch.old }
-    requires second { IsFresh second.old }
-    requires output { output.old.failed ≡ false }
-    ensures ends { SomeDocument (R.remaining batch.old.reader) (λ bytes.
-        SomeDocument (S.remaining second.old.reader) (λ other. Ends W.contents (LocatesPair task
-        names.entry.batch.now bytes names.entry.second.now other setup.form)
-        (IsTrue batch.new.failed ⊎ IsTrue second.new.failed) output.old output.new result)
-        × AskedFor R.remaining batch.old batch.new bytes second.old second.new) }
-    ensures memory { result ≡ Err EngineFault.OutOfMemory → output.new ≡ output.old }
-    ensures batch { ReadsFew R.remaining batch.old batch.new }
-    ensures second { ReadsFew S.remaining second.old second.new }
-{
-    let found = answer_of(alloc, batch, second, names, task, setup);
-    end(found, output)
 }
