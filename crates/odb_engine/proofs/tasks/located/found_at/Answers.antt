@@ -6,4 +6,4 @@ pub returns-then-is_pair : goal.returns-then-is_pair
 returns-then-is_pair c = subst (λ (two : Bool). IfOk c.position_in_pair.result (StandsIn two c.args.document.now c.args.place)) (sym c.if-is_pair.true) c.position_in_pair.ensures.stands
 
 pub returns-else-is_pair : goal.returns-else-is_pair
-returns-else-is_pair c = subst (λ (two : Bool). IfOk c.position_of.result (StandsIn two c.args.document.now c.args.place)) (sym c.if-is_pair.false) c.position_of.ensures.stands
+returns-else-is_pair c = subst (λ (two : Bool). IfOk c.position_by.result (StandsIn two c.args.document.now c.args.place)) (sym c.if-is_pair.false) c.position_by.ensures.stands
