@@ -7,7 +7,7 @@
 //! A fault names an element by its [`Place`](odb_doc::Place). [`position_of`] returns the [`Position`] at
 //! which the element begins, with its line and column, [`positions_of`] those of many faults, and
 //! [`position_in_pair`] returns it for a line that holds two documents, which [`documents_in`] finds. What [`parse`]
-//! keeps of a document that is not JSON spares [`position_by`] and [`positions_by`] to parse it again.
+//! keeps of a document that is not JSON spares [`position_by`] and the like to parse it again.
 #![tactic(auto)]
 
 mod bodies;
@@ -26,7 +26,9 @@ mod span;
 mod walk;
 
 pub use bodies::bodies_in;
-pub use locate::{documents_in, is_in_batch, position_by, position_in_pair, position_of};
+pub use locate::{
+    documents_in, is_in_batch, position_by, position_in_pair, position_in_pair_by, position_of,
+};
 pub use parsing::{ParseError, parse};
 pub use position::Position;
 pub use positions::{positions_by, positions_of};

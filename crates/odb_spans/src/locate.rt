@@ -262,13 +262,26 @@ pub fn position_by(
 /// position is that of the line's value; if it is not JSON, the position for a whole document is that of
 /// the first byte that cannot be there.
 ///
-/// The line was parsed by [`crate::parse`]; `error` is where the parser stopped in it, if it is not JSON. Costs O(n) for
-/// a line of n bytes.
+/// Costs O(n) for a line of n bytes.
 ///
 /// # Errors
 ///
 /// As [`position_of`].
-pub fn position_in_pair(
+pub fn position_in_pair(alloc: Global, line: &[u8], place: Place) -> Result<Position, AllocError>
+    ensures stands { IfOk result (λ position. StandsInPair line.now place position) }
+    ensures memory { OnErr result (0 < length line.now) }
+{
+    let error = error_at(alloc, line, place)?;
+    position_in_pair_by(alloc, line, error, place)
+}
+
+/// Returns what [`position_in_pair`] returns of a line that [`crate::parse`] has parsed: it is not parsed again. `error`
+/// is where the parser stopped in it, if it is not JSON.
+///
+/// # Errors
+///
+/// As [`position_of`].
+pub fn position_in_pair_by(
     alloc: Global,
     line: &[u8],
     error: Option<ParseError>,

@@ -122,8 +122,16 @@ pub fn text_of_line(
     if task.takes_second() {
         return text_of_pair(alloc, line, task, setup, faults, error);
     }
-    let (mut first, mut none, mut task) = (Slice::new(line), Slice::new(&[]), task);
+    let mut first = Slice {
+        bytes: line,
+        error: None,
+    };
+    let mut none = Slice {
+        bytes: &[],
+        error: None,
+    };
+    let mut task = task;
     let found = text_of(alloc, &mut first, &mut none, &mut task, setup, faults);
-    *error = first.error();
+    *error = first.error;
     found
 }

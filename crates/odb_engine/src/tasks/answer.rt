@@ -140,7 +140,15 @@ pub fn answer_in_memory(
         answer.ended answer.text.items) }
 {
     let all = task.lists_all();
-    let (mut first, mut second, mut task) = (Slice::new(batch), Slice::new(second), task);
+    let mut first = Slice {
+        bytes: batch,
+        error: None,
+    };
+    let mut second = Slice {
+        bytes: second,
+        error: None,
+    };
+    let mut task = task;
     let mut faults = Vec::new(alloc);
     let found = text_of(
         alloc,

@@ -30,7 +30,7 @@ use crate::tasks::command::{Command, answer_task};
 use crate::tasks::task::Task;
 use odb_doc::{Place, Refusal};
 use odb_io::{Input, Output};
-use odb_spans::{ParseError, Position, position_by, position_in_pair, positions_by};
+use odb_spans::{ParseError, Position, position_by, position_in_pair_by, positions_by};
 use odb_text::{Located, all_located_json, located_json, located_line, located_lines};
 pub use pair::Names;
 use pair::answer_second;
@@ -76,7 +76,7 @@ fn found_at(
     ensures { IfOk result (StandsIn is_pair document.now place) }
 {
     if is_pair {
-        position_in_pair(alloc, document, error, place)
+        position_in_pair_by(alloc, document, error, place)
     } else {
         position_by(alloc, document, error, place)
     }

@@ -152,9 +152,9 @@ impl<R: Read> Document for Input<R> {
 /// A document in memory, whose bytes are not copied.
 #[derive(Clone, Copy)]
 pub struct Slice<'b> {
-    bytes: &'b [u8],
+    pub(crate) bytes: &'b [u8],
     /// Where the parser stopped in it, if it was read and is not JSON.
-    error: Option<ParseError>,
+    pub(crate) error: Option<ParseError>,
 }
 
 impl<'b> Slice<'b> {
@@ -164,13 +164,6 @@ impl<'b> Slice<'b> {
         ensures unread { result.error ≡ None }
     {
         Slice { bytes, error: None }
-    }
-
-    /// Returns where the parser stopped in the document, if it was read and is not JSON.
-    pub(crate) fn error(&self) -> Option<ParseError>
-        ensures { result ≡ self.now.error }
-    {
-        self.error
     }
 }
 

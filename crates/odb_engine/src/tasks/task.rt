@@ -166,6 +166,9 @@ pub(crate) fn answer_one<R: Read, W: Write>(
     ensures memory { result ≡ Err EngineFault.OutOfMemory → output.new ≡ output.old }
     ensures reads { ReadsFew R.remaining input.old input.new }
 {
-    let mut none = Slice::new(&[]);
+    let mut none = Slice {
+        bytes: &[],
+        error: None,
+    };
     answer_task(alloc, input, &mut none, output, task, Setup::plain())
 }

@@ -104,7 +104,10 @@ fn read_second<S: Read>(
     };
     let plan = plan_of(alloc, &batch.value, setup)?;
     let bytes = read_document(alloc, second)?;
-    let mut slice = Slice::new(&bytes);
+    let mut slice = Slice {
+        bytes: &bytes,
+        error: None,
+    };
     let found = text_of(
         alloc,
         document,
@@ -114,7 +117,7 @@ fn read_second<S: Read>(
         task,
         setup,
     );
-    let error = slice.error();
+    let error = slice.error;
     Ok(Second {
         bytes,
         error,

@@ -1,6 +1,6 @@
 use Rattle.std.proofs.Common.{sym, subst}
 use Rattle.odb_spans.specs.Positions.{BeginsInPair}
-use Rattle.odb_spans.proofs.locate.position_in_pair.Goals as goal
+use Rattle.odb_spans.proofs.locate.position_in_pair_by.Goals as goal
 
 pub returns-clause-stands : goal.returns-clause-stands
 returns-clause-stands c = record {
