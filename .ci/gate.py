@@ -64,8 +64,11 @@ COMPARISONS = [
     ("explanations of faults", ["tools/explanations.py"]),
 ]
 
-TESTS = ("the tests", f"-m pytest -n {os.cpu_count()} -q --hypothesis-profile gate --durations 10".split())
-BENCHMARK = ("the short benchmark", ["bench/bench.py", "--short"])
+# What is run side by side over all of that: a title, what follows `python3`, and when what it prints is shown.
+LAST = [
+    ("the tests", f"-m pytest -n {os.cpu_count()} -q --hypothesis-profile gate --durations 10".split(), "as it comes"),
+    ("the short benchmark", ["bench/bench.py", "--short"], "if it fails"),
+]
 
 
 def lacking(python):
@@ -142,8 +145,7 @@ def main():
     with ThreadPoolExecutor(os.cpu_count()) as pool:
         parts += [part for ended in pool.map(build, BUILDS) for part in ended]
         parts += pool.map(lambda each: run(each[0], [python, *each[1]]), COMPARISONS)
-    parts.append(run(TESTS[0], [python, *TESTS[1]], "as it comes"))
-    parts.append(run(BENCHMARK[0], [python, *BENCHMARK[1]], "if it fails"))
+        parts += pool.map(lambda each: run(each[0], [python, *each[1]], each[2]), LAST)
     print("processor minutes:")
     for part in parts:
         print(f"  {part.title:48}{part.seconds / 60:7.1f}")

@@ -8,6 +8,7 @@ const MODES = ['continue', 'stop']
 const ORDERS = ['first', 'last', 'wide']
 const FORMS = ['lines', 'json']
 const MAX_WIDTH = 10000
+const MAX_REQUESTS = 10000 // of a batch
 
 /** The number of a named value. */
 function valueNumber(values, option, value) {
@@ -39,4 +40,4 @@ function orderNumber(order) {
   return valueNumber(ORDERS, 'order', order)
 }
 
-module.exports = { optionNumbers, orderNumber, requireOptions, valueNumber }
+module.exports = { MAX_REQUESTS, optionNumbers, orderNumber, requireOptions, valueNumber }

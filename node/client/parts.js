@@ -3,7 +3,7 @@
 // A batch on its way in parts: which part is next, and what its requests are answered. It does not send.
 
 const { check, match, plan } = require('../calls/commands.js')
-const { optionNumbers } = require('../calls/options.js')
+const { MAX_REQUESTS, optionNumbers } = require('../calls/options.js')
 const { requests } = require('../calls/requests.js')
 const { writeBatch, writeRequest } = require('../documents/batch_text.js')
 const { bodyBytes, documentBytes } = require('../documents/bytes.js')
@@ -15,8 +15,6 @@ const { skipMark } = require('../http/bodies.js')
 const { References } = require('../http/references.js')
 const { firstSegment } = require('../http/urls.js')
 
-// How many requests a batch may have.
-const MOST = 10000
 // What a request is answered that was not sent, or left out by a service that stops.
 const SKIPPED = { status: 424, headers: {}, body: Buffer.alloc(0) }
 
@@ -62,8 +60,8 @@ function groupUnits(planned) {
 
 /** Throws unless a part may have as many requests as a limit, and each of some units has a place in it. */
 function requireLimit(limit, units) {
-  if (!Number.isInteger(limit) || limit < 1 || limit > MOST) {
-    throw new RangeError(`limit must be a whole number from 1 to ${MOST}, not ${String(limit)}`)
+  if (!Number.isInteger(limit) || limit < 1 || limit > MAX_REQUESTS) {
+    throw new RangeError(`limit must be a whole number from 1 to ${MAX_REQUESTS}, not ${String(limit)}`)
   }
   const { group, ids } = units.find((unit) => unit.ids.length > limit) ?? {}
   if (ids) throw new RangeError(`the group ${group} has ${ids.length} requests, and a batch may have ${limit}`)
@@ -100,7 +98,7 @@ class Parts {
   #isStopped = false
 
   /** Throws a Fault for a batch that is refused, and a RangeError for a limit that cannot be kept. */
-  constructor(document, { limit = MOST, mode = 'continue' }) {
+  constructor(document, { limit = MAX_REQUESTS, mode = 'continue' }) {
     optionNumbers({ mode })
     const planned = plan(document)
     this.#units = groupUnits(planned)

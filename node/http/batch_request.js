@@ -169,7 +169,8 @@ class BatchRequest {
   /** A request of the batch as the service has it, with what it inherits; or a refusal if it may not be sent. */
   serviceRequest({ id, method, url: absolute, headers, body }) {
     const url = absolute.slice(absolute.indexOf('/', absolute.indexOf('://') + '://'.length))
-    if (decodePart(url.split('?', 1)[0]) === this.#path) throw new Refusal(400, 'NestedBatch', 'A batch has no batches')
+    const [path] = url.split('?', 1)
+    if ((path.includes('%') ? decodePart(path) : path) === this.#path) throw new Refusal(400, 'NestedBatch', 'A batch has no batches')
     return { method, url, headers: { ...this.#inherited, ...this.#policy.apply(id, headers, this.#ofRequests) }, body }
   }
 }

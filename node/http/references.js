@@ -90,7 +90,12 @@ class References {
 
   /** The URL to which a request is sent, or a refusal. */
   url(id) {
-    return this.#urlOf(id)()
+    return this.referred.has(id) ? this.#urlOf(id)() : this.#makeUrl(id)
+  }
+
+  #makeUrl(id) {
+    const { url, reference, rest } = this.of(id)
+    return reference === null ? this.#targets.target(url) : this.#below(reference, rest)
   }
 
   /** The headers of a request with ETags in place of references, but for those to the ids that are kept; or a refusal. */
@@ -107,16 +112,10 @@ class References {
     return { ...request, headers, url: ids.has(request.reference) ? request.url : this.url(id) }
   }
 
-  /** What returns the URL of a request. It is kept if others refer to it, so that a long chain of them needs no deep stack. */
+  /** What returns the URL of a request that others refer to. It is kept, so that a long chain of them needs no deep stack. */
   #urlOf(id) {
-    const found = this.#urls.get(id)
-    if (found !== undefined) return found
-    const { url, reference, rest } = this.of(id)
-    const made = outcomeOf(() => {
-      return reference === null ? this.#targets.target(url) : this.#below(reference, rest)
-    })
-    if (this.referred.has(id)) this.#urls.set(id, made)
-    return made
+    if (!this.#urls.has(id)) this.#urls.set(id, outcomeOf(() => this.#makeUrl(id)))
+    return this.#urls.get(id)
   }
 
   /** The headers of a request that refer to an ETag, each with the id that it names. */

@@ -58,6 +58,7 @@ async function answerBatch(callApp, req, client, memory, { path, root, policy, h
   const document = await readBody(req, maxSize, memory)
   const budget = new BodyBudget(maxSize, memory)
   const observer = new BatchObserver(hooks.onRequest, hooks.requestLog, perform.log)
+  const { isNeeded } = observer
   const call = async (request, wait) => {
     const prepared = batchRequest.serviceRequest(request)
     const seen = () => ({ ...request, headers: { ...prepared.headers } })
@@ -66,7 +67,7 @@ async function answerBatch(callApp, req, client, memory, { path, root, policy, h
       client.requireWanted(wait)
     }
     const dispatch = () => callApp(req.socket, prepared, budget, wait)
-    const answer = await (observer.isNeeded ? observer.observe(seen(), dispatch) : dispatch())
+    const answer = await (isNeeded ? observer.observe(seen(), dispatch) : dispatch())
     if (answer.shortage !== undefined) perform.log(answer.shortage, `the request ${request.id}, whose answer loses its body`)
     return answer
   }

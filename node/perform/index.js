@@ -3,7 +3,7 @@
 // Performs batches: hands each request that may be sent to a function, waits for its answer, and reports that to the run. index.d.ts
 // says what `perform` takes and returns.
 
-const { optionNumbers, requireOptions } = require('../calls/options.js')
+const { MAX_REQUESTS, optionNumbers, requireOptions } = require('../calls/options.js')
 const { requests: listRequests } = require('../calls/requests.js')
 const { Run } = require('../calls/run.js')
 const { documentBytes, kindName } = require('../documents/bytes.js')
@@ -15,7 +15,6 @@ const { References } = require('../http/references.js')
 const { GroupTransaction } = require('./group.js')
 
 const OPTIONS = ['mode', 'width', 'transaction', 'base', 'roots', 'timeout', 'deadline', 'limit', 'stop', 'log']
-const MOST_REQUESTS = 10000
 const MOST_MILLISECONDS = 2 ** 31 - 1
 const TRANSACTION = '(group, body) => knex.transaction((trx) => storage.run(trx, body))'
 // Of an answer these speak of its connection alone.
@@ -44,7 +43,7 @@ function requireTransaction(transaction) {
 
 /** The options with their defaults; or a TypeError, or a RangeError. */
 function performSettings(options) {
-  const { limit = MOST_REQUESTS, timeout, deadline, transaction, ...rest } = requireOptions(options, OPTIONS)
+  const { limit = MAX_REQUESTS, timeout, deadline, transaction, ...rest } = requireOptions(options, OPTIONS)
   optionNumbers({ mode: rest.mode, width: rest.width })
   if (!Number.isInteger(limit) || limit < 0) throw new TypeError(`limit must be a whole number, not ${String(limit)}`)
   requireTime('timeout', timeout)

@@ -10,8 +10,8 @@ import functools
 import inspect as inspection
 import weakref
 from dataclasses import replace
-from typing import Any, Awaitable, Callable, Iterable, MutableMapping, Optional
-from urllib.parse import quote, unquote, urlsplit
+from typing import Any, Awaitable, Callable, Iterable, Mapping, MutableMapping, Optional
+from urllib.parse import quote, unquote
 
 from ._native.calls import policy_numbers
 from .driver.execution import require_limit
@@ -19,8 +19,8 @@ from .driver.tasks import TransactionAsync, perform_async
 from .driver.waits import Places, uncancel, within
 from .errors.faults import Fault
 from .http.batch_request import BatchRequest, batch_folder
-from .http.budget import BodyBudget, BodyReader, memory_budget
-from .http.messages import LOG, Answer, PreparedRequest, Refusal, header_dict
+from .http.budget import BodyBudget, memory_budget
+from .http.messages import LOG, Answer, PreparedRequest, Refusal, header_dict, validate_answer
 from .http.observation import BatchObserver, OnRequest
 from .http.options import allowed_names, require_seconds, root_path
 from .http.responses import batch_response, error_response, length_refusal, wire_message
@@ -205,8 +205,8 @@ class _Client:
     """
 
     def __init__(self, receive: _Receive) -> None:
-        self._gone, self._receive = asyncio.Event(), receive
-        self.has_gone = self._gone.is_set
+        self._gone, self._receive = asyncio.get_running_loop().create_future(), receive
+        self.has_gone = self._gone.done
 
     def __enter__(self) -> "_Client":
         self._task = asyncio.ensure_future(self._wait())
@@ -222,7 +222,7 @@ class _Client:
             LOG.warning("the server does not say whether the client of a batch has gone", exc_info=error)
             return
         if message["type"] == "http.disconnect":
-            self._gone.set()
+            self._gone.set_result(None)
             LOG.info("the client of a batch has gone, so nothing more of it starts")
 
 
@@ -230,62 +230,59 @@ class _Inner:
     """Dispatches the requests of a batch to the application."""
 
     def __init__(self, middleware: BatchMiddleware, scope: _Scope, outer: BatchRequest, room: BodyBudget) -> None:
-        self._middleware, self._outer, self._scope, self._room = middleware, outer, scope, room
+        self._middleware, self._headers, self._room = middleware, outer.headers, room
         self._observer = BatchObserver(middleware.on_request)
+        self._is_seen = self._observer.is_needed or middleware.inspect is not None
         prefix = scope.get("root_path", "")
         # In newer servers the path of a scope has its root_path in front; what is dispatched is as what came.
         self._cut = "" if scope["path"] == prefix + middleware.path else prefix
         self._front = quote(self._cut)
+        # What a server can do with an answer, as to send a file by itself, it cannot do with this one.
+        self._scope = {name: value for name, value in scope.items() if name != "extensions"}
+        self._inherited = _header_bytes(outer.headers.inherited)
+        state = scope.get("state")
+        self._state = state if isinstance(state, dict) else None
 
-    async def dispatch(self, request: PreparedRequest) -> Answer:
+    def dispatch(self, request: PreparedRequest) -> Awaitable[Answer]:
         """Has the application answer a request."""
-        headers = self._outer.headers.for_request(request.headers)
-        scope = self._scope_of(request, headers)
-        if scope["path"] == self._scope["path"]:
-            raise Refusal(400, "NestedBatch", "A batch has no batches")
-        if self._middleware.inspect is not None:
-            self._middleware.inspect(replace(request, headers=dict(headers)))
-        if not self._observer.is_needed:
-            return await self._exchange(request, scope)
-        with self._observer.begin(replace(request, headers=dict(headers))) as observed:
-            observed.answer = await self._exchange(request, scope)
-            return observed.answer
-
-    async def _exchange(self, request: PreparedRequest, scope: _Scope) -> Answer:
-        with self._room.read(request.method) as reading:
-            exchange = _Exchange(request.body, reading)
-            try:
-                await self._middleware.app(scope, exchange.receive, exchange.send)
-            except asyncio.CancelledError:
-                if not exchange.is_cut():
-                    raise
-            except Exception:
-                # Starlette answers 500, and raises the exception again for the log of the server. After a success it is
-                # that of a commit.
-                if reading.refusal is None and (not exchange.is_complete or exchange.is_success):
-                    raise
-            return exchange.answer()
-
-    def _scope_of(self, request: PreparedRequest, headers: dict[str, str]) -> _Scope:
-        if request.body:
-            headers["content-length"] = str(len(request.body))
-        url = urlsplit(request.url)
-        path, front = unquote(url.path)[len(self._cut) :], self._front
+        head, _, query = request.url.partition("?")
+        raw = head[head.index("/", len("https://")) :]
+        path, front = unquote(raw)[len(self._cut) :], self._front
         # What is cut may be escaped in another way.
-        raw_path = url.path[len(front) :] if url.path.startswith(front) else quote(path)
+        raw_path = raw[len(front) :] if raw.startswith(front) else quote(path)
+        headers = self._inherited
+        if request.headers:
+            headers = {**headers, **_header_bytes(self._headers.own(request.headers))}
         scope: _Scope = {
             **self._scope,
             "method": request.method,
             "path": path,
             "raw_path": raw_path.encode(),
-            "query_string": url.query.encode(),
-            "headers": [(name.encode(), value.encode("latin-1")) for name, value in headers.items()],
+            "query_string": query.encode(),
+            "headers": [*headers.items()],
         }
-        if isinstance(scope.get("state"), dict):
-            scope["state"] = dict(scope["state"])
-        # What a server can do with an answer, as to send a file by itself, it cannot do with this one.
-        scope.pop("extensions", None)
-        return scope
+        if request.body:
+            scope["headers"].append((b"content-length", str(len(request.body)).encode()))
+        if self._state is not None:
+            scope["state"] = dict(self._state)
+        if path == self._scope["path"]:
+            raise Refusal(400, "NestedBatch", "A batch has no batches")
+        exchange = _Exchange(self._room, request)
+        return self._observe(request, scope, exchange) if self._is_seen else exchange.run(self._middleware.app, scope)
+
+    async def _observe(self, request: PreparedRequest, scope: _Scope, exchange: "_Exchange") -> Answer:
+        """Has a request seen, and answered."""
+        whole = replace(request, headers=self._headers.for_request(request.headers))
+        if self._middleware.inspect is not None:
+            self._middleware.inspect(whole)
+        with self._observer.begin(whole) as observed:
+            observed.answer = validate_answer(await exchange.run(self._middleware.app, scope))
+            return observed.answer
+
+
+def _header_bytes(headers: Mapping[str, str]) -> dict[bytes, bytes]:
+    """Returns headers as ASGI has them."""
+    return {name.encode(): value.encode("latin-1") for name, value in headers.items()}
 
 
 class _TooLong(OSError):
@@ -300,10 +297,11 @@ class _Exchange:
         is_success: Whether its status is one from 200 to 299.
     """
 
-    def __init__(self, body: bytes, reading: BodyReader) -> None:
-        self._incoming: list[_Message] = [{"type": "http.request", "body": body, "more_body": False}]
-        self._begun: dict[str, Any] = {}
-        self._reading = reading
+    def __init__(self, room: BodyBudget, request: PreparedRequest) -> None:
+        self._incoming: list[_Message] = [{"type": "http.request", "body": request.body, "more_body": False}]
+        self._status: Optional[int] = None
+        self._headers: dict[str, str] = {}
+        self._room, self._method = room, request.method
         self.is_complete = False
         # What waits for the end of the answer; few applications do.
         self._completed: Optional[asyncio.Event] = None
@@ -311,8 +309,29 @@ class _Exchange:
 
     @property
     def is_success(self) -> bool:
-        status: int = self._begun.get("status", 500)
-        return 200 <= status <= 299
+        return self._status is not None and 200 <= self._status <= 299
+
+    async def run(self, app: _App, scope: _Scope) -> Answer:
+        """Has an application answer the request.
+
+        Raises:
+            Refusal: The answer is too long.
+            RuntimeError: The application has not completed it.
+        """
+        with self._room.read(self._method) as self._reading:
+            try:
+                await app(scope, self.receive, self.send)
+            except asyncio.CancelledError:
+                if not self._is_cut():
+                    raise
+            except Exception:
+                # Starlette answers 500, and raises the exception again for the log of the server. After a success it is
+                # that of a commit.
+                if self._reading.refusal is None and (not self.is_complete or self.is_success):
+                    raise
+            if self._reading.refusal is None and (self._status is None or not self.is_complete):
+                raise RuntimeError("the application has not completed its answer")
+            return Answer(self._status or 500, self._headers, self._reading.body())
 
     async def receive(self) -> _Message:
         if not self._incoming:
@@ -325,7 +344,10 @@ class _Exchange:
 
     async def send(self, message: _Message) -> None:
         if message["type"] == "http.response.start":
-            self._begun.update(message)
+            pairs = [(name.decode("latin-1"), value.decode("latin-1")) for name, value in message.get("headers", ())]
+            headers = dict(pairs)
+            self._headers = headers if len(headers) == len(pairs) else header_dict(pairs)
+            self._status = message.get("status", 500)
         elif message["type"] == "http.response.body":
             part, has_more = message.get("body", b""), message.get("more_body", False)
             was_cut = self._reading.refusal is not None
@@ -352,18 +374,8 @@ class _Exchange:
         if has_more:
             raise _TooLong(str(refusal)) from None
 
-    def is_cut(self) -> bool:
+    def _is_cut(self) -> bool:
         """Whether the application was cancelled since its answer is too long, and by nobody else."""
         if not self._is_cancelled or self._task is None:
             return False
         return not uncancel(self._task)
-
-    def answer(self) -> Answer:
-        """Returns the answer; raises Refusal if it is too long, and RuntimeError if the application has not completed
-        it."""
-        if self._reading.refusal is None and not (self._begun and self.is_complete):
-            raise RuntimeError("the application has not completed its answer")
-        pairs = [(name.decode("latin-1"), value.decode("latin-1")) for name, value in self._begun.get("headers", ())]
-        headers = dict(pairs)
-        joined = headers if len(headers) == len(pairs) else header_dict(pairs)
-        return Answer(self._begun.get("status", 500), joined, self._reading.body())

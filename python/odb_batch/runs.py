@@ -1,6 +1,7 @@
 """Live runs: which requests may start now, by what has been reported so far."""
 
 import ctypes
+import json
 import threading
 import weakref
 from dataclasses import dataclass
@@ -8,7 +9,7 @@ from typing import Any, Literal, Mapping, NoReturn, Optional, SupportsIndex, Uni
 
 from ._native import library
 from ._native.calls import MAX_WIDTH, Mode, policy_numbers, read_text, status_error
-from .documents.encoding import Document, Events, document_bytes, events_bytes, report_bytes
+from .documents.encoding import Document, Events, body_json, document_bytes, events_bytes, json_bytes
 from .documents.requests import Request, requests
 from .errors.faults import Fault, Refused
 from .values import Value
@@ -87,7 +88,10 @@ class Run:
         MemoryError: An allocation failed.
     """
 
-    __slots__ = ("_lock", "_handle", "_release", "_ids", "_at", "_listed", "_size", "_batch", "__weakref__")
+    __slots__ = (
+        "_lock", "_handle", "_pointer", "_release", "_is_open", "_ids", "_at", "_listed", "_count", "_size", "_batch",
+        "__weakref__",
+    )  # fmt: skip
 
     def __init__(
         self, batch: Document, *, mode: Mode = "continue", width: int = MAX_WIDTH, events: Events = ()
@@ -99,27 +103,27 @@ class Run:
         self._batch: Union[bytes, tuple[Request, ...]] = given
         self._lock = threading.Lock()
         self._handle = library.Handle()
-        read_text("odb_run_open", given, happened, options=(*options, ctypes.byref(self._handle)))
-        self._release = weakref.finalize(self, library.LIBRARY.odb_run_close, self._handle)
+        self._pointer = ctypes.byref(self._handle)
+        read_text("odb_run_open", given, happened, options=(*options, self._pointer))
+        self._release, self._is_open = weakref.finalize(self, library.LIBRARY.odb_run_close, self._handle), True
         # A thread may still be in a call when the process ends, and then all memory goes.
         self._release.atexit = False
-        ids = read_text("odb_run_ids", options=(ctypes.byref(self._handle),), more=len(given) // 8)
+        ids = read_text("odb_run_ids", options=(self._pointer,), more=len(given) // 8)
         # The ids of the requests by their positions, and the positions by the ids.
         self._ids = ids.decode().splitlines()
         self._at = {request_id: position for position, request_id in enumerate(self._ids)}
         # Room for all positions, so that a list of some always fits.
-        self._listed = (ctypes.c_uint32 * max(len(self._ids), 1))()
+        self._listed, self._count = (ctypes.c_uint32 * max(len(self._ids), 1))(), ctypes.c_size_t()
 
     def __reduce_ex__(self, protocol: SupportsIndex) -> NoReturn:
         # A copy would share the handle, and one of the two would free it under the other.
         raise TypeError("a Run cannot be copied")
 
     def __repr__(self) -> str:
-        release = getattr(self, "_release", None)
-        if release is None:
+        if not hasattr(self, "_is_open"):
             return "<Run: not open>"
         with self._lock:
-            return f"<Run of {len(self._ids)} requests: {self._state() if release.alive else 'closed'}>"
+            return f"<Run of {len(self._ids)} requests: {self._state() if self._is_open else 'closed'}>"
 
     def __enter__(self) -> "Run":
         with self._lock:
@@ -190,7 +194,7 @@ class Run:
         """
         status, positions = self._positions("odb_run_next_unit")
         _settle("odb_run_next_unit", status, "")
-        return tuple(self._ids[position] for position in positions) or None
+        return tuple(map(self._ids.__getitem__, positions)) or None
 
     def request(self, id: str) -> Request:
         """Returns what is to be sent of a request: its method, URL, headers and body.
@@ -239,7 +243,7 @@ class Run:
         """
         with self._lock:
             self._require_open()
-            library.LIBRARY.odb_run_stop(ctypes.byref(self._handle))
+            library.LIBRARY.odb_run_stop(self._pointer)
 
     def start(self, id: str) -> None:
         """Starts a request: call it just before the request is sent.
@@ -296,12 +300,13 @@ class Run:
         if isinstance(status, bool) or not isinstance(status, int):
             raise TypeError(f"a status is a whole number, not {status!r}")
         position = self._at[id]
-        heads, text = report_bytes(headers, body)
+        heads, text = _headers_json(headers), body if type(body) is bytes else body_json(body)
         number = min(max(status, 0), _MAX_NUMBER)
         with self._lock:
             end = self._call("odb_run_report", position, number, heads, len(heads), text, len(text))
             if end == library.DONE:
                 self._size += len(heads) + len(text)
+                return
         if end == library.REFUSED:
             raise _fault(heads, text)
         _settle("odb_run_report", end, id)
@@ -316,45 +321,62 @@ class Run:
         """
         with self._lock:
             self._require_open()
-            return read_text("odb_run_response", options=(ctypes.byref(self._handle),), more=self._size)[:-1]
+            return read_text("odb_run_response", options=(self._pointer,), more=self._size)[:-1]
 
     def close(self) -> None:
         """Frees the run, if it is not closed yet."""
         with self._lock:
+            self._is_open = False
             self._release()
 
     def _require_open(self) -> None:
-        if not self._release.alive:
+        if not self._is_open:
             raise ValueError("the run is closed")
 
     def _call(self, name: str, *arguments: Any) -> int:
         """Calls a function over the open run, by the thread that has the lock; returns its status."""
-        self._require_open()
-        status: int = getattr(library.LIBRARY, name)(ctypes.byref(self._handle), *arguments)
+        if not self._is_open:
+            raise ValueError("the run is closed")
+        status: int = getattr(library.LIBRARY, name)(self._pointer, *arguments)
         return status
 
-    def _count(self, name: str) -> tuple[int, int]:
-        """The status that a function returns, and how many positions it lists, by the thread that has the lock."""
-        count = ctypes.c_size_t()
-        return self._call(name, self._listed, len(self._listed), ctypes.byref(count)), count.value
+    def _list_positions(self, name: str) -> tuple[int, list[int]]:
+        """The status that a function returns, and the positions that it lists, by the thread that has the lock."""
+        status = self._call(name, self._listed, len(self._listed), self._count)
+        return status, self._listed[: self._count.value]
 
     def _state(self) -> str:
         """How far the open run is, by the thread that has the lock."""
         if self._call("odb_run_finished"):
             return "finished"
-        return f"{self._count('odb_run_ready')[1]} ready, {self._count('odb_run_running')[1]} running"
+        ready, running = (len(self._list_positions(name)[1]) for name in ("odb_run_ready", "odb_run_running"))
+        return f"{ready} ready, {running} running"
 
     def _positions(self, name: str) -> tuple[int, list[int]]:
         """The status that a function returns, and the positions that it lists."""
         with self._lock:
-            status, count = self._count(name)
-            return status, self._listed[:count]
+            return self._list_positions(name)
 
     def _list(self, name: str) -> tuple[str, ...]:
         """The ids of the requests that a function lists, in the order of the batch."""
         status, positions = self._positions(name)
         _settle(name, status, "")
         return tuple(self._ids[position] for position in sorted(positions))
+
+
+# Writes a string; for an object json takes several times as long as for its strings.
+_encode = json.JSONEncoder(ensure_ascii=False).encode
+
+
+def _headers_json(headers: Optional[Mapping[str, str]]) -> bytes:
+    """The JSON text of the headers of a report; nothing without them."""
+    if headers is None:
+        return b""
+    given = dict(headers)
+    if not {*map(type, given), *map(type, given.values())} <= {str}:
+        return json_bytes(given)
+    texts = ",".join([f"{_encode(name)}:{_encode(value)}" for name, value in given.items()])
+    return f"{{{texts}}}".encode("utf-8", "surrogatepass")
 
 
 def _settle(name: str, status: int, request_id: str) -> None:

@@ -11,16 +11,16 @@ from concurrent.futures import ThreadPoolExecutor
 from dataclasses import replace
 from http import HTTPStatus
 from time import monotonic
-from typing import Any, Callable, Iterable, Iterator, Optional
-from urllib.parse import unquote_to_bytes, urlsplit
+from typing import Any, Callable, Iterable, Iterator, Mapping, Optional
+from urllib.parse import unquote_to_bytes
 
 from ._native.calls import policy_numbers
 from .driver.execution import require_limit
 from .driver.threads import Transaction, perform
 from .errors.faults import Fault
 from .http.batch_request import BatchRequest, batch_folder
-from .http.budget import BodyBudget, BodyReader, memory_budget
-from .http.messages import Answer, PreparedRequest, Refusal, header_dict
+from .http.budget import BodyBudget, memory_budget
+from .http.messages import Answer, PreparedRequest, Refusal, header_dict, validate_answer
 from .http.observation import BatchObserver, OnRequest
 from .http.options import allowed_names, require_seconds, root_path
 from .http.responses import batch_response, error_response, length_refusal, wire_message
@@ -202,63 +202,54 @@ class _Inner:
     """Dispatches the requests of a batch to the application."""
 
     def __init__(self, middleware: BatchMiddleware, environ: _Environ, outer: BatchRequest, room: BodyBudget) -> None:
-        self._middleware, self._outer, self._room = middleware, outer, room
+        self._middleware, self._headers, self._room = middleware, outer.headers, room
         self._observer = BatchObserver(middleware.on_request)
-        self._prefix = _decoded(environ.get("SCRIPT_NAME", ""))
-        self._environ = {
-            name: value for name, value in environ.items() if name not in _OF_OUTER and not name.startswith("HTTP_")
-        }
+        self._is_seen = self._observer.is_needed or middleware.inspect is not None
+        self._cut = len(_decoded(environ.get("SCRIPT_NAME", "")).encode())
+        kept = {name: value for name, value in environ.items() if name not in _OF_OUTER and not name.startswith("HTTP_")}
+        self._environ = {**kept, **_header_variables(outer.headers.inherited)}
         if middleware.width != 1:
             self._environ["wsgi.multithread"] = True
 
     def dispatch(self, request: PreparedRequest) -> Answer:
         """Has the application answer a request."""
-        headers = self._outer.headers.for_request(request.headers)
-        environ = self._environ_of(request, headers)
-        if environ["PATH_INFO"] == self._middleware.path:
-            raise Refusal(400, "NestedBatch", "A batch has no batches")
-        if self._middleware.inspect is not None:
-            self._middleware.inspect(replace(request, headers=dict(headers)))
-        if not self._observer.is_needed:
-            return self._exchange(request, environ)
-        with self._observer.begin(replace(request, headers=dict(headers))) as observed:
-            observed.answer = self._exchange(request, environ)
-            return observed.answer
-
-    def _exchange(self, request: PreparedRequest, environ: _Environ) -> Answer:
-        with self._room.read(request.method) as reading:
-            reply = _Reply(reading, self._middleware.timeout)
-            parts = self._middleware.app(environ, reply.start)
-            try:
-                for part in parts:
-                    reply.take(part)
-            finally:
-                if hasattr(parts, "close"):
-                    parts.close()
-            return reply.answer()
-
-    def _environ_of(self, request: PreparedRequest, headers: dict[str, str]) -> _Environ:
-        url = urlsplit(request.url)
-        target = url.path + (f"?{url.query}" if url.query else "")
-        return {
+        head, _, query = request.url.partition("?")
+        path = head[head.index("/", len("https://")) :]
+        target = f"{path}?{query}" if query else path
+        headers = self._headers.own(request.headers) if request.headers else {}
+        environ = {
             **self._environ,
-            **{"HTTP_" + name.upper().replace("-", "_"): value for name, value in headers.items() if name != "content-type"},
             "REQUEST_METHOD": request.method,
-            "PATH_INFO": unquote_to_bytes(url.path)[len(self._prefix.encode()) :].decode("latin-1"),
-            "QUERY_STRING": url.query,
+            "PATH_INFO": unquote_to_bytes(path)[self._cut :].decode("latin-1"),
+            "QUERY_STRING": query,
             "REQUEST_URI": target,
             "RAW_URI": target,
-            "CONTENT_TYPE": headers.get("content-type", ""),
+            "CONTENT_TYPE": headers.pop("content-type", ""),
             "CONTENT_LENGTH": str(len(request.body)),
             "wsgi.input": io.BytesIO(request.body),
         }
+        if headers:
+            environ.update(_header_variables(headers))
+        if environ["PATH_INFO"] == self._middleware.path:
+            raise Refusal(400, "NestedBatch", "A batch has no batches")
+        reply = _Reply(self._room, request.method, self._middleware.timeout)
+        return self._observe(request, environ, reply) if self._is_seen else reply.read(self._middleware.app, environ)
+
+    def _observe(self, request: PreparedRequest, environ: _Environ, reply: "_Reply") -> Answer:
+        """Has a request seen, and answered."""
+        whole = replace(request, headers=self._headers.for_request(request.headers))
+        if self._middleware.inspect is not None:
+            self._middleware.inspect(whole)
+        with self._observer.begin(whole) as observed:
+            observed.answer = validate_answer(reply.read(self._middleware.app, environ))
+            return observed.answer
 
 
 class _Reply:
     """The answer of an application to one request, as WSGI passes it."""
 
-    def __init__(self, reading: BodyReader, timeout: Optional[float]) -> None:
-        self._reading, self._count = reading, 0
+    def __init__(self, room: BodyBudget, method: str, timeout: Optional[float]) -> None:
+        self._room, self._method, self._count = room, method, 0
         self._begun: tuple[str, _Headers] = ("", ())
         self._ends = None if timeout is None else monotonic() + timeout
 
@@ -271,17 +262,33 @@ class _Reply:
 
     def take(self, part: bytes) -> None:
         """Takes a part of the body. Only one that follows another can be too late: a first one may be the whole."""
-        if self._ends is not None and self._count and monotonic() > self._ends:
+        if self._count and self._ends is not None and monotonic() > self._ends:
             raise TimeoutError("the answer has not come to its end in time")
         self._count += 1
         self._reading.add(part)
 
-    def answer(self) -> Answer:
-        """Returns the answer; raises RuntimeError if there is none, and Refusal if it is too long."""
-        status, headers = self._begun
-        if not status:
-            raise RuntimeError("the application has answered nothing")
-        return Answer(int(status[:3]), header_dict(headers), self._reading.body())
+    def read(self, app: _App, environ: _Environ) -> Answer:
+        """Returns what an application answers; raises RuntimeError if that is nothing, and Refusal if it is too long."""
+        with self._room.read(self._method) as self._reading:
+            parts = app(environ, self.start)
+            try:
+                for part in parts:
+                    self.take(part)
+            finally:
+                if hasattr(parts, "close"):
+                    parts.close()
+            status, headers = self._begun
+            if not status:
+                raise RuntimeError("the application has answered nothing")
+            pairs = [*headers]
+            found = dict(pairs)
+            joined = found if len(found) == len(pairs) else header_dict(pairs)
+            return Answer(int(status[:3]), joined, self._reading.body())
+
+
+def _header_variables(headers: Mapping[str, str]) -> _Environ:
+    """Returns headers as WSGI has them."""
+    return {"HTTP_" + name.upper().replace("-", "_"): value for name, value in headers.items()}
 
 
 def _decoded(path: str) -> str:

@@ -10,7 +10,7 @@ BUILDING, SENDING, REST, URLS = "client/test_building", "client/test_sending", "
 
 DEFECTS = {
     "headers-of-the-batch-stay": (
-        "wsgi", ' and not name.startswith("HTTP_")\n        }\n        if', "\n        }\n        if", MIDDLEWARE, "inherited",
+        "wsgi", ' and not name.startswith("HTTP_")}\n', "}\n", MIDDLEWARE, "inherited",
     ),
     "success-before-the-commit": (
         "driver/execution", "if answer.is_success:\n                return", "", PERFORM, "commit",
@@ -22,21 +22,21 @@ DEFECTS = {
     ),
     "no-gate": ("asgi", "gate=self._gate()", "gate=None", WSGI_ASGI, "at_once"),
     "a-gate-of-one-loop": ("asgi", "if loop not in self._places:", "if not self._places:", WSGI_ASGI, "at_once"),
-    "a-client-that-stays": ("asgi", "self._gone.set()", "pass", ENDS, "nothing_more_starts"),
+    "a-client-that-stays": ("asgi", "self._gone.set_result(None)", "pass", ENDS, "nothing_more_starts"),
     "any-transaction": ("asgi", "if inspection.isgeneratorfunction(function) or", "if False and", ENDS, "refused_at_the_start"),
     "memory-until-the-end": ("http/budget", "self._room.give(self._size)", "pass", ROOMS, "takes_nothing"),
-    "a-stop-before-the-place-alone": ("driver/execution", "self._ask_to_stop()\n        # One", "# One", PLACES, "waits_for_a_place"),
-    "a-start-before-its-place": ("driver/execution", "return unit\n        return None", "self._note(Start(ids[0])); return unit\n        return None", PLACES, "has_not_started"),
+    "a-stop-before-the-place-alone": ("driver/execution", "self._ask_to_stop(self._stop)\n        # One", "pass\n        # One", PLACES, "waits_for_a_place"),
+    "a-start-before-its-place": ("driver/execution", "self._left -= len(ids)\n            found", "self._left -= len(ids); self._journal and self._journal.write(Start(first))\n            found", PLACES, "has_not_started"),
     "a-place-that-is-lost": ("driver/waits", "self.leave()  # the place", "pass  # the place", PLACES, "none_is_lost"),
     "a-disconnect-after-the-body": (
         "asgi", "await self._completed.wait()\n", "pass\n", WSGI_ASGI, "receive_blocks",
     ),
-    "a-success-without-its-commit": ("asgi", " or exchange.is_success", "", WSGI_ASGI, "after_a_success"),
-    "a-cut-answer-is-one": ("asgi", "not (self._begun and self.is_complete)", "not self._begun", WSGI_ASGI, "answers_half"),
+    "a-success-without-its-commit": ("asgi", " or self.is_success", "", WSGI_ASGI, "after_a_success"),
+    "a-cut-answer-is-one": ("asgi", "(self._status is None or not self.is_complete)", "self._status is None", WSGI_ASGI, "answers_half"),
     "an-answer-ends-a-request": (
-        "asgi", "await self._middleware.app(scope, exchange.receive, exchange.send)",
-        "asyncio.ensure_future(self._middleware.app(scope, exchange.receive, exchange.send))\n"
-        "                while not exchange.is_complete:\n                    await asyncio.sleep(0)",
+        "asgi", "await app(scope, self.receive, self.send)",
+        "asyncio.ensure_future(app(scope, self.receive, self.send))\n"
+        "                while not self.is_complete:\n                    await asyncio.sleep(0)",
         WSGI_ASGI, "when_the_application_returns",
     ),
     "any-url": ("driver/targets", "ServiceTargets(base, allowed) if allowed else ", "", MIDDLEWARE, "lead_out"),
@@ -49,12 +49,12 @@ DEFECTS = {
     ),
     "any-status": ("http/messages", "if 200 <= status <= 599 else 502", "", PERFORM, "an_answer_that_is_none"),
     "a-late-stop": ("driver/execution", "except Refused:\n                continue", "except KeyError:\n                continue", PERFORM, "while_a_unit_begins"),
-    "no-stop": ("driver/execution", "and not self._is_stopped and self._stop():", "and False:", PERFORM, "a_stop_answers"),
+    "no-stop": ("driver/execution", "if not self._is_stopped and is_to_stop():", "if False:", PERFORM, "a_stop_answers"),
     "broken-json-ends-all": ("driver/execution", "except Fault:\n            headers", "except KeyError:\n            headers", PERFORM_REQUESTS, "of_answers"),
     "a-place-that-stays-free": ("driver/waits", "self._begin_units()\n        except", "self._out or self._begin_units()\n        except", PERFORM_ORDER, "place"),
     "any-number-of-requests": ("driver/execution", "if len(given) > limit:", "if False:", PERFORM, "that_is_refused"),
-    "a-cancelled-batch-goes-on": ("driver/waits", "return self._is_cancelled or _is_cancelling()", "return False", PERFORM_ORDER, "cancellation"),
-    "a-request-that-is-lost": ("driver/waits", "return self._is_cancelled or _is_cancelling()", "return True", PERFORM, "something_else"),
+    "a-cancelled-batch-goes-on": ("driver/waits", 'return self._is_cancelled or getattr(asyncio.current_task(), "cancelling", int)() > 0', "return False", PERFORM_ORDER, "cancellation"),
+    "a-request-that-is-lost": ("driver/waits", 'return self._is_cancelled or getattr(asyncio.current_task(), "cancelling", int)() > 0', "return True", PERFORM, "something_else"),
     "a-cancellation-leaves-tasks": ("driver/waits", "while self._out:", "if self._out:", PERFORM_ORDER, "however_often"),
     "an-interruption-goes-on": ("driver/threads", "execution.stop()\n            #", "#", PERFORM, "nothing_more_start"),
     "a-pool-blocks": ("driver/threads", " if not future.cancel()", "", PERFORM_ORDER, "is_shut_down"),

@@ -9,7 +9,7 @@ import pytest
 
 from odb_batch import Stop, perform, perform_async
 from odb_batch.driver import threads
-from odb_batch.driver.waits import Deadline, Places
+from odb_batch.driver.waits import Deadline, Places, Watch
 from support.performing import Clock, Ledger, Memory, gets, shown
 
 # A defect has some of them wait for ever.
@@ -78,7 +78,8 @@ class TestTasks:
     def test_it_bounds_a_longer_timeout(self):
         async def main():
             ends = Deadline(600)
-            return [ends.end(timeout) == ends.at for timeout in (7200, None, 1)]
+            with Watch(ends) as watch:
+                return [watch.running[watch.begin(timeout)] == ends.at for timeout in (7200, None, 1)]
 
         assert asyncio.run(main()) == [True, True, False]
 

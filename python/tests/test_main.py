@@ -38,12 +38,6 @@ def test_each_command_says_how_it_is_called(name):
     assert out.startswith(f"usage: python3 -m odb_batch {name} ")
 
 
-def test_a_package_may_be_called_by_its_name():
-    wanted = called("odb_batch", "conformance", "--list", "--case", "chain")
-    assert called("odb_batch.conformance", "--list", "--case", "chain") == wanted
-    assert wanted[0] == 0 and wanted[1].startswith("chain ")
-
-
 NOWHERE = {"ODB_BATCH_LIBRARY": "/nowhere/libodb_batch.so.0"}
 # The option -m says which module is to be run.
 named = pytest.mark.skipif(sys.version_info < (3, 10), reason="Python 3.9 does not say which module it runs")

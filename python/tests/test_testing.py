@@ -12,7 +12,7 @@ from odb_batch import Answer, Fault, canon, check, match, replay, run
 from odb_batch.errors.faults import explanations
 from odb_batch.testing import Scripted, batches, events, faulty_batches, outcomes
 from odb_batch.testing._faulty import CHANGES
-from odb_batch.testing._strategies import covered
+from odb_batch.testing._strategies import covered_ids
 from support.profiles import share
 
 PRICE = Decimal("9.990")
@@ -88,7 +88,7 @@ class TestStrategies:
         ("Books", ["a"]), ("$metadata/Pages", []), ("%24root?$top=1", []), ("$all", []), ("$all-/Pages", ["a"]),
     ])  # fmt: skip
     def test_what_has_a_reserved_url_is_not_referred_to(self, url, ids):
-        assert covered([{"id": "a", "url": url}], {"dependsOn": ["a"]}) == ids
+        assert covered_ids([{"id": "a", "url": url}], {"dependsOn": ["a"]}) == ids
 
     @pytest.mark.slow
     def test_each_part_is_drawn(self):

@@ -60,6 +60,34 @@ def test_what_another_process_has_written_is_synced_before_it_is_answered(tmp_pa
     asyncio.run(run())
 
 
+def test_the_loop_goes_on_while_the_file_is_read_and_written(tmp_path, monkeypatch):
+    """Whatever waits for the device waits here until the loop has moved, so on the loop it would wait for itself."""
+    moves, report = [], Report("a", 200, {}, b"1" * 1_000_000)
+
+    async def run():
+        async with opened(str(tmp_path)) as journals:
+            loop = asyncio.get_running_loop()
+
+            def waiting(function):
+                def wait(*given):
+                    moved = threading.Event()
+                    loop.call_soon_threadsafe(moved.set)
+                    moves.append((function.__name__, moved.wait(SECONDS / 10)))
+                    return function(*given)
+
+                return wait
+
+            for name in ("_append", "_append_piece", "_read", "_sync"):
+                monkeypatch.setattr(journals.store, name, waiting(getattr(journals.store, name)))
+            await written(journals, [Start("a"), report])
+            async with journals.journal(b"x", FIRST) as journal:
+                await journal.sync()
+                assert journal.events == [Start("a"), report]
+
+    asyncio.run(run())
+    assert {*moves} == {("_append", True), ("_append_piece", True), ("_read", True), ("_sync", True)}
+
+
 def test_a_lock_file_that_is_removed_before_it_is_locked_is_made_again(tmp_path, monkeypatch):
     lock, removed = _sqlite.fcntl.flock, []
 

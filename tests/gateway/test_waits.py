@@ -88,9 +88,9 @@ def test_the_log_says_that_no_connection_was_free(logged):
     async def enter():
         upstreams = UpstreamClient(options, counts)
         await upstreams.open()
-        async with upstreams.places(options.routes[0]):
+        async with upstreams.places["/"]:
             with pytest.raises(Refusal):
-                await upstreams.places(options.routes[0]).__aenter__()
+                await upstreams.places["/"].__aenter__()
         await upstreams.close()
 
     asyncio.run(enter())

@@ -46,8 +46,8 @@ def test_its_extras_are_all_that_it_needs(tmp_path, monkeypatch):
 
 @pytest.mark.slow
 @pytest.mark.needs("mypy")
-def test_its_types(tmp_path):
-    print(run("mypy", f"--cache-dir={tmp_path}", cwd=ROOT))
+def test_its_types():
+    print(run("mypy", f"--cache-dir={os.devnull}", cwd=ROOT))
 
 
 @pytest.mark.slow
@@ -75,7 +75,7 @@ def without_imports(path):
 @pytest.mark.needs("pyupgrade")
 def test_it_is_written_for_python_39(tmp_path):
     """pyupgrade changes nothing but imports."""
-    copy, left_out = tmp_path / "odb_batch", ("libodb_batch*", "__pycache__", "gateway", "journals")
+    copy, left_out = tmp_path / "odb_batch", ("libodb_batch*", "__pycache__", "journals")
     shutil.copytree(f"{ROOT}/python/odb_batch", copy, ignore=shutil.ignore_patterns(*left_out))
     modules = sorted(copy.rglob("*.py"))
     before = [without_imports(it) for it in modules]

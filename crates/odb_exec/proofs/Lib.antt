@@ -4,3 +4,4 @@ pub mod PickLemmas
 pub mod CallLemmas
 pub mod RecordedLemmas
 pub mod OrderLemmas
+mod SingleLemmas

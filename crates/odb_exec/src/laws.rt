@@ -4,12 +4,15 @@
 //! The laws are clauses of functions that change nothing. They are stated by the relations that the
 //! clauses of [`crate::execute`] use.
 
-ghost use Rattle.std.specs.Prelude.{◌≡◌, ◌++◌, List, map, Option};
+ghost use Rattle.std.specs.Prelude.{◌≡◌, ◌++◌, List, false, map, Option};
 ghost use Rattle.odb_doc.specs.declared.recorded.outcome.Outcome.{Outcome};
 ghost use Rattle.odb_doc.specs.batch.Records.{Record};
 ghost use Rattle.odb_sched.specs.declared.event.Event.{Event};
 ghost use Rattle.odb_sched.specs.declared.order.Order.{Order};
-ghost use Rattle.odb_sched.specs.run.State.{State};
+ghost use Rattle.odb_sched.specs.declared.policy.Policy.{Policy};
+ghost use Rattle.odb_sched.specs.run.Runs.{after_all};
+ghost use Rattle.odb_sched.specs.run.State.{State, first_state};
+ghost use Rattle.odb_sched.specs.run.Steps.{places};
 ghost use Rattle.odb_exec.specs.Courses.{step_of};
 ghost use Rattle.odb_exec.specs.Calls.{AsksAll, Call, calls_of, reported_by, Writes};
 ghost use Rattle.odb_exec.specs.Recordings.{HasOneCourse, HasOneFault, FaultsOrFinishes};
@@ -28,6 +31,16 @@ pub fn every_call<S: Service, X>()
     ensures positions { (requests : List Record) (events : List Event) (old new : S)
         → AsksAll S.performs requests events old new
         → map (λ call. call.0) (calls_of requests events) ≡ reported_by (map step_of events) }
+{}
+
+/// Where each event is the start or the report of one request, as in an execution and in a run by recorded events, as many
+/// may run at once as the width says (`width`), and nobody but an error stops the run (`unclosed`). So a start may come by
+/// the phases of the requests, the mode and the width alone.
+pub fn one_by_one()
+    ensures width { (requests : List Record) (policy : Policy) (events : List Event)
+        → places (after_all (first_state requests policy) events) ≡ policy.width }
+    ensures unclosed { (requests : List Record) (policy : Policy) (events : List Event)
+        → (after_all (first_state requests policy) events).closed ≡ false }
 {}
 
 /// In an order, as that of `First`, `Last` or `Wide`, and with recorded outcomes, an execution has one

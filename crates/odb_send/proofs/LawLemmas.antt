@@ -21,7 +21,7 @@ use Rattle.odb_send.specs.Rests.{HasUrls, IsUrl, is_kept, rest_record, select}
 use Rattle.odb_send.specs.Rests.IsUrl.{same, moved}
 use Rattle.odb_send.proofs.NameLemmas.{HasStayingUrls}
 use Rattle.odb_send.specs.Units.{AreMarksOf, IsDone, IsInRest, IsLeftOut, marked, unit_needed}
-use Rattle.odb_send.specs.Units.IsLeftOut.{own, needing}
+use Rattle.odb_send.specs.Units.IsBarred.{own, needing}
 
 -- an element at a position within
 pub slice_get-some : {X : Type 0} (xs : List X) (i : ℕ) → i < length xs → (x : X) × (slice_get xs i ≡ Some x)
@@ -39,7 +39,7 @@ done_stable rs statuses u possible i within unit = elim (cases_Bool (is_success 
 ]
 
 -- what a request needs is a unit of the batch
-need_known : (rs : List Record) → HasGoodNames rs → (i : ℕ) (need : Need) → i < length rs → Contains (needs_at rs i) need → unit_needed rs need < unit_count rs
+pub need_known : (rs : List Record) → HasGoodNames rs → (i : ℕ) (need : Need) → i < length rs → Contains (needs_at rs i) need → unit_needed rs need < unit_count rs
 need_known rs good i (One r) within inside = unit_before rs r (length rs) (omega (arith, (needs_before rs good).one i r inside, within))
 need_known rs good i (Group u) within inside = omega (arith, (needs_before rs good).group i u inside, unit_before rs i (length rs) within)
 
@@ -56,10 +56,10 @@ rest_may_be_sent rs statuses units good are u rest = record {
   not_done = rest.not_done;
   repeats = λ i within unit. elim (cases_Bool (may_repeat_at rs statuses i)) [
     | inl is ↦ is
-    | inr bad ↦ absurd (rest.not_left_out (subst (IsLeftOut rs statuses) unit (own i within bad)))
+    | inr bad ↦ absurd (rest.not_left_out (subst (IsLeftOut rs statuses) unit (own i within refl bad)))
   ];
   met = λ i need within unit inside. met_by rs statuses units (unit_needed rs need) are (need_known rs good i need within inside)
-      (λ left. rest.not_left_out (subst (IsLeftOut rs statuses) unit (needing i need within inside left)));
+      (λ left. rest.not_left_out (subst (IsLeftOut rs statuses) unit (needing i need within refl inside left)));
 }
 
 -- ---- what was done is not left out
@@ -72,7 +72,7 @@ done_repeats : (rs : List Record) (statuses : List ℕ) (i : ℕ) → i < length
 done_repeats rs statuses i within is = let some = slice_get-some rs i within in rw some.1 (success_repeats (get_or statuses i 0) is some.0)
 
 -- a request whose responses are successes has the status of one
-succeeded : (rs : List Record) (es : List Entry) (places statuses : List ℕ) (r : ℕ) → IsTableOf rs es places statuses → r < length rs → Succeeds rs es r → is_success (get_or statuses r 0) ≡ true
+pub succeeded : (rs : List Record) (es : List Entry) (places statuses : List ℕ) (r : ℕ) → IsTableOf rs es places statuses → r < length rs → Succeeds rs es r → is_success (get_or statuses r 0) ≡ true
 succeeded rs es places statuses r table within success =
     let place = slice_get-some places r (omega (arith, table.places_count)) in
     let status = slice_get-some statuses r (omega (arith, table.statuses_count)) in
@@ -81,7 +81,7 @@ succeeded rs es places statuses r table within success =
     ap is_success (get_or_from_slice_get statuses r status.0 0 status.1 ∙ sym row.status_is) ∙ is
 
 -- the response to a request has its status
-responds : (rs : List Record) (es : List Entry) (places statuses : List ℕ) (i : ℕ) → IsTableOf rs es places statuses → i < length rs → (e : Entry) × Responds rs es i e × (e.status ≡ get_or statuses i 0)
+pub responds : (rs : List Record) (es : List Entry) (places statuses : List ℕ) (i : ℕ) → IsTableOf rs es places statuses → i < length rs → (e : Entry) × Responds rs es i e × (e.status ≡ get_or statuses i 0)
 responds rs es places statuses i table within =
     let place = slice_get-some places i (omega (arith, table.places_count)) in
     let status = slice_get-some statuses i (omega (arith, table.statuses_count)) in
@@ -119,8 +119,8 @@ needs_done rs es places statuses good fits table i (One r) within inside done = 
         succeeded rs es places statuses j table inside_too (satisfied j unit)
 
 pub done_stays : (rs : List Record) (es : List Entry) (places statuses : List ℕ) → HasGoodNames rs → Fits rs es → IsTableOf rs es places statuses → (u : ℕ) → IsLeftOut rs statuses u → ¬ IsDone rs statuses u
-done_stays rs es places statuses good fits table u (own i within bad) done = true≢false (sym (done_repeats rs statuses i within (done i within refl)) ∙ bad)
-done_stays rs es places statuses good fits table u (needing i need within inside left) done =
+done_stays rs es places statuses good fits table u (own i within bound bad) done = true≢false (sym (done_repeats rs statuses i within (done i within refl)) ∙ bad)
+done_stays rs es places statuses good fits table u (needing i need within bound inside left) done =
     done_stays rs es places statuses good fits table (unit_needed rs need) left (needs_done rs es places statuses good fits table i need within inside done)
 
 -- ---- nothing is left to send
@@ -143,8 +143,8 @@ none_left rs statuses units list are all = select_none (is_kept rs units) (λ i 
 
 -- what may be sent is not left out
 sent_stays : (rs : List Record) (es : List Entry) (places statuses : List ℕ) → HasGoodNames rs → Fits rs es → IsTableOf rs es places statuses → (u : ℕ) → IsLeftOut rs statuses u → ¬ MayBeSent rs statuses u
-sent_stays rs es places statuses good fits table u (own i within bad) sent = true≢false (sym (sent.repeats i within refl) ∙ bad)
-sent_stays rs es places statuses good fits table u (needing i need within inside left) sent = elim (sent.met i need within refl inside) [
+sent_stays rs es places statuses good fits table u (own i within bound bad) sent = true≢false (sym (sent.repeats i within refl) ∙ bad)
+sent_stays rs es places statuses good fits table u (needing i need within bound inside left) sent = elim (sent.met i need within refl inside) [
   | inl done ↦ done_stays rs es places statuses good fits table (unit_needed rs need) left done
   | inr rest ↦ rest.not_left_out left
 ]

@@ -10,3 +10,6 @@ pub mod TextLemmas
 pub mod PlanLemmas
 pub mod ReadLemmas
 pub mod SoundLemmas
+mod ResendLemmas
+pub mod NextPartLemmas
+pub mod PartLawLemmas

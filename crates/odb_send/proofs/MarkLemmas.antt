@@ -12,49 +12,50 @@ use Rattle.odb_check.specs.declared.need.Need.{Need}
 use Rattle.odb_check.specs.declared.need.Need.TheVariants.{One, Group}
 use Rattle.odb_check.specs.Needs.{needs_at}
 use Rattle.odb_check.specs.Units.{unit_at, unit_count}
+use Rattle.odb_check.specs.Firsts.{list_below}
 use Rattle.odb_check.proofs.LevelLemmas.{HasNeedsBefore}
 use Rattle.odb_check.proofs.PlanLemmas.{needs_before}
 use Rattle.odb_reply.specs.Fits.{AreUnits}
 use Rattle.odb_send.specs.Repeats.{may_repeat, may_repeat_one, may_repeat_at}
-use Rattle.odb_send.specs.Units.{AreMarksOf, IsDone, IsInRest, IsLeftOut, marked, unit_needed}
-use Rattle.odb_send.specs.Units.IsLeftOut.{own, needing}
-use Rattle.odb_send.specs.Marks.{AreKept, AreLeftOut}
+use Rattle.odb_send.specs.Units.{AreMarksOf, IsBarred, IsDone, IsInRest, IsLeftOut, marked, unit_needed}
+use Rattle.odb_send.specs.Units.IsBarred.{own, needing}
+use Rattle.odb_send.specs.Marks.{AreBarred, AreKept}
 
 -- ---- one mark more
 
 -- a mark that is set
-marked-set : (units : List Bool) (u : ℕ) → u < length units → marked (set units u true) u ≡ true
+pub marked-set : (units : List Bool) (u : ℕ) → u < length units → marked (set units u true) u ≡ true
 marked-set units u within = get_or-set_at units u u true false refl within
 
 -- the other marks stay
-marked-other : (units : List Bool) (u v : ℕ) → v ≢ u → marked (set units u true) v ≡ marked units v
+pub marked-other : (units : List Bool) (u v : ℕ) → v ≢ u → marked (set units u true) v ≡ marked units v
 marked-other units u v apart = get_or-set_other units u v true false apart
 
 -- a mark is that which was set, or was there
-marked-cases : (units : List Bool) (u v : ℕ) → marked (set units u true) v ≡ true → (v ≡ u) ⊎ (marked units v ≡ true)
+pub marked-cases : (units : List Bool) (u v : ℕ) → marked (set units u true) v ≡ true → (v ≡ u) ⊎ (marked units v ≡ true)
 marked-cases units u v is = elim (cases_eq v u) [ inl same ↦ inl same | inr apart ↦ inr (sym (marked-other units u v apart) ∙ is) ]
 
 -- marks stay
-marked-kept : (units : List Bool) (u v : ℕ) → u < length units → marked units v ≡ true → marked (set units u true) v ≡ true
+pub marked-kept : (units : List Bool) (u v : ℕ) → u < length units → marked units v ≡ true → marked (set units u true) v ≡ true
 marked-kept units u v within is = elim (cases_eq v u) [
   | inl same ↦ subst (λ w. marked (set units u true) w ≡ true) (sym same) (marked-set units u within)
   | inr apart ↦ marked-other units u v apart ∙ is
 ]
 
 -- no mark is set at first
-marked-none : (n u : ℕ) → marked (replicate n false) u ≡ false
+pub marked-none : (n u : ℕ) → marked (replicate n false) u ≡ false
 marked-none zero u = refl
 marked-none (suc n) zero = refl
 marked-none (suc n) (suc u) = marked-none n u
 
--- ---- units that are left out
+-- ---- units that are barred
 
 -- whether a request may be sent again, by the request
 pub repeats_at : (rs : List Record) (statuses : List ℕ) (i : ℕ) (r : Record) → slice_get rs i ≡ Some r → may_repeat_at rs statuses i ≡ may_repeat r.method (get_or statuses i 0)
 repeats_at rs statuses i r here = ap (λ o. may_repeat_one o (get_or statuses i 0)) here
 
-pub AreLeftOut-none : (rs : List Record) (statuses : List ℕ) → AreLeftOut rs statuses 0 (replicate (unit_count rs) false)
-AreLeftOut-none rs statuses = record {
+pub AreBarred-none : (rs : List Record) (exempt test : ℕ → Bool) → AreBarred rs exempt test 0 (replicate (unit_count rs) false)
+AreBarred-none rs exempt test = record {
   count = length-replicate (unit_count rs) false;
   sound = λ u is. absurd (false≢true (sym (marked-none (unit_count rs) u) ∙ is));
   own = λ i less. absurd (omega arith);
@@ -62,44 +63,59 @@ AreLeftOut-none rs statuses = record {
 }
 
 -- what a request needs is in its unit or in one before it
-needed_before : (rs : List Record) → HasNeedsBefore rs → (i : ℕ) (need : Need) → Contains (needs_at rs i) need → unit_needed rs need ≤ unit_at rs i
+pub needed_before : (rs : List Record) → HasNeedsBefore rs → (i : ℕ) (need : Need) → Contains (needs_at rs i) need → unit_needed rs need ≤ unit_at rs i
 needed_before rs before i (One r) inside = before.order r i (omega (arith, before.one i r inside))
 needed_before rs before i (Group u) inside = omega (arith, before.group i u inside)
 
--- the next request may be sent again, and needs nothing that is left out
-pub AreLeftOut-kept : (rs : List Record) (statuses : List ℕ) (n : ℕ) (units : List Bool) → AreLeftOut rs statuses n units → may_repeat_at rs statuses n ≡ true
-    → list_any (λ need. marked units (unit_needed rs need)) (needs_at rs n) ≡ false → AreLeftOut rs statuses (n + 1) units
-AreLeftOut-kept rs statuses n units before repeats free = record {
+-- the next request is of an exempt unit
+pub AreBarred-exempt : (rs : List Record) (exempt test : ℕ → Bool) (n : ℕ) (units : List Bool) → AreBarred rs exempt test n units → exempt (unit_at rs n) ≡ true → AreBarred rs exempt test (n + 1) units
+AreBarred-exempt rs exempt test n units before is = record {
   count = before.count;
   sound = before.sound;
-  own = λ i less bad. elim (cases_eq i n) [
-    | inl last ↦ absurd (true≢false (sym repeats ∙ sym (ap (may_repeat_at rs statuses) last) ∙ bad))
-    | inr early ↦ before.own i (omega arith) bad
+  own = λ i less free bad. elim (cases_eq i n) [
+    | inl last ↦ absurd (true≢false (sym is ∙ ap (λ j. exempt (unit_at rs j)) (sym last) ∙ free))
+    | inr early ↦ before.own i (omega arith) free bad
   ];
-  needing = λ i need less inside is. elim (cases_eq i n) [
+  needing = λ i need less free inside marks. elim (cases_eq i n) [
+    | inl last ↦ absurd (true≢false (sym is ∙ ap (λ j. exempt (unit_at rs j)) (sym last) ∙ free))
+    | inr early ↦ before.needing i need (omega arith) free inside marks
+  ];
+}
+
+-- the next request passes, and needs nothing that is barred
+pub AreBarred-kept : (rs : List Record) (exempt test : ℕ → Bool) (n : ℕ) (units : List Bool) → AreBarred rs exempt test n units → test n ≡ true
+    → list_any (λ need. marked units (unit_needed rs need)) (needs_at rs n) ≡ false → AreBarred rs exempt test (n + 1) units
+AreBarred-kept rs exempt test n units before passes free = record {
+  count = before.count;
+  sound = before.sound;
+  own = λ i less bound bad. elim (cases_eq i n) [
+    | inl last ↦ absurd (true≢false (sym passes ∙ sym (ap test last) ∙ bad))
+    | inr early ↦ before.own i (omega arith) bound bad
+  ];
+  needing = λ i need less bound inside is. elim (cases_eq i n) [
     | inl last ↦ absurd (true≢false (sym (at_n need (subst (λ k. Contains (needs_at rs k) need) last inside) is) ∙ free))
-    | inr early ↦ before.needing i need (omega arith) inside is
+    | inr early ↦ before.needing i need (omega arith) bound inside is
   ];
 }
   where
     at_n : (need : Need) → Contains (needs_at rs n) need → marked units (unit_needed rs need) ≡ true → list_any (λ need. marked units (unit_needed rs need)) (needs_at rs n) ≡ true
     at_n need inside is = list_any_at (λ need. marked units (unit_needed rs need)) (needs_at rs n) inside.0 need inside.1 (ap (λ x. marked units (unit_needed rs x)) inside.2 ∙ is)
 
--- the unit of the next request is left out
-pub AreLeftOut-more : (rs : List Record) (statuses : List ℕ) (n : ℕ) (units : List Bool) → HasGoodNames rs → AreLeftOut rs statuses n units → unit_at rs n < unit_count rs
-    → IsLeftOut rs statuses (unit_at rs n) → AreLeftOut rs statuses (n + 1) (set units (unit_at rs n) true)
-AreLeftOut-more rs statuses n units good before within left = record {
+-- the unit of the next request is barred
+pub AreBarred-more : (rs : List Record) (exempt test : ℕ → Bool) (n : ℕ) (units : List Bool) → HasGoodNames rs → AreBarred rs exempt test n units → unit_at rs n < unit_count rs
+    → IsBarred rs exempt test (unit_at rs n) → AreBarred rs exempt test (n + 1) (set units (unit_at rs n) true)
+AreBarred-more rs exempt test n units good before within barred = record {
   count = length-set units (unit_at rs n) true ∙ before.count;
-  sound = λ u is. elim (marked-cases units (unit_at rs n) u is) [ inl same ↦ subst (IsLeftOut rs statuses) (sym same) left | inr there ↦ before.sound u there ];
-  own = λ i less bad. elim (cases_eq i n) [
+  sound = λ u is. elim (marked-cases units (unit_at rs n) u is) [ inl same ↦ subst (IsBarred rs exempt test) (sym same) barred | inr there ↦ before.sound u there ];
+  own = λ i less bound bad. elim (cases_eq i n) [
     | inl last ↦ last_one i last
-    | inr early ↦ marked-kept units (unit_at rs n) (unit_at rs i) inside (before.own i (omega arith) bad)
+    | inr early ↦ marked-kept units (unit_at rs n) (unit_at rs i) inside (before.own i (omega arith) bound bad)
   ];
-  needing = λ i need less needed is. elim (cases_eq i n) [
+  needing = λ i need less bound needed is. elim (cases_eq i n) [
     | inl last ↦ last_one i last
     | inr early ↦ elim (marked-cases units (unit_at rs n) (unit_needed rs need) is) [
       | inl same ↦ same_unit i (let low : unit_needed rs need ≤ unit_at rs i = needed_before rs all i need needed in let high : unit_at rs i ≤ unit_at rs n = all.order i n (omega arith) in omega arith)
-      | inr there ↦ marked-kept units (unit_at rs n) (unit_at rs i) inside (before.needing i need (omega arith) needed there)
+      | inr there ↦ marked-kept units (unit_at rs n) (unit_at rs i) inside (before.needing i need (omega arith) bound needed there)
     ]
   ];
 }
@@ -116,27 +132,33 @@ AreLeftOut-more rs statuses n units good before within left = record {
     last_one : (i : ℕ) → i ≡ n → marked (set units (unit_at rs n) true) (unit_at rs i) ≡ true
     last_one i last = same_unit i (ap (unit_at rs) last)
 
--- a request that may not be sent again
-pub left_out-own : (rs : List Record) (statuses : List ℕ) (n : ℕ) → n < length rs → may_repeat_at rs statuses n ≡ false → IsLeftOut rs statuses (unit_at rs n)
-left_out-own rs statuses n within bad = own n within bad
+-- a request that fails
+pub barred-own : (rs : List Record) (exempt test : ℕ → Bool) (n : ℕ) → n < length rs → exempt (unit_at rs n) ≡ false → test n ≡ false → IsBarred rs exempt test (unit_at rs n)
+barred-own rs exempt test n within bound bad = own n within bound bad
 
--- a request that needs something that is left out
-pub left_out-needing : (rs : List Record) (statuses : List ℕ) (n : ℕ) (units : List Bool) → AreLeftOut rs statuses n units → n < length rs
-    → list_any (λ need. marked units (unit_needed rs need)) (needs_at rs n) ≡ true → IsLeftOut rs statuses (unit_at rs n)
-left_out-needing rs statuses n units before within some =
+-- a request that needs something that is barred
+pub barred-needing : (rs : List Record) (exempt test : ℕ → Bool) (n : ℕ) (units : List Bool) → AreBarred rs exempt test n units → n < length rs → exempt (unit_at rs n) ≡ false
+    → list_any (λ need. marked units (unit_needed rs need)) (needs_at rs n) ≡ true → IsBarred rs exempt test (unit_at rs n)
+barred-needing rs exempt test n units before within bound some =
     let found = Any-from_list_any (λ need. marked units (unit_needed rs need)) (needs_at rs n) some in
-    needing n found.1 within (found.0, found.2, found.3) (before.sound (unit_needed rs found.1) found.4)
+    needing n found.1 within bound (found.0, found.2, found.3) (before.sound (unit_needed rs found.1) found.4)
 
--- all units that are left out are marked
-all_marked : (rs : List Record) (statuses : List ℕ) (units : List Bool) → AreLeftOut rs statuses (length rs) units → (u : ℕ) → IsLeftOut rs statuses u → marked units u ≡ true
-all_marked rs statuses units all u (own i within bad) = all.own i within bad
-all_marked rs statuses units all u (needing i need within inside left) = all.needing i need within inside (all_marked rs statuses units all (unit_needed rs need) left)
+-- all units that are barred are marked
+all_marked : (rs : List Record) (exempt test : ℕ → Bool) (units : List Bool) → AreBarred rs exempt test (length rs) units → (u : ℕ) → IsBarred rs exempt test u → marked units u ≡ true
+all_marked rs exempt test units all u (own i within bound bad) = all.own i within bound bad
+all_marked rs exempt test units all u (needing i need within bound inside barred) = all.needing i need within bound inside (all_marked rs exempt test units all (unit_needed rs need) barred)
 
-pub AreLeftOut-all : (rs : List Record) (statuses : List ℕ) (units : List Bool) → AreLeftOut rs statuses (length rs) units → AreMarksOf rs (IsLeftOut rs statuses) units
-AreLeftOut-all rs statuses units all = record {
+pub AreBarred-all : (rs : List Record) (exempt test : ℕ → Bool) (units : List Bool) → AreBarred rs exempt test (length rs) units → AreMarksOf rs (IsBarred rs exempt test) units
+AreBarred-all rs exempt test units all = record {
   count = all.count;
-  each = λ u within. (all.sound u, all_marked rs statuses units all u);
+  each = λ u within. (all.sound u, all_marked rs exempt test units all u);
 }
+
+-- one mark more
+pub listed_more : (n : ℕ) (mark : Bool) (test : ℕ → Bool) (marks : List Bool) → marks ≡ list_below n test → mark ≡ test n → marks ++ mark ∷ [] ≡ list_below (n + 1) test
+listed_more n mark test marks before here =
+    let next : suc n ≡ n + 1 = omega arith in
+    ap (λ ms. ms ++ mark ∷ []) before ∙ ap (λ m. list_below n test ++ m ∷ []) here ∙ ap (λ m. list_below m test) next
 
 -- ---- units that are done
 
@@ -164,7 +186,7 @@ neither false false is = (refl, refl)
 both_false : (x y : Bool) → x ≡ false → y ≡ false → (not x && not y) ≡ true
 both_false x y first second = ap (λ b. not b && not y) first ∙ ap not second
 
-not_marked : (b : Bool) → (b ≡ true → ⊥) → b ≡ false
+pub not_marked : (b : Bool) → (b ≡ true → ⊥) → b ≡ false
 not_marked true never = absurd (never refl)
 not_marked false never = refl
 

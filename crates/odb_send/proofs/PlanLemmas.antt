@@ -189,6 +189,14 @@ needed_there rs kept locations urls m good are less =
     ∙ ap (λ (ns : List (List ℕ)). filter test (names_at rs i) ++ ns) further
     ∙ sym (filter-append test (names_at rs i) (further_names (names_at rs i) (reference_at rs i)))
 
+-- what a request of the rest needs
+pub part_needs : (rs : List Record) (kept : List Bool) (locations : ℕ → Option (List ℕ)) (urls : List (Option (List ℕ))) → HasGoodNames rs → HasStayingUrls rs kept urls → HasUrls rs kept locations urls → (m : ℕ) → m < length (rest_records rs kept urls)
+    → AllZip (IsSameNeed (rest_records rs kept urls) rs (source rs kept)) (needs_at (rest_records rs kept urls) m) (filter (λ need. marked kept (unit_needed rs need)) (needs_at rs (source rs kept m)))
+part_needs rs kept locations urls good staying are m less =
+    let rest = rest_records rs kept urls in
+    subst (λ (ns : List (List ℕ)). AllZip (IsSameNeed rest rs (source rs kept)) (filter_map (need_of rest) ns) (filter (λ need. marked kept (unit_needed rs need)) (needs_at rs (source rs kept m)))) (sym (needed_there rs kept locations urls m good are less))
+    (needs_zip rs kept urls (rest_good rs kept urls good staying) (needed_names rs (source rs kept m)))
+
 -- the plan of the rest
 pub is_part : (rs : List Record) (kept : List Bool) (locations : ℕ → Option (List ℕ)) (urls : List (Option (List ℕ))) → HasGoodNames rs → HasStayingUrls rs kept urls → HasUrls rs kept locations urls → IsPartOfPlan rs kept (rest_records rs kept urls)
 is_part rs kept locations urls good staying are = record {
@@ -199,8 +207,5 @@ is_part rs kept locations urls good staying are = record {
     (λ found. let there = there_is rs kept urls found.0 found.1 in ap (is_kept rs kept) (sym found.2) ∙ (is_from rs kept urls found.0 there.0 there.1).stays),
   );
   units = same_units rs kept urls;
-  needs = λ m less.
-      let rest = rest_records rs kept urls in
-      subst (λ (ns : List (List ℕ)). AllZip (IsSameNeed rest rs (source rs kept)) (filter_map (need_of rest) ns) (filter (λ need. marked kept (unit_needed rs need)) (needs_at rs (source rs kept m)))) (sym (needed_there rs kept locations urls m good are less))
-      (needs_zip rs kept urls (rest_good rs kept urls good staying) (needed_names rs (source rs kept m)));
+  needs = part_needs rs kept locations urls good staying are;
 }

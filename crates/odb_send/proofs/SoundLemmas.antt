@@ -13,7 +13,7 @@ use Rattle.odb_doc.specs.canonical.Canonical.{canonical_value}
 use Rattle.odb_doc.specs.canonical.CanonicalLaws.{IsDocumentOf}
 use Rattle.odb_send.specs.declared.rest.Rest.{Rest}
 use Rattle.odb_reply.specs.BodyTexts.{text_at}
-use Rattle.odb_send.specs.Rests.{HasUrls, IsPlain, IsRestOf, IsUrl, is_kept, is_kept_name, kept, records_in, rest_record, select, urls}
+use Rattle.odb_send.specs.Rests.{HasUrls, IsPlain, IsUrl, is_kept, is_kept_name, kept, records_in, rest_record, select, urls}
 use Rattle.odb_send.specs.Rests.IsUrl.{same, moved}
 use Rattle.odb_send.specs.Texts.{IsTextOf}
 use Rattle.odb_send.proofs.ReadLemmas.{rest-read}
@@ -100,9 +100,9 @@ module _ (texts : AreOneReading) (rs : List Record) (rest : Rest) (locations : �
     each = λ k r is. sound-one (place (is_kept rs (kept rest)) 0 rs k) r (comes (is_kept rs (kept rest)) made 0 rs k r is);
   }
 
--- the text of the rest is a document of its requests
-pub rest-document : AreOneReading → (document : List ℕ) (d : Data) (rs : List Record) (statuses : List ℕ) (locations : ℕ → Option (List ℕ)) (rest : Rest) (text : List ℕ) → IsBatchIn document d rs → IsWellShaped d → IsRestOf rs statuses locations rest → IsTextOf document d rs rest text
+-- the text of requests of the batch is a document of them
+pub text-document : AreOneReading → (document : List ℕ) (d : Data) (rs : List Record) (locations : ℕ → Option (List ℕ)) (rest : Rest) (text : List ℕ) → IsBatchIn document d rs → IsWellShaped d → HasUrls rs (kept rest) locations (urls rest) → IsTextOf document d rs rest text
     → IsDocumentOf text (records_in rs rest)
-rest-document texts document d rs statuses locations rest text batch shaped is has =
-    let (fits, says) = canonical-sound texts (records_in rs rest) (rest-sound texts rs rest locations is.urls_are (sound-batch d rs shaped batch.is)) in
+text-document texts document d rs locations rest text batch shaped moves has =
+    let (fits, says) = canonical-sound texts (records_in rs rest) (rest-sound texts rs rest locations moves (sound-batch d rs shaped batch.is)) in
     record { value = canonical_value (records_in rs rest); reads = rest-read document d rs rest text batch has; shaped = fits; says = says }

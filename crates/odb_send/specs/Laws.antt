@@ -1,5 +1,5 @@
 -- What is true of the rest of every batch (OData JSON Format 4.01, sections 19.1 and 19.4).
-use Rattle.std.specs.Prelude.{◌≡◌, ◌↔◌, ◌⊎◌, ◌<◌, ℕ, Bool, true, List, length, Contains, slice_index}
+use Rattle.std.specs.Prelude.{◌≡◌, ◌↔◌, ◌⊎◌, ◌<◌, ◌++◌, ℕ, Bool, true, not, List, length, Contains, slice_index}
 use Rattle.std.specs.List.{AllZip, filter}
 use Rattle.odb_doc.specs.Statuses.{is_success}
 use Rattle.odb_doc.specs.batch.Records.{Record}
@@ -7,6 +7,8 @@ use Rattle.odb_check.specs.declared.need.Need.{Need}
 use Rattle.odb_check.specs.declared.need.Need.TheVariants.{One, Group}
 use Rattle.odb_check.specs.Needs.{needs_at}
 use Rattle.odb_check.specs.Units.{unit_at, unit_count}
+use Rattle.odb_reply.specs.Completed.{is_answered}
+use Rattle.odb_reply.specs.ResponseDocuments.{Entry}
 use Rattle.odb_send.specs.Repeats.{may_repeat_at}
 use Rattle.odb_send.specs.Rests.{is_kept}
 use Rattle.odb_send.specs.Units.{IsDone, IsInRest, marked, unit_needed}
@@ -41,3 +43,7 @@ pub record IsPartOfPlan (rs : List Record) (kept : List Bool) (rest : List Recor
   pub all : (i : ℕ) → i < length rs → (is_kept rs kept i ≡ true) ↔ ((m : ℕ) × (m < length rest) × (source m ≡ i))
   pub units : (m n : ℕ) → m < length rest → n < length rest → (unit_at rest m ≡ unit_at rest n) ↔ (unit_at rs (source m) ≡ unit_at rs (source n))
   pub needs : (m : ℕ) → m < length rest → AllZip (IsSameNeed rest rs source) (needs_at rest m) (filter (λ need. marked kept (unit_needed rs need)) (needs_at rs (source m)))
+
+-- the responses to a batch, with those to its rest in place of the responses to the same requests
+abbrev pub with_rest : List Entry → List Entry → List Entry
+with_rest responses others = filter (λ e. not (is_answered others e.id)) responses ++ others

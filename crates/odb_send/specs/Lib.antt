@@ -4,6 +4,7 @@ pub mod Repeats
 pub mod Units
 pub mod Locations
 pub mod Rests
+pub mod NextPart
 pub mod Faults
 pub mod Laws
 pub mod Texts

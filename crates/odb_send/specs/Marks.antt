@@ -1,5 +1,6 @@
 -- For invariants and private clauses: the marks of units while the requests are gone through.
-use Rattle.std.specs.Prelude.{◌≡◌, ◌<◌, ◌&&◌, ℕ, Bool, true, false, not, List, length, Contains, Option, None, Some, IfSome, All, IsUtf8, ◌≤◌, drop}
+use Rattle.std.specs.Prelude.{◌≡◌, ◌+◌, ◌<◌, ◌&&◌, ◌||◌, ℕ, Bool, true, false, not, List, length, Contains, Option, None, Some, IfSome, All, IsUtf8, ◌≤◌, drop}
+use Rattle.std.specs.List.{list_any}
 use Rattle.odb_doc.specs.batch.Records.{Record}
 use Rattle.odb_check.specs.declared.need.Need.{Need}
 use Rattle.odb_check.specs.Needs.{needs_at}
@@ -7,20 +8,20 @@ use Rattle.odb_check.specs.Units.{unit_at, unit_count}
 use Rattle.odb_send.specs.declared.fault.RestFault.{RestFault}
 use Rattle.odb_send.specs.declared.fault.RestFault.TheVariants as faults
 use Rattle.odb_send.specs.Faults.{LacksLocation}
-use Rattle.odb_send.specs.Repeats.{may_repeat_at}
 use Rattle.odb_reply.specs.BodyTexts.{text_at}
 use Rattle.odb_send.specs.Rests.{IsUrl, is_kept, select}
 use Rattle.odb_send.specs.Texts.{joined, text_of_request}
 use Rattle.odb_spans.specs.Spans.{bytes_of}
 use Rattle.odb_spans.specs.declared.span.Span.{Span}
-use Rattle.odb_send.specs.Units.{IsLeftOut, marked, unit_needed}
+use Rattle.odb_send.specs.NextPart.{MayGo, request_count}
+use Rattle.odb_send.specs.Units.{AreMarksOf, IsBarred, marked, unit_needed}
 
--- the marks of units that are left out, once the first n requests are known
-pub record AreLeftOut (rs : List Record) (statuses : List ℕ) (n : ℕ) (units : List Bool) : Type 0 where
+-- the marks of units that are barred, once the first n requests are known
+pub record AreBarred (rs : List Record) (exempt test : ℕ → Bool) (n : ℕ) (units : List Bool) : Type 0 where
   pub count : length units ≡ unit_count rs
-  pub sound : (u : ℕ) → marked units u ≡ true → IsLeftOut rs statuses u
-  pub own : (i : ℕ) → i < n → may_repeat_at rs statuses i ≡ false → marked units (unit_at rs i) ≡ true
-  pub needing : (i : ℕ) (need : Need) → i < n → Contains (needs_at rs i) need → marked units (unit_needed rs need) ≡ true → marked units (unit_at rs i) ≡ true
+  pub sound : (u : ℕ) → marked units u ≡ true → IsBarred rs exempt test u
+  pub own : (i : ℕ) → i < n → exempt (unit_at rs i) ≡ false → test i ≡ false → marked units (unit_at rs i) ≡ true
+  pub needing : (i : ℕ) (need : Need) → i < n → exempt (unit_at rs i) ≡ false → Contains (needs_at rs i) need → marked units (unit_needed rs need) ≡ true → marked units (unit_at rs i) ≡ true
 
 -- the marks of the first n units that are neither done nor left out
 pub record AreKept (done left : List Bool) (n : ℕ) (units : List Bool) : Type 0 where
@@ -55,3 +56,18 @@ url_in (Some url) r = url
 -- the text of the requests from a position on, with a comma first if something stands before
 unfoldable pub texts_left : List Record → List Bool → List (Option (List ℕ)) → List (Option (List ℕ)) → Bool → ℕ → List ℕ
 texts_left rs units moved bodies later i = joined later (select (is_kept rs units) (text_of_request rs units moved bodies) i (drop i rs))
+
+-- the first n units of a part, which has room for so many requests more
+pub record AreFirst (rs : List Record) (done left : List Bool) (limit n room : ℕ) (units : List Bool) : Type 0 where
+  pub marks : AreMarksOf rs (λ u. (u < n) × MayGo rs done left u) units
+  pub count : request_count rs units + room ≡ limit
+
+-- the marks of units whose requests pass a test, once the first n requests are known
+pub record AreWhole (rs : List Record) (test : ℕ → Bool) (n : ℕ) (units : List Bool) : Type 0 where
+  pub count : length units ≡ unit_count rs
+  pub passed : (u i : ℕ) → marked units u ≡ true → i < n → unit_at rs i ≡ u → test i ≡ true
+  pub failed : (u : ℕ) → u < unit_count rs → marked units u ≡ false → (i : ℕ) × (i < length rs) × (unit_at rs i ≡ u) × (test i ≡ false)
+
+-- the unit of the request at a position is not done, and it is not left or needs something that has a mark
+abbrev pub waits_at : List Record → (done left units : List Bool) → ℕ → Bool
+waits_at rs done left units i = not (marked done (unit_at rs i)) && (not (marked left (unit_at rs i)) || list_any (λ need. marked units (unit_needed rs need)) (needs_at rs i))

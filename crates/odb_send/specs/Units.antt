@@ -18,10 +18,14 @@ abbrev pub unit_needed : List Record → Need → ℕ
 unit_needed rs (One r) = unit_at rs r
 unit_needed rs (Group u) = u
 
+-- A unit is barred, unless it is exempt, if one of its requests fails a test, or needs something of a unit that is barred.
+pub data IsBarred (rs : List Record) (exempt test : ℕ → Bool) : ℕ → Type 0 where
+  own : (i : ℕ) → i < length rs → exempt (unit_at rs i) ≡ false → test i ≡ false → IsBarred rs exempt test (unit_at rs i)
+  needing : (i : ℕ) (need : Need) → i < length rs → exempt (unit_at rs i) ≡ false → Contains (needs_at rs i) need → IsBarred rs exempt test (unit_needed rs need) → IsBarred rs exempt test (unit_at rs i)
+
 -- a unit is left out if one of its requests may not be sent again, or needs something of a unit that is left out
-pub data IsLeftOut (rs : List Record) (statuses : List ℕ) : ℕ → Type 0 where
-  own : (i : ℕ) → i < length rs → may_repeat_at rs statuses i ≡ false → IsLeftOut rs statuses (unit_at rs i)
-  needing : (i : ℕ) (need : Need) → i < length rs → Contains (needs_at rs i) need → IsLeftOut rs statuses (unit_needed rs need) → IsLeftOut rs statuses (unit_at rs i)
+abbrev pub IsLeftOut : List Record → List ℕ → ℕ → Type 0
+IsLeftOut rs statuses = IsBarred rs (λ u. false) (may_repeat_at rs statuses)
 
 -- a unit is in the rest if it is neither done nor left out
 pub record IsInRest (rs : List Record) (statuses : List ℕ) (u : ℕ) : Type 0 where

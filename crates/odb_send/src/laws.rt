@@ -3,7 +3,7 @@
 //! The laws are clauses of functions that change nothing. They speak of the words that the clauses of
 //! [`crate::rest_of`], of [`crate::rest_text`] and of [`odb_reply::match_responses`] use.
 
-ghost use Rattle.std.specs.Prelude.{◌≡◌, ◌↔◌, ◌++◌, [], ℕ, List, Option, Some, codes};
+ghost use Rattle.std.specs.Prelude.{◌≡◌, ◌↔◌, ◌≤◌, ◌++◌, [], ℕ, Bool, List, Option, Some, codes, length};
 ghost use Rattle.serde_json.specs.Data.{Data};
 ghost use Rattle.serde_json.specs.Read.{read};
 ghost use Rattle.odb_check.specs.LeastNameFault.{HasGoodNames};
@@ -13,11 +13,13 @@ ghost use Rattle.odb_doc.specs.canonical.Canonical.{canonical_value};
 ghost use Rattle.odb_doc.specs.canonical.CanonicalLaws.{IsDocumentOf};
 ghost use Rattle.odb_reply.specs.Fits.{Fits, IsTableOf};
 ghost use Rattle.odb_reply.specs.ResponseDocuments.{Entry};
+ghost use Rattle.odb_sched.specs.declared.states.RequestState.{RequestState};
 ghost use Rattle.odb_send.specs.declared.rest.Rest.{Rest};
-ghost use Rattle.odb_send.specs.Laws.{HasSucceeded, IsPartOfPlan, MayBeSent};
+ghost use Rattle.odb_send.specs.Laws.{HasSucceeded, IsPartOfPlan, MayBeSent, with_rest};
+ghost use Rattle.odb_send.specs.NextPart.{HasNoLonger, HasSome, IsFresh, IsNextPart, IsPartAfter, MayGo, NeedsMet};
 ghost use Rattle.odb_send.specs.Rests.{IsRestOf, kept, records_in};
 ghost use Rattle.odb_send.specs.Texts.{IsTextOf};
-ghost use Rattle.odb_send.specs.Units.{IsDone, IsInRest, IsLeftOut};
+ghost use Rattle.odb_send.specs.Units.{AreMarksOf, IsDone, IsInRest, IsLeftOut};
 ghost use Rattle.odb_send.specs.Parts.{IsBatchIn};
 
 /// The names of a rest fit together, so that [`odb_check::check`] returns a plan of it. That plan is the plan of the
@@ -51,6 +53,16 @@ pub fn every_unit()
         → (u : ℕ) → MayBeSent batch statuses u → IsInRest batch statuses u }
 {}
 
+/// Responses that fit a batch, with responses that fit its rest in place of those to the same requests, fit the batch.
+/// So a rest can be sent, then the rest by these responses, and so on until one is empty (OData JSON Format 4.01,
+/// section 19.5).
+pub fn every_resending()
+    ensures { (batch : List Record) (responses others : List Entry) (places statuses : List ℕ)
+        (locations : ℕ → Option (List ℕ)) (rest : Rest) → HasGoodNames batch → Fits batch responses
+        → IsTableOf batch responses places statuses → IsRestOf batch statuses locations rest
+        → Fits (records_in batch rest) others → Fits batch (with_rest responses others) }
+{}
+
 /// What the text of a rest is read as, whatever numbers its bodies hold (OData JSON Format 4.01, section 19.1).
 ///
 /// What `serde_json` reads from the text, also with a newline at its end, is the canonical value of the requests of
@@ -68,6 +80,47 @@ pub fn every_text()
         (locations : ℕ → Option (List ℕ)) (rest : Rest) (text : List ℕ)
         → IsBatchIn document d batch → IsWellShaped d → IsRestOf batch statuses locations rest
         → IsTextOf document d batch rest text → IsDocumentOf text (records_in batch rest) }
+{
+    odb_names::laws::one_reading();
+}
+
+/// What holds of every part of a batch on its way (OData JSON Format 4.01, sections 19.1 and 19.4), by what has become of its
+/// requests.
+///
+/// Which requests are in a part is determined. None of them has started, and what they need is in the part or has
+/// succeeded. They are no more than the limit; there are some if a unit may go, unless a unit has more requests than the
+/// limit. The check accepts a part, as it does a rest: its names fit together, its plan is that of the batch over its
+/// requests, and its text is a document of them. The rest of a batch is the part of all that is in it.
+pub fn every_part()
+    ensures one { (batch : List Record) (states : List RequestState) (limit : ℕ)
+        (locations : ℕ → Option (List ℕ)) (part other : Rest) → IsPartAfter batch states limit locations part
+        → IsPartAfter batch states limit locations other → kept part ≡ kept other }
+    ensures fresh { (batch : List Record) (states : List RequestState) (limit : ℕ)
+        (locations : ℕ → Option (List ℕ)) (part : Rest) → IsPartAfter batch states limit locations part
+        → IsFresh batch states (kept part) }
+    ensures needs { (batch : List Record) (states : List RequestState) (limit : ℕ)
+        (locations : ℕ → Option (List ℕ)) (part : Rest) → HasGoodNames batch
+        → IsPartAfter batch states limit locations part → NeedsMet batch states (kept part) }
+    ensures limit { (batch : List Record) (states : List RequestState) (limit : ℕ)
+        (locations : ℕ → Option (List ℕ)) (part : Rest) → IsPartAfter batch states limit locations part
+        → length (records_in batch part) ≤ limit }
+    ensures some { (batch : List Record) (done left : List Bool) (limit : ℕ) (part : List Bool)
+        → IsNextPart batch done left limit part → HasNoLonger batch limit
+        → (u : ℕ) → MayGo batch done left u → HasSome batch part }
+    ensures accepted { (batch : List Record) (states : List RequestState) (limit : ℕ)
+        (locations : ℕ → Option (List ℕ)) (part : Rest) → HasGoodNames batch
+        → IsPartAfter batch states limit locations part → HasGoodNames (records_in batch part) }
+    ensures plan { (batch : List Record) (states : List RequestState) (limit : ℕ)
+        (locations : ℕ → Option (List ℕ)) (part : Rest) → HasGoodNames batch
+        → IsPartAfter batch states limit locations part
+        → IsPartOfPlan batch (kept part) (records_in batch part) }
+    ensures document { (document : List ℕ) (d : Data) (batch : List Record) (states : List RequestState)
+        (limit : ℕ) (locations : ℕ → Option (List ℕ)) (part : Rest) (text : List ℕ)
+        → IsBatchIn document d batch → IsWellShaped d → IsPartAfter batch states limit locations part
+        → IsTextOf document d batch part text → IsDocumentOf text (records_in batch part) }
+    ensures rest { (batch : List Record) (statuses : List ℕ) (done rest : List Bool) → HasGoodNames batch
+        → AreMarksOf batch (IsDone batch statuses) done → AreMarksOf batch (IsInRest batch statuses) rest
+        → IsNextPart batch done rest (length batch) rest }
 {
     odb_names::laws::one_reading();
 }

@@ -6,6 +6,7 @@ ghost use Rattle.odb_reply.specs.Fits.{places};
 ghost use Rattle.odb_reply.specs.ResponseDocuments.{responses_in};
 ghost use Rattle.serde_json.specs.View.{view, members_view};
 ghost use Rattle.odb_check.specs.Plans.{plan_records};
+ghost use Rattle.odb_doc.specs.Headers.{headers_in};
 ghost use Rattle.odb_send.specs.Locations as locations;
 
 use odb_check::Plan;
@@ -13,6 +14,7 @@ use odb_doc::array_at;
 use odb_reply::Table;
 use serde_json::{Map, Value};
 use std::alloc::{AllocError, Global};
+use std::collections::BTreeMap;
 
 /// Returns whether the name of a header is `location`, in any case of its letters.
 fn is_location(name: &str) -> bool
@@ -42,6 +44,18 @@ fn location_of(response: &Value) -> Option<&str>
     location_among(headers)?.as_str()
 }
 
+/// Returns the Location among the headers of an outcome, if there is one.
+pub fn location_in(headers: &BTreeMap<String, String>) -> Option<&str>
+    ensures { option_map (λ text. text.now) result ≡ locations.location_in (headers_in headers.now) }
+{
+    for (name, value) in headers.iter() {
+        if is_location(name.as_str()) {
+            return Some(value.as_str());
+        }
+    }
+    None
+}
+
 /// Returns the elements of `responses`, none if there is no such array.
 fn elements_of(responses: &Value) -> &[Value]
     ensures { map view result.now ≡ responses_in (view responses.now) }
@@ -53,7 +67,7 @@ fn elements_of(responses: &Value) -> &[Value]
 }
 
 /// Returns the Location in the response at a place, if there is one.
-fn location_in(elements: &[Value], place: usize) -> Option<&str>
+fn location_at(elements: &[Value], place: usize) -> Option<&str>
     ensures { option_map (λ text. text.now) result
         ≡ option_and_then locations.location_of (slice_get (map view elements.now) place) }
 {
@@ -77,7 +91,7 @@ pub(crate) fn locations_of<'a>(
     let elements = elements_of(responses);
     let mut found = Vec::with_capacity(alloc, plan.len() as usize)?;
     for i in 0..plan.len() {
-        found.push(location_in(elements, table.place(i)))?;
+        found.push(location_at(elements, table.place(i)))?;
     }
     Ok(found)
 }

@@ -43,7 +43,7 @@ impl Rest {
 }
 
 /// Returns the URL that each request gets in the rest, or the first F90.
-fn urls_of(
+pub(crate) fn urls_of(
     alloc: Global,
     plan: &Plan<'_>,
     kept: &[bool],

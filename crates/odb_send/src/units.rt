@@ -27,7 +27,7 @@ pub(crate) fn is_marked(plan: &Plan<'_>, units: &[bool], need: Need) -> bool
 }
 
 /// Returns whether a request needs something of a unit that has a mark.
-fn needs_marked(plan: &Plan<'_>, units: &[bool], i: u32) -> bool
+pub(crate) fn needs_marked(plan: &Plan<'_>, units: &[bool], i: u32) -> bool
     requires request { i < length (plan_records plan.now) }
     requires count { length units.now ≡ all.unit_count (plan_records plan.now) }
     ensures { result ≡ list_any (λ need. marked units.now (unit_needed (plan_records plan.now) need))

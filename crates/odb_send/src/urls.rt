@@ -1,9 +1,10 @@
 //! The URLs of requests whose URL refers to a request that is not in the rest.
 
-ghost use Rattle.std.specs.Prelude.{◌≡◌, ◌<◌, ◌↔◌, ℕ, length, IsTrue, IfOk, IfErr, MatchOption, option_map, string_bytes};
+ghost use Rattle.std.specs.Prelude.{◌≡◌, ◌<◌, ◌↔◌, ℕ, length, Err, IsTrue, IfOk, IfErr, MatchOption, None, option_map, string_bytes};
 ghost use Rattle.odb_reply.specs.BodyTexts.{text_at};
 ghost use Rattle.odb_send.specs.Locations.{texts_of};
 ghost use Rattle.odb_send.specs.Marks.{IsLacking};
+ghost use Rattle.odb_send.specs.declared.fault.RestFault.TheVariants as faults;
 ghost use Rattle.odb_check.specs.Plans.{plan_records};
 ghost use Rattle.odb_check.specs.Units as all;
 ghost use Rattle.odb_send.specs.Rests as rests;
@@ -62,7 +63,8 @@ fn left_position(plan: &Plan<'_>, kept: &[bool], i: u32) -> Option<u32>
     }
 }
 
-/// Returns the URL that request `i` gets in the rest, `None` if its URL stays, or F90 if no Location makes one.
+/// Returns the URL that request `i` gets in the rest, `None` if its URL stays, or F90 if no Location makes one: if
+/// none is recorded, whatever memory there is.
 pub(crate) fn url_of(
     alloc: Global,
     plan: &Plan<'_>,
@@ -77,6 +79,8 @@ pub(crate) fn url_of(
         (text_at (texts_of locations.now)) i (option_map string_bytes url)) }
     ensures lacks { IfErr result (IsLacking (plan_records plan.now) kept.now
         (text_at (texts_of locations.now)) i) }
+    ensures missing { (p : ℕ) → rests.Leaves (plan_records plan.now) kept.now i p
+        → text_at (texts_of locations.now) p ≡ None → result ≡ Err (faults.NoLocation i) }
 {
     let Some(p) = left_position(plan, kept, i) else {
         return Ok(None);

@@ -1,20 +1,20 @@
--- The document with `null` in the place of an element is read with null there, and the other elements as they were.
+-- The document with a literal in the place of an element is read with its value there, and the other elements as they were.
 use Rattle.std.proofs.Common.{◌≡◌, ◌∙◌, ℕ, ◌≤◌, List, [], ◌++◌, Option, Some, None, option_map, refl, sym, ap, ap₂, subst, arith, append-nil}
 use Rattle.std.specs.Prelude.{IsUtf8, set}
 use Rattle.json.specs.Token.{Token}
 use Rattle.json.specs.Json as json
 use Rattle.json.specs.Find as tree
 use Rattle.json.specs.Tree.{depth, items_tokens, json_tokens, members_tokens}
-use Rattle.serde_json.specs.Data.{Data, array, null, no_members, object}
+use Rattle.serde_json.specs.Data.{Data, array, no_members, object}
 use Rattle.serde_json.specs.Find.{get_member}
 use Rattle.serde_json.specs.Read.{max_depth, of_items, of_json, of_members}
 use Rattle.odb_doc.specs.Members.{elements_at, list_of}
 use Rattle.odb_spans.specs.Parts.{HoldsInArray, IsMemberOf, LiesAt, LiesInMemberSome, append_items, append_members}
-use Rattle.odb_spans.specs.Positions.{IsPlaceOfElement}
-use Rattle.odb_spans.specs.Spans.{without}
+use Rattle.odb_spans.specs.Positions.{HoldsWith, IsPlaceOfElement}
+use Rattle.odb_spans.specs.Spans.{replaced}
 use Rattle.odb_spans.specs.declared.span.Span.{Span}
 use Rattle.odb_spans.proofs.DataLemmas.{MapsTo, maps-to}
-use Rattle.odb_spans.proofs.FillLemmas.{Around, BeginsWell, ItemsChanged, ReadsMembers, alone, begins-well-items, in-array, in-object, in_array, in_object, is-utf8, items-changed, items-shallow, last-listed, last-member, members-changed, members-shallow, null-tree, read-last}
+use Rattle.odb_spans.proofs.FillLemmas.{Around, BeginsWell, ItemsChanged, Literal, ReadsMembers, alone, begins-well-items, in-array, in-object, in_array, in_object, is-utf8, items-changed, items-shallow, last-listed, last-member, literal-tree, members-changed, members-shallow, null_literal, read-last, true_literal}
 use Rattle.odb_spans.proofs.LookupLemmas.{IsReadAs}
 use Rattle.odb_spans.proofs.ReadLemmas.{IsTreeOf, read-tokens}
 
@@ -56,13 +56,6 @@ module _ (text : List ℕ) (d : Data) (at : ℕ) (span : Span) (name : List ℕ)
   next : BeginsWell after
   next = begins-well-items m.holds.holds.later (members_tokens m.later ++ [])
 
-  shallow : depth (filled json.null) ≤ max_depth
-  shallow =
-      let here : depth json.null ≤ depth element = omega arith in
-      let one : depth (elements json.null) ≤ depth (elements element) = omega (arith, items-shallow m.holds.holds.earlier json.null element m.holds.holds.later here) in
-      let whole : depth (filled element) ≤ max_depth = subst (λ j. depth j ≤ max_depth) in-document top.shallow in
-      omega (arith, whole, members-shallow m.earlier m.key (elements json.null) (elements element) m.later one)
-
   document-read : MapsTo object (of_members (members element) no_members) d
   document-read = maps-to object (of_members (members element) no_members) d (sym (ap of_json in-document) ∙ top.reads)
 
@@ -78,32 +71,43 @@ module _ (text : List ℕ) (d : Data) (at : ℕ) (span : Span) (name : List ℕ)
   elements-read : MapsTo array (of_items (items_with element)) array-read.value
   elements-read = maps-to array (of_items (items_with element)) array-read.value array-read.read
 
-  null-elements : ItemsChanged m.holds.holds.earlier json.null m.holds.holds.later elements-read.value null
-  null-elements = items-changed m.holds.holds.earlier element json.null m.holds.holds.later elements-read.value null refl elements-read.some
-
-  null-array : of_json (elements json.null) ≡ Some (array null-elements.all)
-  null-array = ap (option_map array) null-elements.reads
-
-  null-members : ReadsMembers (members json.null) no_members
-  null-members = members-changed m.earlier m.key (elements element) (elements json.null) m.later no_members no_members document-read.value (array null-elements.all) null-array document-read.some
-
   elements-before : elements_at name d ≡ list_of elements-read.value
   elements-before =
       ap (elements_at name) document-read.is
       ∙ last-listed name (elements element) (members element) document-read.value elements-read.value (last-elements element) document-read.some (array-read.read ∙ ap Some elements-read.is)
 
-  elements-after : elements_at name (object null-members.0) ≡ list_of null-elements.all
-  elements-after = last-listed name (elements json.null) (members json.null) null-members.0 null-elements.all (last-elements json.null) null-members.1 null-array
+  module _ (literal : Literal) where
+    shallow : depth (filled literal.tree) ≤ max_depth
+    shallow =
+        let here : depth literal.tree ≤ depth element = omega (arith, literal.flat) in
+        let one : depth (elements literal.tree) ≤ depth (elements element) = omega (arith, items-shallow m.holds.holds.earlier literal.tree element m.holds.holds.later here) in
+        let whole : depth (filled element) ≤ max_depth = subst (λ j. depth j ≤ max_depth) in-document top.shallow in
+        omega (arith, whole, members-shallow m.earlier m.key (elements literal.tree) (elements element) m.later one)
+
+    elements-with : ItemsChanged m.holds.holds.earlier literal.tree m.holds.holds.later elements-read.value literal.value
+    elements-with = items-changed m.holds.holds.earlier element literal.tree m.holds.holds.later elements-read.value literal.value literal.read elements-read.some
+
+    array-with : of_json (elements literal.tree) ≡ Some (array elements-with.all)
+    array-with = ap (option_map array) elements-with.reads
+
+    members-with : ReadsMembers (members literal.tree) no_members
+    members-with = members-changed m.earlier m.key (elements element) (elements literal.tree) m.later no_members no_members document-read.value (array elements-with.all) array-with document-read.some
+
+    elements-after : elements_at name (object members-with.0) ≡ list_of elements-with.all
+    elements-after = last-listed name (elements literal.tree) (members literal.tree) members-with.0 elements-with.all (last-elements literal.tree) members-with.1 array-with
+
+    holds : HoldsWith literal.word literal.value text d name at span
+    holds = record {
+      changed = object members-with.0;
+      reads = (
+        is-utf8 text d span element after part next utf8 literal,
+        read-tokens (replaced text span literal.word) (filled literal.tree) (literal-tree text d span element after part next utf8 (λ i. filled i) around top in-document literal) shallow ∙ ap (option_map object) members-with.1,
+      );
+      elements = elements-after ∙ elements-with.list ∙ sym (ap₂ (λ l n. set l n literal.value) elements-before (sym m.holds.holds.count));
+    }
 
   is-place : IsPlaceOfElement text d name at span
-  is-place = record {
-    changed = object null-members.0;
-    reads = (
-      is-utf8 text d span element after part next utf8,
-      read-tokens (without text span) (filled json.null) (null-tree text d span element after part next utf8 (λ i. filled i) around top in-document) shallow ∙ ap (option_map object) null-members.1,
-    );
-    elements = elements-after ∙ null-elements.list ∙ sym (ap₂ (λ l n. set l n null) elements-before (sym m.holds.holds.count));
-  }
+  is-place = record { with_null = holds null_literal; with_true = holds true_literal }
 
 -- the span is where the element lies
 pub is-element-place : (text : List ℕ) (d : Data) (at : ℕ) (span : Span) (name : List ℕ) (found : Option Span) (top : IsTreeOf text d) → IsUtf8 text → found ≡ Some span → LiesInMemberSome text found name at top.tree → IsPlaceOfElement text d name at span

@@ -1,11 +1,12 @@
--- A document with `null` in the place of a value: its tokens, and what is read of it.
+-- A document with a literal in the place of a value: its tokens, and what is read of it.
 use Rattle.std.proofs.Common.{◌≡◌, ◌∙◌, ℕ, suc, ◌≤◌, ◌<◌, List, [], ◌∷◌, ◌++◌, true, false, cond, length, take, drop, get_or, Option, Some, None, option_map, option_and_then, unwrap_or, codes, bytes_eq, refl, sym, ap, ap₂, subst, arith, append_assoc, append-nil}
 use Rattle.std.specs.Prelude.{IsUtf8, set}
 use Rattle.std.proofs.lemmas.List.{append_cancel_right, take-append-drop}
 use Rattle.std.proofs.lemmas.Str.{IsUtf8-append, IsUtf8-drop, IsUtf8-from_ascii, IsUtf8-take}
 use Rattle.std.proofs.lemmas.Str.Ascii.{IsAscii-cons, IsAscii-nil}
 use Rattle.std.specs.Str.{IsAscii}
-use Rattle.json.specs.Token.{Token, begin_object, end_object, begin_array, end_array, key, null}
+use Rattle.json.specs.Token.{Token, begin_object, end_object, begin_array, end_array, key, boolean, null}
+use Rattle.json.specs.Word.{ends_word}
 use Rattle.json.specs.Align.{is_blank, is_good}
 use Rattle.json.specs.Lex.{Lexeme, token, class, between, lex, Place, fresh, after_value, begins_colon, may_begin, if_allowed, place_token, punctuate, tokens}
 use Rattle.json.specs.Json as json
@@ -13,16 +14,17 @@ use Rattle.json.specs.Find.{later_or}
 use Rattle.json.specs.Find as tree
 use Rattle.json.specs.Tree.{json_tokens, items_tokens, members_tokens, depth, items_depth, members_depth}
 use Rattle.serde_json.specs.Data.{Data, array, Items, item, Members, no_members, put}
+use Rattle.serde_json.specs.Data as values
 use Rattle.serde_json.specs.Find.{get_member, as_array}
 use Rattle.serde_json.specs.Read.{of_json, of_items, of_members}
 use Rattle.odb_doc.specs.Members.{list_of}
-use Rattle.odb_spans.specs.Spans.{without}
+use Rattle.odb_spans.specs.Spans.{replaced}
 use Rattle.odb_spans.specs.Walks.{lexemes_from}
 use Rattle.odb_spans.specs.Parts.{LiesAt, append_items, append_members, count_items}
 use Rattle.odb_spans.specs.declared.span.Span.{Span}
 use Rattle.odb_spans.proofs.BracketLemmas.{Begins, begins}
 use Rattle.odb_spans.proofs.DataLemmas.{item-read}
-use Rattle.odb_spans.proofs.FrontLemmas.{SamePlace, SplitsAt, all_good, ends-after, good-json, good-rest, lex-front, lex-null, same-place, splits-at}
+use Rattle.odb_spans.proofs.FrontLemmas.{SamePlace, SplitsAt, all_good, ends-after, good-json, good-rest, lex-front, lex-null, lex-true, same-place, splits-at}
 use Rattle.odb_spans.proofs.LookupLemmas.{Corresponds, IsReadAs, get-read}
 use Rattle.odb_spans.proofs.PartLemmas.{BeginsWithToken, begins-with-token, not-past, value-within}
 use Rattle.odb_spans.proofs.PlaceLemmas.{at-token}
@@ -92,12 +94,42 @@ module _ (earlier later : json.Items) where
 pub alone : Around (λ i. i) []
 alone = record { before = []; spells = λ i. sym (append-nil (json_tokens i)) }
 
--- ---- the text with null in the place of a value
+-- ---- a literal
 
-null-at : (p : Place) (ls : List Lexeme) → may_begin p ≡ true → punctuate p (token null ∷ ls) ≡ null ∷ punctuate after_value ls
+-- its text, its token, and what is read of it
+pub record Literal : Type 0 where
+  pub word : List ℕ
+  pub mark : Token
+  pub tree : json.Json
+  pub value : Data
+  pub ascii : IsAscii word
+  pub lexed : (ys : List ℕ) → ends_word ys ≡ true → lex between (word ++ ys) ≡ token mark ∷ lex between ys
+  pub placed : (p : Place) (ls : List Lexeme) → may_begin p ≡ true → punctuate p (token mark ∷ ls) ≡ mark ∷ punctuate after_value ls
+  pub spelled : json_tokens tree ≡ mark ∷ []
+  pub flat : depth tree ≡ 0
+  pub read : of_json tree ≡ Some value
+
+pub null-ascii : IsAscii (codes "null")
+null-ascii = IsAscii-cons 110 (117 ∷ 108 ∷ 108 ∷ []) (omega arith) (IsAscii-cons 117 (108 ∷ 108 ∷ []) (omega arith) (IsAscii-cons 108 (108 ∷ []) (omega arith) (IsAscii-cons 108 [] (omega arith) IsAscii-nil)))
+
+pub true-ascii : IsAscii (codes "true")
+true-ascii = IsAscii-cons 116 (114 ∷ 117 ∷ 101 ∷ []) (omega arith) (IsAscii-cons 114 (117 ∷ 101 ∷ []) (omega arith) (IsAscii-cons 117 (101 ∷ []) (omega arith) (IsAscii-cons 101 [] (omega arith) IsAscii-nil)))
+
+pub null-at : (p : Place) (ls : List Lexeme) → may_begin p ≡ true → punctuate p (token null ∷ ls) ≡ null ∷ punctuate after_value ls
 null-at p ls begin = at-token p null ls ∙ ap (λ b. if_allowed b null (λ next. punctuate next ls) after_value) begin
 
-module _ (text : List ℕ) (span : Span) (j : json.Json) (t : Token) (ts before : List Token) (lies : LiesAt text span j (t ∷ ts)) (follows : is_good t ≡ true)
+pub true-at : (p : Place) (ls : List Lexeme) → may_begin p ≡ true → punctuate p (token (boolean true) ∷ ls) ≡ boolean true ∷ punctuate after_value ls
+true-at p ls begin = at-token p (boolean true) ls ∙ ap (λ b. if_allowed b (boolean true) (λ next. punctuate next ls) after_value) begin
+
+abbrev pub null_literal : Literal
+null_literal = record { word = codes "null"; mark = null; tree = json.null; value = values.null; ascii = null-ascii; lexed = lex-null; placed = null-at; spelled = refl; flat = refl; read = refl }
+
+abbrev pub true_literal : Literal
+true_literal = record { word = codes "true"; mark = boolean true; tree = json.boolean true; value = values.boolean true; ascii = true-ascii; lexed = lex-true; placed = true-at; spelled = refl; flat = refl; read = refl }
+
+-- ---- the text with a literal in the place of a value
+
+module _ (literal : Literal) (text : List ℕ) (span : Span) (j : json.Json) (t : Token) (ts before : List Token) (lies : LiesAt text span j (t ∷ ts)) (follows : is_good t ≡ true)
     (spelled : tokens text ≡ before ++ (json_tokens j ++ (t ∷ ts))) (good : all_good (before ++ (json_tokens j ++ (t ∷ ts))) ≡ true) where
   abbrev front : List Lexeme
   front = lex between (take span.start text)
@@ -120,13 +152,13 @@ module _ (text : List ℕ) (span : Span) (j : json.Json) (t : Token) (ts before 
   whole : punctuate fresh (front ++ here) ≡ before ++ (json_tokens j ++ (t ∷ ts))
   whole = sym (ap (punctuate fresh) (ap (lex between) (sym (take-append-drop span.start text)) ∙ lex-front between (take span.start text) (drop span.start text) lies.clear)) ∙ spelled
 
-  changed : lex between (without text span) ≡ front ++ (token null ∷ rest)
+  changed : lex between (replaced text span literal.word) ≡ front ++ (token literal.mark ∷ rest)
   changed =
-      lex-front between (take span.start text) (codes "null" ++ drop span.end text) lies.clear
-      ∙ ap (λ l. front ++ l) (lex-null (drop span.end text) (ends-after (drop span.end text) t ts follows (sym lies.ended.follow)))
+      lex-front between (take span.start text) (literal.word ++ drop span.end text) lies.clear
+      ∙ ap (λ l. front ++ l) (literal.lexed (drop span.end text) (ends-after (drop span.end text) t ts follows (sym lies.ended.follow)))
 
-  cut : SplitsAt fresh front here (token null ∷ rest)
-  cut = splits-at fresh front here (token null ∷ rest) (ap begins_colon first.lexed) refl (ap all_good whole ∙ good)
+  cut : SplitsAt fresh front here (token literal.mark ∷ rest)
+  cut = splits-at fresh front here (token literal.mark ∷ rest) (ap begins_colon first.lexed) refl (ap all_good whole ∙ good)
 
   fine : all_good (punctuate cut.place here) ≡ true
   fine = good-rest cut.passed (punctuate cut.place here) (sym (ap all_good cut.one) ∙ ap all_good whole ∙ good)
@@ -142,8 +174,8 @@ module _ (text : List ℕ) (span : Span) (j : json.Json) (t : Token) (ts before 
   passed : cut.passed ≡ before
   passed = append_cancel_right cut.passed before (json_tokens j ++ (t ∷ ts)) (ap (λ l. cut.passed ++ l) (sym shared) ∙ sym cut.one ∙ whole)
 
-  null-tokens : tokens (without text span) ≡ before ++ (null ∷ (t ∷ ts))
-  null-tokens = ap (punctuate fresh) changed ∙ cut.two ∙ ap₂ (λ l m. l ++ m) passed (null-at cut.place rest same.begins ∙ ap (λ l. null ∷ l) (sym lies.ended.follow))
+  literal-tokens : tokens (replaced text span literal.word) ≡ before ++ (literal.mark ∷ (t ∷ ts))
+  literal-tokens = ap (punctuate fresh) changed ∙ cut.two ∙ ap₂ (λ l m. l ++ m) passed (literal.placed cut.place rest same.begins ∙ ap (λ l. literal.mark ∷ l) (sym lies.ended.follow))
 
 -- ---- the last member of a name
 
@@ -226,7 +258,7 @@ pub items-shallow : (earlier : json.Items) (i j : json.Json) (later : json.Items
 items-shallow json.no_items i j later le = omega (arith, le)
 items-shallow (json.item x earlier) i j later le = let more = items-shallow earlier i j later le in omega (arith, more)
 
--- ---- null in the place of a value of the document
+-- ---- a literal in the place of a value of the document
 
 -- there is a next token, and it is good
 pub record BeginsWell (ts : List Token) : Type 0 where
@@ -245,9 +277,6 @@ begins-well-items (json.item j js) ts =
     let b = begins-with-token j in
     record { first = b.first; rest = b.others ++ (items_tokens js ++ ts); is = append_assoc (json_tokens j) (items_tokens js) ts ∙ ap (λ l. l ++ (items_tokens js ++ ts)) b.is; good = b.good }
 
-null-ascii : IsAscii (codes "null")
-null-ascii = IsAscii-cons 110 (117 ∷ 108 ∷ 108 ∷ []) (omega arith) (IsAscii-cons 117 (108 ∷ 108 ∷ []) (omega arith) (IsAscii-cons 108 (108 ∷ []) (omega arith) (IsAscii-cons 108 [] (omega arith) IsAscii-nil)))
-
 module _ (text : List ℕ) (d : Data) (span : Span) (value : json.Json) (after : List Token) (part : LiesAt text span value after) (next : BeginsWell after) (utf8 : IsUtf8 text) where
   pub begins-solid : is_blank (class (get_or text span.start 0)) ≡ false
   begins-solid = part.has.solid (value-within text span.start value after part.has)
@@ -255,18 +284,19 @@ module _ (text : List ℕ) (d : Data) (span : Span) (value : json.Json) (after :
   pub ends-within : span.end < length text
   ends-within = not-past text span.end after_value next.first next.rest next.good (sym part.ended.follow ∙ next.is)
 
-  pub is-utf8 : IsUtf8 (without text span)
-  is-utf8 =
+  pub is-utf8 : (literal : Literal) → IsUtf8 (replaced text span literal.word)
+  is-utf8 literal =
       IsUtf8-append _ _ (IsUtf8-take text span.start utf8 part.has.boundary)
-      (IsUtf8-append (codes "null") _ (IsUtf8-from_ascii (codes "null") null-ascii) (IsUtf8-drop text span.end utf8 part.ended.boundary))
+      (IsUtf8-append literal.word _ (IsUtf8-from_ascii literal.word literal.ascii) (IsUtf8-drop text span.end utf8 part.ended.boundary))
 
   module _ (filled : json.Json → json.Json) (around : Around filled after) (top : IsTreeOf text d) (in_document : top.tree ≡ filled value) where
-    pub null-tree : tokens (without text span) ≡ json_tokens (filled json.null)
-    null-tree =
+    pub literal-tree : (literal : Literal) → tokens (replaced text span literal.word) ≡ json_tokens (filled literal.tree)
+    literal-tree literal =
         let whole = around.before ++ (json_tokens value ++ after) in
         let all : all_good (json_tokens (filled value)) ≡ true = ap all_good (sym (append-nil (json_tokens (filled value)))) ∙ good-json (filled value) [] refl in
         let read : tokens text ≡ whole = top.spelled ∙ append-nil (json_tokens top.tree) ∙ ap json_tokens in_document ∙ around.spells value in
-        null-tokens text span value next.first next.rest around.before (subst (LiesAt text span value) next.is part) next.good (read ∙ ap (λ l. around.before ++ (json_tokens value ++ l)) next.is)
+        literal-tokens literal text span value next.first next.rest around.before (subst (LiesAt text span value) next.is part) next.good (read ∙ ap (λ l. around.before ++ (json_tokens value ++ l)) next.is)
         (sym (ap (λ l. all_good (around.before ++ (json_tokens value ++ l))) next.is) ∙ sym (ap all_good (around.spells value)) ∙ all)
-        ∙ ap (λ l. around.before ++ (null ∷ l)) (sym next.is)
-        ∙ sym (around.spells json.null)
+        ∙ ap (λ l. around.before ++ (literal.mark ∷ l)) (sym next.is)
+        ∙ ap (λ l. around.before ++ (l ++ after)) (sym literal.spelled)
+        ∙ sym (around.spells literal.tree)

@@ -109,7 +109,7 @@ unfolding lex mode_past
 lex-front m [] ys e = ap (λ k. lex k ys) e
 lex-front m (x ∷ xs) ys e = byte-front m (class x) x xs ys e (λ k. lex-front k xs ys)
 
--- ---- null before what ends a word
+-- ---- a literal before what ends a word
 
 word-end : (q b o s : Bool) (y : ℕ) (ys : List ℕ) (k : Mode → List Lexeme) → (q ≡ true → (o || s) ≡ false) → (b ≡ true → (o || s) ≡ false) → (o || s) ≡ true
     → lex_byte in_word (cond q quote (cond b backslash (cond o operator (cond s space other)))) y ys k ≡ lex_byte between (cond q quote (cond b backslash (cond o operator (cond s space other)))) y ys k
@@ -128,9 +128,17 @@ null-word : word (codes "null") ≡ null
 unfolding word
 null-word = refl
 
+true-word : word (codes "true") ≡ boolean true
+unfolding word
+true-word = refl
+
 pub lex-null : (ys : List ℕ) → ends_word ys ≡ true → lex between (codes "null" ++ ys) ≡ token null ∷ lex between ys
 unfolding lex
 lex-null ys ended = ap₂ (λ w ls. token w ∷ ls) (word-before ys ended (codes "null") ∙ null-word) (word-over ys ended)
+
+pub lex-true : (ys : List ℕ) → ends_word ys ≡ true → lex between (codes "true" ++ ys) ≡ token (boolean true) ∷ lex between ys
+unfolding lex
+lex-true ys ended = ap₂ (λ w ls. token w ∷ ls) (word-before ys ended (codes "true") ∙ true-word) (word-over ys ended)
 
 -- ---- what comes after a value ends a word
 

@@ -17,7 +17,7 @@ use Rattle.odb_spans.specs.Spans.{EachSpan, IsPlaceOfBody, bodies_of, without}
 use Rattle.odb_spans.specs.Parts.{HaveBodiesIn, IsMemberOf, IsSomeMemberOf, LieInArray, LiesAt, LiesInArray, append_items, append_members, count_items}
 use Rattle.odb_spans.specs.declared.span.Span.{Span}
 use Rattle.odb_spans.proofs.DataLemmas.{MapsTo, maps-to}
-use Rattle.odb_spans.proofs.FillLemmas.{Around, BeginsWell, ItemsChanged, ReadsMembers, alone, begins-solid, begins-well-members, ends-within, in-array, in-object, in_array, in_object, is-utf8, item-within, items-changed, items-shallow, last-listed, last-member, members-changed, members-shallow, null-tree, read-last}
+use Rattle.odb_spans.proofs.FillLemmas.{Around, BeginsWell, ItemsChanged, ReadsMembers, alone, begins-solid, begins-well-members, ends-within, in-array, in-object, in_array, in_object, is-utf8, item-within, items-changed, items-shallow, last-listed, last-member, literal-tree, members-changed, members-shallow, null_literal, read-last}
 use Rattle.odb_spans.proofs.EndLemmas.{ends-solid, solid-byte}
 use Rattle.odb_spans.proofs.LookupLemmas.{IsReadAs}
 use Rattle.odb_spans.proofs.MemberLemmas.{each-map}
@@ -141,7 +141,7 @@ module _ (text : List ℕ) (d : Data) (at : ℕ) (span : Span) (R : json.Json �
   pub is-place : IsPlaceOfBody text d at span
   is-place = record {
     changed = object null-members.0;
-    reads = (is-utf8 text d span body after part next utf8, read-tokens (without text span) (filled json.null) (null-tree text d span body after part next utf8 (λ i. filled i) around top in-document) shallow ∙ ap (option_map object) null-members.1);
+    reads = (is-utf8 text d span body after part next utf8 null_literal, read-tokens (without text span) (filled json.null) (literal-tree text d span body after part next utf8 (λ i. filled i) around top in-document null_literal) shallow ∙ ap (option_map object) null-members.1);
     bodies = bodies-after ∙ null-bodies ∙ sym (ap₂ (λ l n. set l n None) bodies-before (sym lies.holds.count));
     first = solid-byte (get_or text span.start 0) (begins-solid text d span body after part next utf8);
     last = ends-solid text span.start span.end (begins-solid text d span body after part next utf8) part.extent part.some (ends-within text d span body after part next utf8);

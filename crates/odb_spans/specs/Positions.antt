@@ -2,12 +2,12 @@
 use Rattle.std.specs.Prelude.{◌≡◌, ◌≤◌, ◌<◌, ◌+◌, ◌-◌, ◌==◌, ◌||◌, ℕ, Bool, true, false, cond, List, length, take, get_or, set, slice_get, Option, Some, None, nat_lt, nat_le, count_by, codes}
 use Rattle.std.specs.List.{after_last}
 use Rattle.json.specs.Word.{is_space}
-use Rattle.serde_json.specs.Data.{Data, null, array, item, no_items}
+use Rattle.serde_json.specs.Data.{Data, null, boolean, array, item, no_items}
 use Rattle.odb_doc.specs.Documents.{IsJson}
 use Rattle.odb_doc.specs.Members.{elements_at}
 use Rattle.odb_doc.specs.declared.fault.Place.{Place}
 use Rattle.odb_doc.specs.declared.fault.Place.TheVariants.{Batch, Request, Outcomes, Outcome, Responses, Response, Events, Event}
-use Rattle.odb_spans.specs.Spans.{bytes_of, without}
+use Rattle.odb_spans.specs.Spans.{bytes_of, replaced}
 use Rattle.odb_spans.specs.declared.position.Position.{Position}
 use Rattle.odb_spans.specs.declared.span.Span.{Span}
 
@@ -36,11 +36,16 @@ pub record IsTextAt (document : List ℕ) (span : Span) (d : Data) : Type 0 wher
 abbrev pub BeginsAt : List ℕ → ℕ → Data → Type 0
 BeginsAt document offset d = (end : ℕ) × IsTextAt document (record { start = offset; end = end }) d
 
--- The element at this position of the array at the member of this name lies at the span: with `null` in its place the array holds null there, and its other elements as they were.
-pub record IsPlaceOfElement (document : List ℕ) (d : Data) (name : List ℕ) (at : ℕ) (span : Span) : Type 0 where
+-- with this text in the place of the span, the array at the member of this name holds this value at this position, and its other elements as they were
+pub record HoldsWith (text : List ℕ) (value : Data) (document : List ℕ) (d : Data) (name : List ℕ) (at : ℕ) (span : Span) : Type 0 where
   pub changed : Data
-  pub reads : IsJson (without document span) changed
-  pub elements : elements_at name changed ≡ set (elements_at name d) at null
+  pub reads : IsJson (replaced document span text) changed
+  pub elements : elements_at name changed ≡ set (elements_at name d) at value
+
+-- The element at this position of the array at the member of this name lies at the span: with `null` in its place the array holds null there, and with `true` it holds true. An element that is null differs from true.
+pub record IsPlaceOfElement (document : List ℕ) (d : Data) (name : List ℕ) (at : ℕ) (span : Span) : Type 0 where
+  pub with_null : HoldsWith (codes "null") null document d name at span
+  pub with_true : HoldsWith (codes "true") (boolean true) document d name at span
 
 -- the element, if any, lies at a span that begins at the offset; else the whole value begins there
 abbrev pub ElementBeginsAt : List ℕ → ℕ → List ℕ → ℕ → Data → Option Data → Type 0

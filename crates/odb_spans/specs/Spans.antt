@@ -33,9 +33,13 @@ HasBodyAt document request (Some span) = (body : Data) × (body_of request ≡ S
 abbrev pub bodies_of : Data → List (Option Data)
 bodies_of d = map body_of (elements d)
 
+-- the document with this text in the place of the span
+abbrev pub replaced : List ℕ → Span → List ℕ → List ℕ
+replaced document span text = take span.start document ++ (text ++ drop span.end document)
+
 -- the document with `null` in the place of the span
 abbrev pub without : List ℕ → Span → List ℕ
-without document span = take span.start document ++ (codes "null" ++ drop span.end document)
+without document span = replaced document span (codes "null")
 
 -- The span is where the body of the request at this position lies: without it, that request has no body, and the others have theirs. It begins and ends with no blank (RFC 8259, section 2).
 pub record IsPlaceOfBody (document : List ℕ) (d : Data) (at : ℕ) (span : Span) : Type 0 where

@@ -1,13 +1,19 @@
 -- The results as JSON are values that are written without loss: each number has 64 bits, and they nest at most 4 deep.
-use Rattle.std.proofs.Common.{◌≤◌, ◌<◌, ◌+◌, ◌^◌, ℕ, zero, suc, Bool, true, false, cond, List, [], ◌∷◌, ◌++◌, option_map, refl, arith, length, codes}
+use Rattle.std.proofs.Common.{◌≡◌, ◌≤◌, ◌<◌, ◌+◌, ◌-◌, ◌^◌, ℕ, zero, suc, Bool, true, false, cond, List, [], ◌∷◌, ◌++◌, Option, None, Some, IfSome, get_or, map, option_map, slice_get, refl, arith, length, codes}
 use Rattle.std.specs.Prelude.{◌==◌, slice_index}
 use Rattle.std.proofs.lemmas.Bool.{or_from, or_parts}
 use Rattle.serde_json.specs.Data.{Data, unsigned, number, string, array, object, Items, Members, put, no_members}
 use Rattle.serde_json.specs.View.{items_of}
 use Rattle.serde_json.specs.Written.{has_float, items_have_float}
 use Rattle.odb_doc.specs.Refusals.{Printed}
-use Rattle.odb_doc.specs.batch.Records.{Record}
-use Rattle.odb_doc.proofs.SafeLemmas.{IsSafe, AreSafe, AreItemsSafe, safe-put, safe-string, safe-none, safe-with_some, safe-group}
+use Rattle.std.specs.List.{AllZip}
+use Rattle.odb_names.specs.Methods.{http_name}
+use Rattle.odb_doc.specs.Headers.{Header, IsInOrder}
+use Rattle.odb_doc.specs.batch.Records.{IsBatchOf, ReadsAs, Record}
+use Rattle.odb_doc.specs.batch.Shapes.{elements}
+use Rattle.odb_doc.specs.batch.UrlRests.{url_rest}
+use Rattle.odb_doc.specs.canonical.Canonical.{header_members}
+use Rattle.odb_doc.proofs.SafeLemmas.{IsSafe, AreSafe, AreItemsSafe, safe-headers, safe-put, safe-string, safe-none, safe-with_some, safe-group}
 use Rattle.odb_check.specs.declared.need.Need.{Need}
 use Rattle.odb_check.specs.declared.need.Need.TheVariants.{One, Group}
 use Rattle.odb_check.specs.Firsts.{list_below}
@@ -15,8 +21,10 @@ use Rattle.odb_check.specs.Levels.{greatest_of, greatest_below, unit_level, leve
 use Rattle.odb_check.specs.Needs.{needs_at}
 use Rattle.odb_check.specs.Positions.{group_at}
 use Rattle.odb_check.specs.Units.{unit_at}
+use Rattle.odb_spans.specs.declared.span.Span.{Span}
+use Rattle.odb_text.specs.FullPlans.{full_plan_value, full_planned, full_request, full_some, span_value}
 use Rattle.odb_text.specs.Lines.{id_text, place_text}
-use Rattle.odb_text.specs.Results.{counts_value, fault_value, match_value, matched, need_values, plan_value, planned}
+use Rattle.odb_text.specs.Results.{counts_value, fault_value, faults_value, listed_fault, match_value, matched, need_values, plan_value, planned}
 
 -- ---- levels are low
 
@@ -115,3 +123,69 @@ safe-matched batch statuses small i = safe-object 0 _ (
 
 pub safe-match : (batch : List Record) (statuses : List ℕ) → ((i : ℕ) → slice_index statuses i < 2 ^ 64) → IsSafe 3 (match_value batch statuses)
 safe-match batch statuses small = safe-only 2 (codes "responses") _ (safe-array 1 _ (safe-below 1 (length batch) (matched batch statuses) (safe-matched batch statuses small)))
+
+safe-listed : (refusal : Printed) → IsSafe 1 (listed_fault refusal)
+unfolding listed_fault
+safe-listed refusal = safe-object 0 _ (
+    safe-put 0 (codes "code") (string refusal.code) _ (safe-string 0 refusal.code) (
+    safe-put 0 (codes "name") (string refusal.name) _ (safe-string 0 refusal.name) (
+    safe-put 0 (codes "place") (string (place_text refusal.place)) no_members (safe-string 0 (place_text refusal.place)) (safe-none 0))))
+
+safe-all : (refusals : List Printed) → AreItemsSafe 1 (items_of (map listed_fault refusals))
+safe-all [] = record { held = tt; whole = refl; shallow = omega arith }
+safe-all (refusal ∷ refusals) =
+    let one = safe-listed refusal in
+    let rest = safe-all refusals in
+    record { held = (one.held, rest.held); whole = or_from (has_float (listed_fault refusal)) _ one.whole rest.whole; shallow = omega (arith, one.shallow, rest.shallow) }
+
+pub safe-faults : (refusals : List Printed) → IsSafe 3 (faults_value refusals)
+safe-faults refusals = safe-only 2 (codes "faults") _ (safe-array 1 _ (safe-all refusals))
+
+-- ---- a full plan
+
+-- the numbers of a span have 64 bits
+abbrev pub IsFew : Span → Type 0
+IsFew span = (span.start < 2 ^ 64) × (span.end < 2 ^ 64)
+
+safe-span : (body : Option Span) → IfSome body IsFew → IfSome (option_map span_value body) (IsSafe 1)
+safe-span None few = tt
+safe-span (Some span) few =
+    let length : span.end - span.start < 2 ^ 64 = omega (arith, few.1) in
+    safe-object 0 _ (
+    safe-put 0 (codes "length") (number (unsigned (span.end - span.start))) _ (safe-number 0 (span.end - span.start) length) (
+    safe-put 0 (codes "offset") (number (unsigned span.start)) no_members (safe-number 0 span.start few.0) (safe-none 0)))
+
+safe-header : (headers : List Header) → IsInOrder headers → IsSafe 1 (object (header_members headers))
+safe-header [] ordered = safe-object 0 no_members (safe-none 0)
+safe-header (header ∷ headers) ordered = safe-headers 1 (header ∷ headers) (omega arith) ordered
+
+safe-full : (batch : List Record) (i : ℕ) (body : Option Span) (found : Option Record) → length batch < 2 ^ 64 → IfSome body IsFew → IfSome found (λ r. IsInOrder r.headers) → IsSafe 2 (full_some batch i body found)
+safe-full batch i body None small few ordered = safe-object 1 no_members (safe-none 1)
+safe-full batch i body (Some r) small few ordered =
+    let low : level_at batch i < 2 ^ 64 = omega (arith, levels-low batch (length batch) i, small) in
+    safe-object 1 _ (
+    safe-with_some 1 (codes "body") (option_map span_value body) _ (safe-span body few) (
+    safe-with_some 1 (codes "group") (option_map string r.group) _ (safe-group 1 r.group) (
+    safe-put 1 (codes "headers") (object (header_members r.headers)) _ (safe-header r.headers ordered) (
+    safe-put 1 (codes "id") (string r.id) _ (safe-string 1 r.id) (
+    safe-put 1 (codes "level") (number (unsigned (level_at batch i))) _ (safe-number 1 (level_at batch i) low) (
+    safe-put 1 (codes "method") (string (http_name r.method)) _ (safe-string 1 (http_name r.method)) (
+    safe-put 1 (codes "needs") (array (items_of (need_values batch (needs_at batch i)))) _ (safe-array 0 _ (safe-needs batch (needs_at batch i))) (
+    safe-with_some 1 (codes "reference") (option_map string r.reference) _ (safe-group 1 r.reference) (
+    safe-put 1 (codes "rest") (string (url_rest r)) _ (safe-string 1 (url_rest r)) (
+    safe-put 1 (codes "url") (string r.url) no_members (safe-string 1 r.url) (safe-none 1)))))))))))
+
+-- the headers of each request are in the order of their names
+in-order : (ds : List Data) (rs : List Record) (i : ℕ) → AllZip ReadsAs ds rs → IfSome (slice_get rs i) (λ r. IsInOrder r.headers)
+in-order [] [] i says = tt
+in-order [] (r ∷ rs) i says = absurd says
+in-order (d ∷ ds) [] i says = absurd says
+in-order (d ∷ ds) (r ∷ rs) zero says = says.0.headers.ordered
+in-order (d ∷ ds) (r ∷ rs) (suc i) says = in-order ds rs i says.1
+
+safe-requests : (value : Data) (batch : List Record) (bodies : List (Option Span)) → IsBatchOf value batch → length batch < 2 ^ 64 → ((i : ℕ) → IfSome (get_or bodies i None) IsFew) → (i : ℕ) → IsSafe 2 (full_planned batch bodies i)
+unfolding full_planned
+safe-requests value batch bodies is small few i = safe-full batch i (get_or bodies i None) (slice_get batch i) small (few i) (in-order (elements value) batch i is)
+
+pub safe-full_plan : (value : Data) (batch : List Record) (bodies : List (Option Span)) → IsBatchOf value batch → length batch < 2 ^ 64 → ((i : ℕ) → IfSome (get_or bodies i None) IsFew) → IsSafe 4 (full_plan_value batch bodies)
+safe-full_plan value batch bodies is small few = safe-only 3 (codes "requests") _ (safe-array 2 _ (safe-below 2 (length batch) (full_planned batch bodies) (safe-requests value batch bodies is small few)))

@@ -2,7 +2,7 @@
 //!
 //! The laws are clauses of functions that change nothing. They speak of the words that the calls of this crate cite.
 
-ghost use Rattle.std.specs.Prelude.{◌≡◌, ◌<◌, ◌^◌, ◌++◌, ◌∷◌, [], ℕ, Contains, List, Some, length, map, slice_get, slice_index};
+ghost use Rattle.std.specs.Prelude.{◌≡◌, ◌<◌, ◌^◌, ◌++◌, ◌∷◌, [], ℕ, Contains, IfSome, List, None, Option, Some, get_or, length, map, slice_get, slice_index};
 ghost use Rattle.serde_json.specs.Read.{read};
 ghost use Rattle.odb_doc.specs.Refusals.{Printed};
 ghost use Rattle.serde_json.specs.Data.{Data};
@@ -23,20 +23,29 @@ ghost use Rattle.odb_text.specs.Rows.{row_at};
 ghost use Rattle.odb_text.specs.Labels.{IsOneString, quoted};
 ghost use Rattle.odb_text.specs.Traces.{step_line, trace_text, undo_line};
 ghost use Rattle.odb_text.specs.SamePlans.{IsSamePlan};
-ghost use Rattle.odb_text.specs.Results.{counts_value, fault_value, json_line, match_value, plan_value};
+ghost use Rattle.odb_spans.specs.declared.span.Span.{Span};
+ghost use Rattle.odb_text.specs.FullPlans.{full_plan_value};
+ghost use Rattle.odb_text.specs.Results.{counts_value, fault_value, faults_value, json_line, match_value, plan_value};
 
 /// A result or a fault as JSON is one line that is read as the value it shows: an object with the members that
 /// docs/schemas/ lists.
 ///
 /// `serde_json` reads the line, with its newline, as just this value. So does [`odb_doc::parse`], unless the line is
-/// longer than a document may be (F01). The numbers of a batch that was read are far below 2^64.
+/// longer than a document may be (F01). The numbers of a batch that was read are far below 2^64. A fault with its
+/// position is no such line: its members are not in byte order.
 pub fn every_result()
     ensures fault { (refusal : Printed)
         → read (json_line (fault_value refusal)) ≡ Some (fault_value refusal) }
+    ensures faults { (refusals : List Printed)
+        → read (json_line (faults_value refusals)) ≡ Some (faults_value refusals) }
     ensures counts { (requests groups : ℕ) → requests < 2 ^ 64 → groups < 2 ^ 64
         → read (json_line (counts_value requests groups)) ≡ Some (counts_value requests groups) }
     ensures plan { (batch : List Record) → length batch < 2 ^ 64
         → read (json_line (plan_value batch)) ≡ Some (plan_value batch) }
+    ensures full { (value : Data) (batch : List Record) (bodies : List (Option Span))
+        → IsBatchOf value batch → length batch < 2 ^ 64
+        → ((i : ℕ) → IfSome (get_or bodies i None) (λ span. (span.start < 2 ^ 64) × (span.end < 2 ^ 64)))
+        → read (json_line (full_plan_value batch bodies)) ≡ Some (full_plan_value batch bodies) }
     ensures statuses { (batch : List Record) (statuses : List ℕ)
         → ((i : ℕ) → slice_index statuses i < 2 ^ 64)
         → read (json_line (match_value batch statuses)) ≡ Some (match_value batch statuses) }

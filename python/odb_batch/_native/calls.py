@@ -13,9 +13,10 @@ _MODES: tuple[str, ...] = get_args(Mode)
 MAX_WIDTH = 10_000
 #: How much longer than its documents a text is thought to be; a longer one takes a second call.
 MORE = 256
-# How short a request may be in a document, and how many a batch may have.
+#: How many requests a batch may have.
+MAX_REQUESTS = 10_000
+# How short a request may be in a document.
 _SHORTEST = 32
-_MAX_REQUESTS = 10_000
 
 
 def option_number(values: tuple[str, ...], name: str, value: str) -> int:
@@ -54,17 +55,6 @@ def read_text(name: str, *documents: bytes, options: tuple[Any, ...] = (), more:
     raise status_error(name, status)
 
 
-def resolve(base: bytes, roots: bytes, url: bytes, sent: bytes, location: bytes) -> Optional[str]:
-    """Returns the URL to which a request is sent; None if it leads out of the roots, or has a control character."""
-    documents = (base, roots, url, sent, location)
-    status, text = library.call("odb_resolve", documents, (0,), sum(map(len, documents)) + MORE)
-    if status == library.DONE:
-        return text.decode()
-    if status in (library.UNREADABLE, library.OUTSIDE):
-        return None
-    raise status_error("odb_resolve", status)
-
-
 def read_fault(line: bytes, *documents: bytes) -> Fault:
     """Returns the fault of a line ``fault CODE NAME PLACE``, in one of the documents: the batch, and maybe a second."""
     _, code, name, place = line.decode().rstrip("\n").split(" ", 3)
@@ -76,7 +66,7 @@ def read_fault(line: bytes, *documents: bytes) -> Fault:
 
 def likely_count(batch: bytes) -> int:
     """Returns a guess of how many requests a batch has, or faults if each has one; more take a second call."""
-    return min(len(batch) // _SHORTEST + 1, _MAX_REQUESTS)
+    return min(len(batch) // _SHORTEST + 1, MAX_REQUESTS)
 
 
 def read_faults(batch: bytes) -> tuple[Fault, ...]:

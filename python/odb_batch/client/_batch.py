@@ -4,14 +4,14 @@ import types
 from functools import cached_property
 from typing import Any, Awaitable, Callable, Coroutine, Generator, Iterator, Mapping, Optional, TypeVar, Union, get_args
 
-from .._native.calls import Mode
+from .._native.calls import MAX_REQUESTS, Mode
 from ..commands import plan, rest
 from ..documents.encoding import Document, body_json, document_bytes
 from ..documents.requests import Request, requests
 from ..errors.faults import Fault
 from ..http.messages import Answer
 from ._builder import Builder, Reference
-from ._parts import MAX_REQUESTS, Parts
+from ._parts import Parts
 from ._rest import rest_document
 from ._results import UNSURE, Outcome, RequestFailed, Result, seconds_of
 from ._transports import Posted, read_response
@@ -144,7 +144,7 @@ class Results(Mapping[str, Result]):
         self._found = {request_id: _result(found[request_id], answer) for request_id, answer in answers.items()}
 
     def __getitem__(self, request: Union[Reference, str]) -> Result:
-        return self._found[self._batch._name(request)]
+        return self._found[request if isinstance(request, str) else self._batch._name(request)]
 
     def __iter__(self) -> Iterator[str]:
         return iter(self._found)
@@ -258,7 +258,8 @@ class BatchFailed(Exception):
 
 def _result(request: Request, answer: Union[Answer, Result]) -> Result:
     operation = f"{request.method} {request.url.partition('?')[0]}"
-    return Result(request.id, answer.status, dict(answer.headers), body_json(answer.body), operation)
+    body = answer.body if isinstance(answer.body, bytes) else body_json(answer.body)
+    return Result(request.id, answer.status, dict(answer.headers), body, operation)
 
 
 @types.coroutine

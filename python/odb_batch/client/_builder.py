@@ -201,7 +201,7 @@ class Builder:
     def _needs(self, after: After, url: str, given: Mapping[str, str]) -> tuple[str, ...]:
         """The names that a request depends on: those that it lists, what it refers to, and the groups of these."""
         listed = [after] if isinstance(after, (Reference, Group, str)) else after
-        names = [*map(self._name, listed), *filter(self._names.__contains__, _referred(url, given))]
+        names = [*map(self._name, listed), *filter(self._names.__contains__, _find_references(url, given))]
         own = None if self._group is None else self._group.id
         groups = (self._names.get(name) for name in names)
         return tuple(dict.fromkeys([*names, *(group for group in groups if group is not None and group != own)]))
@@ -251,7 +251,7 @@ def _refuse(constant: str) -> None:
     raise ValueError(constant)
 
 
-def _referred(url: str, given: Mapping[str, str]) -> Iterator[str]:
+def _find_references(url: str, given: Mapping[str, str]) -> Iterator[str]:
     """What follows a $ at the beginning of a URL and of conditions."""
     for value in (unquote(url.replace("?", "/").replace("#", "/").partition("/")[0]), *map(given.get, CONDITIONS)):
         if value is not None and value.startswith("$"):

@@ -3,9 +3,8 @@
 import asyncio
 import time
 
-from .._native.calls import Mode
+from .._native.calls import MAX_REQUESTS, Mode
 from ._batch import Batch, Results, as_coroutine, run_at_once
-from ._parts import MAX_REQUESTS
 from ._retry import Sender, Sending
 
 

@@ -6,7 +6,7 @@ from dataclasses import dataclass, field, replace
 from typing import Iterable, Mapping, Optional
 from urllib.parse import unquote
 
-from .._native.calls import MAX_WIDTH, Mode, policy_numbers
+from .._native.calls import MAX_REQUESTS, MAX_WIDTH, Mode, policy_numbers
 from ..commands import PlannedRequest, check, match, plan
 from ..documents.encoding import json_bytes
 from ..documents.requests import Request, requests
@@ -18,12 +18,9 @@ from ..http.bodies import to_json
 from ..http.messages import BROKEN, LOG, TIMED_OUT, Answer, Answered, Refusal
 from ._transports import is_timeout, to_answer
 
-# How many requests a batch may have.
-MAX_REQUESTS = 10_000
-
 
 @dataclass
-class Unit:
+class PlannedUnit:
     """An atomicity group of a batch, or a request without one.
 
     Attributes:
@@ -37,13 +34,13 @@ class Unit:
     needs: set[int] = field(default_factory=set)
 
 
-def units_of(plan: Iterable[PlannedRequest]) -> list[Unit]:
+def units_of(plan: Iterable[PlannedRequest]) -> list[PlannedUnit]:
     """Returns the units of a plan; each depends on earlier ones alone."""
-    units: list[Unit] = []
+    units: list[PlannedUnit] = []
     number_of: dict[str, int] = {}
     for planned in plan:
         if planned.group is None or not units or units[-1].group != planned.group:
-            units.append(Unit(planned.group))
+            units.append(PlannedUnit(planned.group))
         unit, number = units[-1], len(units) - 1
         unit.ids.append(planned.id)
         number_of[planned.group or planned.id] = number_of[planned.id] = number
@@ -74,10 +71,11 @@ class Parts:
         if isinstance(limit, bool) or not isinstance(limit, int) or not 1 <= limit <= MAX_REQUESTS:
             raise ValueError(f"limit must be a whole number from 1 to {MAX_REQUESTS}, not {limit!r}")
         policy_numbers(mode, MAX_WIDTH)
-        given, self._plan = requests(document), plan(document)
+        given, planned = requests(document), plan(document)
         self.document, self._limit, self._mode = document, limit, mode
         self._requests = {request.id: request for request in given}
-        self._units = units_of(self._plan)
+        self._needs = {entry.id: entry.needs for entry in planned}
+        self._units = units_of(planned)
         for unit in self._units:
             if len(unit.ids) > limit:
                 raise ValueError(f"the group {unit.group} has {len(unit.ids)} requests, and a batch may have {limit}")
@@ -91,9 +89,12 @@ class Parts:
         # The part that is out, and the numbers of its units.
         self._part = b""
         self._out: list[int] = []
-        # Then it is sent as it is. A condition may refer to what is not answered yet, so that its request is not sent.
-        conditions = (request.headers.get(name, "") for request in given for name in CONDITIONS)
-        self._is_one_part = len(given) <= limit and not any(value.startswith("$") for value in conditions)
+        # The requests with a condition that refers to another one, which may not be answered yet: then they are not sent.
+        self._conditional = {
+            request.id for request in given if any(request.headers.get(name, "").startswith("$") for name in CONDITIONS)
+        }
+        # Then it is sent as it is.
+        self._is_one_part = len(given) <= limit and not self._conditional
 
     def next(self) -> Optional[bytes]:
         """Returns the next part; None if nothing more is to be sent."""
@@ -114,7 +115,7 @@ class Parts:
                 except Refusal as refusal:
                     if elements:
                         break  # what comes before it is sent first
-                    self._settle(self._at, dict.fromkeys(unit.ids, refusal.answer))
+                    self._settle([self._at], dict.fromkeys(unit.ids, refusal.answer))
                     names.clear()
                 else:
                     self._out.append(self._at)
@@ -123,21 +124,22 @@ class Parts:
         self._part = batch_json(elements)
         return self._part if elements else None
 
-    def _elements(self, unit: Unit, names: set[str]) -> list[bytes]:
+    def _elements(self, unit: PlannedUnit, names: set[str]) -> list[bytes]:
         """The texts of the requests of a unit; adds its names to those of the part. Dependencies on other parts, which
         have succeeded, are left out, and references to them replaced. Raises Refusal if one stands for nothing."""
         names.update(unit.ids, () if unit.group is None else (unit.group,))
         found = []
         for request_id in unit.ids:
-            given, headers = self._requests[request_id], self._resolver.headers(request_id, names)
-            request = replace(given, url=self._url(given, names), headers=headers)
-            found.append(request_json(request, [name for name in self._plan.request(request_id).needs if name in names]))
+            request = self._requests[request_id]
+            if request_id in self._conditional:
+                request = replace(request, headers=self._resolver.headers(request_id, names))
+            if request.reference is not None and request.reference not in names:
+                request = replace(request, url=self._url(request))
+            found.append(request_json(request, [name for name in self._needs[request_id] if name in names]))
         return found
 
-    def _url(self, given: Request, names: set[str]) -> str:
-        """The URL of a request in a part, without a reference to another part."""
-        if given.reference is None or given.reference in names:
-            return given.url
+    def _url(self, given: Request) -> str:
+        """The URL of a request that refers to another part, without that reference."""
         try:
             url = self._resolver.url(given.id)
         except Refusal as refusal:
@@ -164,9 +166,8 @@ class Parts:
             found = read_answers(text)
         except ValueError as error:
             self.fail(error)
-            return
-        for number in self._out:
-            self._settle(number, found)
+        else:
+            self._settle(self._out, found)
 
     def fail(self, error: Exception) -> None:
         """Takes the exception by which the part that is out was not answered."""
@@ -177,23 +178,24 @@ class Parts:
 
     def _end(self, answer: Answer) -> None:
         """Gives each request of the part that is out the same answer. Nothing more is sent."""
-        for number in self._out:
-            self._settle(number, dict.fromkeys(self._units[number].ids, answer))
+        self._settle(self._out, {request_id: answer for number in self._out for request_id in self._units[number].ids})
         self._is_stopped = True
 
-    def _settle(self, number: int, answers: Mapping[str, Answer]) -> None:
-        """Notes what the requests of a unit were answered; one without an answer was skipped."""
-        unit = self._units[number]
-        for request_id in unit.ids:
-            answer = self.answers[request_id] = answers.get(request_id, SKIPPED)
-            if not answer.is_success:
-                self._sound.discard(number)
-            elif request_id in self._resolver.referred:
-                self._resolver.record(request_id, answer)
-        if self._mode == "stop" and self._is_error(unit):
-            self._is_stopped = True
+    def _settle(self, numbers: Iterable[int], answers: Mapping[str, Answer]) -> None:
+        """Notes what the requests of units were answered; one without an answer was skipped."""
+        successful = {request_id for request_id, answer in answers.items() if answer.is_success}
+        for number in numbers:
+            unit = self._units[number]
+            for request_id in unit.ids:
+                answer = self.answers[request_id] = answers.get(request_id, SKIPPED)
+                if request_id not in successful:
+                    self._sound.discard(number)
+                elif request_id in self._resolver.referred:
+                    self._resolver.record(request_id, answer)
+            if self._mode == "stop" and self._is_error(unit):
+                self._is_stopped = True
 
-    def _is_error(self, unit: Unit) -> bool:
+    def _is_error(self, unit: PlannedUnit) -> bool:
         """Whether a request of a unit has ended with a status from 400 to 599. A 424 may also be that of one that was
         skipped or undone, since what it needs has failed, or its group by a status that is no error, as 304."""
         statuses = {self.answers[request_id].status for request_id in unit.ids}

@@ -34,15 +34,15 @@ def rest_document(batch: bytes, responses: bytes) -> bytes:
     except Fault as fault:
         if fault.code != "F90":
             raise
-        raise ValueError(_unplaced(requests(batch)[int(fault.place.rpartition("/")[2])], recorded)) from None
+        raise ValueError(_describe_missing(requests(batch)[int(fault.place.rpartition("/")[2])], recorded)) from None
     planned = commands.plan(document)
     names = {entry.id for entry in planned}
     return batch_json(
-        request_json(_tagged(request, names, recorded), entry.needs) for request, entry in zip(requests(document), planned)
+        request_json(_resolve_tags(request, names, recorded), entry.needs) for request, entry in zip(requests(document), planned)
     )
 
 
-def _unplaced(request: Request, recorded: _Recorded) -> str:
+def _describe_missing(request: Request, recorded: _Recorded) -> str:
     """Why the URL of a request of the rest cannot be replaced."""
     place = recorded[str(request.reference)].get("location")
     if place is None:
@@ -50,7 +50,7 @@ def _unplaced(request: Request, recorded: _Recorded) -> str:
     return f"{request.id} refers to {request.reference}, whose Location cannot be used: {place}{request.rest}"
 
 
-def _tagged(request: Request, names: Collection[str], recorded: _Recorded) -> Request:
+def _resolve_tags(request: Request, names: Collection[str], recorded: _Recorded) -> Request:
     """A request of the rest without references to ETags of what is not in it."""
     headers = dict(request.headers)
     for name in CONDITIONS:

@@ -2,7 +2,7 @@
 
 from typing import Optional
 
-from ._alone import asked, together, with_twin
+from ._alone import make_asked, together, with_twin
 from ._promises import Case
 from ._rows import ROWS_BY_NAME
 from ._stage import Shown, Stage
@@ -27,7 +27,7 @@ def in_group(stage: Stage) -> None:
 
 def read_alike(stage: Stage) -> None:
     """Reads of one entity, side by side and one after another, each beside the same read alone."""
-    first = asked(stage.entities, ROWS_BY_NAME["get"], "r0")
+    first = make_asked(stage.entities, ROWS_BY_NAME["get"], "r0")
     for k in range(4):
         needs = {"dependsOn": ["r0"]} if k > 1 else {}
         own = first._replace(step=first.step._replace(request={**first.step.request, "id": f"r{k}", **needs}))
@@ -88,7 +88,3 @@ CASES = (
     Case("again-delete", "order", "a delete of what is deleted", delete_twice, kind="missing"),
     Case("again-change", "order", "a change, another one, and the first once more", change_twice, needs=["patch"]),
 )
-
-
-def again() -> list[Case]:
-    return list(CASES)

@@ -6,6 +6,7 @@ from ._entities import Entities, Entity
 from ._failure_kinds import ask_alone
 from ._promises import Case
 from ._rows import BODIES, MINIMAL, ROWS, ROWS_BY_NAME, TARGETS, Row
+from ._service import is_success
 from ._stage import Stage, Step
 from ._twin import Parts, Taking, Twin, etag_of, parts_alone
 
@@ -18,7 +19,7 @@ class Asked(NamedTuple):
     mark: Any
 
 
-def asked(entities: Entities, row: Row, request_id: str, **where: Any) -> Asked:
+def make_asked(entities: Entities, row: Row, request_id: str, **where: Any) -> Asked:
     """Makes what a request of a row needs."""
     entity, mark = TARGETS[row.target](entities), entities.new_mark()
     url = entities.set if row.method == "post" and row.target != "no set" else entity.url
@@ -48,14 +49,14 @@ def with_twin(entities: Entities, own: Asked, first: Asked, second: Asked) -> St
 
     before = parts(first)
     twin = Twin(own.entity, [own.mark], is_read, lambda: (before, parts(second)))
-    return own.step._replace(fails=not 200 <= before["the status"] <= 299, twin=twin)
+    return own.step._replace(fails=not is_success(before["the status"]), twin=twin)
 
 
 def add_twin(stage: Stage, row: Row, name: str, may_fail: bool = False, **where: Any) -> None:
     """Adds a request that is also sent alone. What fails alone is a member of no group, unless it may fail."""
-    own = asked(stage.entities, row, name, **where)
+    own = make_asked(stage.entities, row, name, **where)
     # reads leave their entity as it is, so that they may share it
-    first, second = (own if row.method == "get" else asked(stage.entities, row, name) for _ in range(2))
+    first, second = (own if row.method == "get" else make_asked(stage.entities, row, name) for _ in range(2))
     step = with_twin(stage.entities, own, first, second)
     if may_fail or not (step.fails and step.group):
         stage.steps.append(step)

@@ -3,22 +3,17 @@
 import fnmatch
 from typing import Sequence
 
-from ._again import again
+from . import _again, _conditions, _headers, _identifiers, _members, _references
 from ._alone import alone
-from ._conditions import conditions
 from ._failures import failing_beside, failing_groups, failing_long_groups, one_failure
-from ._flows import FLOWS, longest
-from ._headers import headers
-from ._identifiers import names
-from ._members import members
+from ._flows import FLOWS, longest_batches
 from ._promises import Case
-from ._references import references
 from ._stops import stops
 from ._values import values
 from ._waits import waits
 
-# How many requests the longest batch may have, and how many it has if nobody says.
-MAX_REQUESTS, REQUESTS = 10_000, 100
+# How many requests the longest batch has if nobody says.
+REQUESTS = 100
 
 
 def all_cases(requests: int) -> list[Case]:
@@ -27,18 +22,18 @@ def all_cases(requests: int) -> list[Case]:
         *FLOWS,
         *alone(),
         *values(),
-        *headers(),
-        *members(),
+        *_headers.CASES,
+        *_members.CASES,
         *waits(),
-        *again(),
-        *names(),
-        *references(),
-        *conditions(),
+        *_again.CASES,
+        *_identifiers.CASES,
+        *_references.CASES,
+        *_conditions.CASES,
         *one_failure("missing"),
         *failing_groups(),
         *failing_beside(),
         *stops(),
-        *longest(requests),
+        *longest_batches(requests),
         *failing_long_groups(requests),
     ]
 

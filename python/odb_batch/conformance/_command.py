@@ -1,18 +1,21 @@
 """Judges whether a service keeps what OData promises of batches in JSON. See docs/conformance.md."""
 
 import argparse
+import contextlib
 import re
 import sys
-from typing import Any, Sequence
+from typing import Any, Sequence, cast
 
+from .._native.calls import MAX_REQUESTS
+from ..arguments import require, seconds, whole_number
 from . import _report
-from ._cases import MAX_REQUESTS, REQUESTS, cases_like
+from ._cases import REQUESTS, cases_like
 from ._entities import Entities
 from ._exact_json import value_of
 from ._interruption import Interrupted, Interruption
 from ._promises import Case
 from ._runner import Runner
-from ._service import MAX_SECONDS, NO_ROOT, SECONDS, Service, Unusable, is_root
+from ._service import MAX_SECONDS, ROOT, SECONDS, Service, Unusable, is_root
 
 PROGRAM = "python3 -m odb_batch conformance"
 BODY_HELP = "a body that creates an entity; the key is added. One with a property of each type judges more"
@@ -22,46 +25,33 @@ BROKEN, UNUSABLE = 1, 3
 
 def url_of(text: str) -> str:
     """The root URL of a service."""
-    if not is_root(text):
-        raise argparse.ArgumentTypeError(NO_ROOT.format(text))
+    require(is_root(text), text, ROOT)
     return text
 
 
 def body_of(text: str) -> dict[str, Any]:
     """The body of an entity."""
-    try:
+    value = None
+    with contextlib.suppress(ValueError, RecursionError):
         value = value_of(text)
-    except (ValueError, RecursionError):
-        value = None
-    if not isinstance(value, dict):
-        raise argparse.ArgumentTypeError(f"{text!r} is not an object of JSON")
-    return value
+    require(isinstance(value, dict), text, "an object of JSON")
+    return cast(dict[str, Any], value)
 
 
 def header_of(text: str) -> list[str]:
     """The name and the value of a header."""
     name, colon, value = text.partition(":")
-    if not colon or not re.fullmatch(r"[\w!#$%&'*+.^`|~-]+", name, re.ASCII) or not value.isprintable():
-        raise argparse.ArgumentTypeError(f"{text!r} is not a header, such as Authorization: Bearer 123")
+    is_header = colon and re.fullmatch(r"[\w!#$%&'*+.^`|~-]+", name, re.ASCII) and value.isprintable()
+    require(is_header, text, "a header, such as Authorization: Bearer 123")
     return [name, value.strip()]
 
 
-def seconds_of(text: str) -> float:
-    if not re.fullmatch(r"[0-9]{1,4}(\.[0-9]+)?", text) or not 0 < float(text) <= MAX_SECONDS:
-        raise argparse.ArgumentTypeError(f"{text!r} is not a number of seconds up to {MAX_SECONDS}")
-    return float(text)
-
-
-def number_of(text: str) -> int:
-    if not re.fullmatch(r"[0-9]{1,5}", text) or not 1 <= int(text) <= MAX_REQUESTS:
-        raise argparse.ArgumentTypeError(f"{text!r} is not a whole number from 1 to {MAX_REQUESTS}")
-    return int(text)
-
-
 def name_of(text: str) -> str:
-    if not re.fullmatch(r"\w+", text):
-        raise argparse.ArgumentTypeError(f"{text!r} is not a name")
+    require(re.fullmatch(r"\w+", text), text, "a name")
     return text
+
+
+seconds_of, number_of = seconds(MAX_SECONDS), whole_number(MAX_REQUESTS)
 
 
 def parser() -> argparse.ArgumentParser:
@@ -125,7 +115,7 @@ def main(words: Sequence[str]) -> int:
     if not cases:
         arguments.error(f"no case has a name like {' or '.join(map(repr, globs))}")
     if options.list:
-        print(_report.listed(cases))
+        print(_report.list_cases(cases))
         return 0
     if None in (options.url, options.set, options.key, options.body):
         arguments.error("needed are URL, --set, --key and --body, or --list")

@@ -146,7 +146,3 @@ CASES = (
     Case("etag-to-group", "etag", "the ETag of a member after its group", to_group, needs=NEEDS),
     Case("etag-none-match", "etag", "reads of what is known", none_match, needs=[*CHANGES, "known"]),
 )
-
-
-def conditions() -> list[Case]:
-    return list(CASES)

@@ -8,7 +8,7 @@ from functools import partial
 from typing import Any, Callable, Iterator, Mapping, NamedTuple, Optional, Sequence
 from urllib.parse import quote
 
-from ._service import GONE, Answer, Service, Unusable
+from ._service import GONE, Reply, Service, Unusable
 
 # How many pages of a set are listed, and how many entities of it. A set with more is not listed.
 MAX_PAGES, MAX_LISTED = 100, 5_000
@@ -134,12 +134,12 @@ class Entities:
             refusals.append(answer)
         raise Unusable(f"{self.set} takes no entity: POST {self.service.root}{self.set} is answered {refusals[-1]}")
 
-    def _learn_to_write(self, value: Any, answer: Answer) -> None:
+    def _learn_to_write(self, value: Any, answer: Reply) -> None:
         """Finds out how the key of an entity that is there is written in its URL."""
         urls = [f"{self.set}({literal})" for literal in literals(value)]
         for url in urls:
             if self.service.ask("GET", url).is_success:
-                self._found(url, answer)
+                self._note_found(url, answer)
                 self.are_quoted = url == urls[0]
                 return
         place = f"{self.service.root}{urls[0]}"
@@ -147,7 +147,7 @@ class Entities:
             time.sleep(PAUSE)
             late = next((url for url in urls if self.service.ask("GET", url).is_success), None)
             if late is not None:
-                self._found(late, answer)
+                self._note_found(late, answer)
                 raise Unusable(f"{place} was created, and cannot be read at once: {BEHIND}")
         raise Unusable(f"{place} was created, and cannot be read")
 
@@ -222,7 +222,7 @@ class Entities:
             raise Unusable(f"POST {self.service.root}{self.set} is answered {answer}, and was answered 2xx before")
         key = entity.key if self.are_named else self.key_of(answer)
         url = entity.url or self.url_of(key)
-        self._found(url, answer)
+        self._note_found(url, answer)
         return entity._replace(url=url, key=key)
 
     def borrow(self) -> Entity:
@@ -264,7 +264,7 @@ class Entities:
         if self.unused is not None:
             self.make()
 
-    def post(self, body: Any, headers: dict[str, str] = {}) -> Answer:
+    def post(self, body: Any, headers: dict[str, str] = {}) -> Reply:
         """Posts to the set, and notes what that creates."""
         answer = self.service.ask("POST", self.set, body, headers)
         if answer.is_success:
@@ -280,7 +280,7 @@ class Entities:
         """The URL of the entities that have a mark, by a query option."""
         return f"{self.set}?$filter={self.text}%20eq%20{next(literals(mark))}"
 
-    def key_of(self, answer: Answer) -> Any:
+    def key_of(self, answer: Reply) -> Any:
         """The key of an entity that was created, by its representation, or by what its Location shows."""
         shown = answer.value
         if not isinstance(shown, dict) and "location" in answer.headers:
@@ -298,7 +298,7 @@ class Entities:
             return None
         raise Unusable(f"GET {self.service.root}{url} is answered {answer}")
 
-    def listed(self) -> Optional[Listing]:
+    def list_all(self) -> Optional[Listing]:
         """The whole set by URLs, by plain requests; None if it cannot be listed."""
         found: Listing = {}
         url = self.set
@@ -315,9 +315,9 @@ class Entities:
                 return found
         return None
 
-    def appeared(self) -> Optional[Listing]:
+    def find_new(self) -> Optional[Listing]:
         """What the set has and had not before, as far as the tool's own body may have made it; all of it is noted."""
-        found = self.listed() if self.before is not None else None
+        found = self.list_all() if self.before is not None else None
         if found is None or self.before is None:
             return None
         given = {name: value for name, value in self.body.items() if name not in (self.key, self.text)}
@@ -359,7 +359,7 @@ class Entities:
         if url:
             self.made.setdefault(self.service.address(url), url)
 
-    def _found(self, url: str, answer: Answer) -> None:
+    def _note_found(self, url: str, answer: Reply) -> None:
         """Notes what was created by its own URL, in place of its Location."""
         self.made.pop(self.service.address(answer.headers.get("location", "")), None)
         self.note(url)

@@ -3,7 +3,7 @@
 from typing import Any, Callable, NamedTuple
 
 from ._entities import Effect, Entities
-from ._service import REFUSED, Answer
+from ._service import REFUSED, Reply
 from ._stage import Stage, Subject
 
 NO_TAG = '"conformance-no-such-tag"'
@@ -71,7 +71,7 @@ def fail(stage: Stage, name: str, kind: str, **where: Any) -> None:
     KINDS[kind].add(stage, name, where)
 
 
-def ask_alone(entities: Entities, request: dict[str, Any]) -> Answer:
+def ask_alone(entities: Entities, request: dict[str, Any]) -> Reply:
     """Sends a request of a batch alone."""
     method, headers, body = request["method"].upper(), request.get("headers", {}), request.get("body")
     data = body.encode() if isinstance(body, str) else body

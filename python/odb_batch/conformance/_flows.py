@@ -141,7 +141,7 @@ FLOWS = (
 )
 
 
-def longest(requests: int) -> list[Case]:
+def longest_batches(requests: int) -> list[Case]:
     """The cases with as many requests as the service takes."""
     shows = f"as many requests as the service takes: {requests}"
     whole = partial(group, size=requests)

@@ -16,7 +16,3 @@ CASES = (
     Case("headers-tags", "alone", "requests with other forms of conditions", together(OTHERS), needs=["etags"]),
     Case("headers-conditions", "alone", "requests with conditions and without", together(CONDITIONS), needs=["etags"]),
 )
-
-
-def headers() -> list[Case]:
-    return list(CASES)

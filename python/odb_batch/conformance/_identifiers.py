@@ -85,7 +85,3 @@ CASES = (
     Case("urls-escaped", "alone", "keys with characters that a URL escapes", together(KEYS), needs=["odd keys"]),
     Case("urls-rooted", "alone", "URLs that begin with /", other_urls(path_of), needs=["rooted"]),
 )
-
-
-def names() -> list[Case]:
-    return list(CASES)

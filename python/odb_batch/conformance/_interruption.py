@@ -48,6 +48,10 @@ class Interruption:
     def is_due(self) -> bool:
         return self.count > self.allowed
 
+    def end(self, until: float) -> float:
+        """Returns when an answer is not waited for any more that else has time until then."""
+        return min(until, self.until) if self.is_due else until
+
     def check(self) -> None:
         """Raises Interrupted if the run has to end."""
         if self.is_due:

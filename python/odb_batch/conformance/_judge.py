@@ -6,7 +6,7 @@ from typing import Any, Iterator, NamedTuple, Optional
 from .. import Fault, Mode, match
 from ._entities import BEHIND, Entities, Listing
 from ._promises import Case
-from ._service import Answer
+from ._service import Reply, is_success
 from ._stage import ABSENT, DONE, FAILS, OPEN, SKIPPED, UNDONE, Stage, Step
 from ._twin import Taking, Twin, differences, parts_in_batch
 
@@ -33,7 +33,7 @@ class Judge:
         stops: Whether the batch ends with its first error, since it was sent so or the service has it so.
     """
 
-    def __init__(self, case: Case, stage: Stage, answer: Answer, stops: bool) -> None:
+    def __init__(self, case: Case, stage: Stage, answer: Reply, stops: bool) -> None:
         self.case, self.stage, self.answer, self.stops = case, stage, answer, stops
         self.entities = stage.entities
         self.expected = stage.expected(stops)
@@ -45,20 +45,20 @@ class Judge:
         """Looks at the response, and at the entities, which may be in a listing."""
         if self.responses is None:
             return [Check("answered", f"the batch is answered {self.answer}, without a document of responses")]
-        found = [*self._by_head(), *self._by_match()]
+        found = [*self._check_head(), *self._check_by_match()]
         for step, expected in zip(self.stage.steps, self.expected):
-            checks = self._of_step_by(listing, step, expected)
+            checks = self._check_step_by(listing, step, expected)
             if listing is not None and step.effect and step.effect.url and any(check.rule for check in checks):
                 # A list may be behind: what it shows is asked anew before it is called broken.
-                checks = self._of_step_by(None, step, expected)
+                checks = self._check_step_by(None, step, expected)
             found += checks
         return found
 
-    def _of_step_by(self, listing: Optional[Listing], step: Step, expected: str) -> list[Check]:
+    def _check_step_by(self, listing: Optional[Listing], step: Step, expected: str) -> list[Check]:
         performed = self.entities.is_shown(step.effect, listing) if step.effect is not None else None
-        return list(self._of_step(step, expected, self.statuses.get(step.id), performed))
+        return list(self._check_step(step, expected, self.statuses.get(step.id), performed))
 
-    def _by_head(self) -> Iterator[Check]:
+    def _check_head(self) -> Iterator[Check]:
         """What the status and the headers of the answer say (OData Protocol 4.01, sections 11.7.7 and 8.1.5)."""
         status, version = self.answer.status, self.answer.headers.get("odata-version", "missing")
         yield check("answered", status == 200, f"the batch is answered {status}, and not 200")
@@ -68,7 +68,7 @@ class Judge:
 
     # By the library
 
-    def _by_match(self) -> Iterator[Check]:
+    def _check_by_match(self) -> Iterator[Check]:
         """What `match` says. A batch that ends with an error may leave out the responses to what was not performed; of
         one that goes on, some finished run has to answer the statuses."""
         asked = ["once", *(["named"] if "groups" in self.stage.features() else [])]
@@ -84,19 +84,19 @@ class Judge:
 
     # By what is expected
 
-    def _of_step(self, step: Step, expected: str, status: Optional[int], performed: Optional[bool]) -> Iterator[Check]:
+    def _check_step(self, step: Step, expected: str, status: Optional[int], performed: Optional[bool]) -> Iterator[Check]:
         """What the status of a request says, and what shows of it afterwards.
 
         Without one clear status `match` has judged the response, and only what must not show is looked at.
         """
         if step.twin is not None and status is not None and expected in (DONE, FAILS):
-            yield from self._beside_alone(step, step.twin)
+            yield from self._check_twin(step, step.twin)
         elif expected == DONE:
-            yield from self._done(step, status, performed)
+            yield from self._check_done(step, status, performed)
         elif expected == OPEN:
-            yield from self._stopped(step, status, performed)
+            yield from self._check_stop(step, status, performed)
             # Whether there is anything to look at depends on how far the batch came, so it counts if it is broken.
-            yield from (check for check in self._open(step, status, performed) if check.rule is not None)
+            yield from (check for check in self._check_open(step, status, performed) if check.rule is not None)
         else:
             promise = "failed" if expected == SKIPPED else step.promise or ("group" if step.group else "alone")
             if status is not None:
@@ -104,7 +104,7 @@ class Judge:
                 yield check(promise, is_right, wrong_text(step, expected, status))
             yield from unseen(promise, step, status, performed)
 
-    def _done(self, step: Step, status: Optional[int], performed: Optional[bool]) -> Iterator[Check]:
+    def _check_done(self, step: Step, status: Optional[int], performed: Optional[bool]) -> Iterator[Check]:
         """A request that has to succeed."""
         if status is None or self._follows_from_another(step):
             # `match` has judged the response, or another request is judged for it.
@@ -115,12 +115,12 @@ class Judge:
         if not is_success(status):
             yield from unseen("alone", step, status, performed)
         else:
-            yield from self._seen(step, status, performed)
-            yield from self._shown(step, step.promise or "alone")
+            yield from self._check_effect(step, status, performed)
+            yield from self._check_values(step, step.promise or "alone")
             if step.needs and not step.promise:
                 yield Check("order")
 
-    def _beside_alone(self, step: Step, twin: Twin) -> Iterator[Check]:
+    def _check_twin(self, step: Step, twin: Twin) -> Iterator[Check]:
         """A request that was also sent alone does the same in the batch."""
         taking = Taking(self.entities, twin.entity, twin.marks, twin.is_read)
         batch = parts_in_batch(taking, self.clear[step.id])
@@ -129,40 +129,40 @@ class Judge:
         if not found:
             yield Check("alone")
 
-    def _shown(self, step: Step, promise: str) -> Iterator[Check]:
+    def _check_values(self, step: Step, promise: str) -> Iterator[Check]:
         """A read returns the entity that its URL leads to, as it is then."""
         if step.shows is None:
             return
         body, (values, maker) = self.clear[step.id].get("body"), step.shows
-        values = {**self._made_by(maker), **values}
+        values = {**self._key_made_by(maker), **values}
         for name, value in values.items():
             shown = body.get(name, ABSENT) if isinstance(body, dict) else ABSENT
             what = "nothing" if shown is ABSENT else repr(shown)
             other = "nothing" if value is ABSENT else repr(value)
             yield check(promise, shown == value, f"{step.id} returns {what} for {name}, and not {other}")
 
-    def _made_by(self, maker: Optional[str]) -> dict[str, Any]:
+    def _key_made_by(self, maker: Optional[str]) -> dict[str, Any]:
         """The key of what another request has created, as far as its response shows it."""
         body = self.clear.get(maker or "", {}).get("body")
         key = self.entities.key
         return {key: body[key]} if isinstance(body, dict) and key in body else {}
 
-    def _seen(self, step: Step, status: int, performed: Optional[bool]) -> Iterator[Check]:
+    def _check_effect(self, step: Step, status: int, performed: Optional[bool]) -> Iterator[Check]:
         """A request that is answered 2xx shows its effect, if it has one."""
         if performed is not None:
             text = f"{step.id} is answered {status}, and shows no effect afterwards"
             yield check("group" if step.group else "alone", performed, text)
 
-    def _open(self, step: Step, status: Optional[int], performed: Optional[bool]) -> Iterator[Check]:
+    def _check_open(self, step: Step, status: Optional[int], performed: Optional[bool]) -> Iterator[Check]:
         """A request after an error: it may have been performed, if it was on its way."""
         if status is not None and is_success(status):
-            yield from self._seen(step, status, performed)
+            yield from self._check_effect(step, status, performed)
         elif status is not None:
             yield from unseen("alone", step, status, performed)
         elif performed:
             yield Check("once", f"{step.id} was performed, and has no response")
 
-    def _stopped(self, step: Step, status: Optional[int], performed: Optional[bool]) -> Iterator[Check]:
+    def _check_stop(self, step: Step, status: Optional[int], performed: Optional[bool]) -> Iterator[Check]:
         """The last of many requests in a row after an error: it cannot have been on its way."""
         if self.case.promise == "stop" and step is self.stage.steps[-1]:
             text = f"{step.id}, the last of many requests in a row, is performed after an error"
@@ -215,11 +215,7 @@ def unseen(promise: str, step: Step, status: Optional[int], performed: Optional[
         yield check(name, not performed, f"{step.id} {what}, and was performed all the same")
 
 
-def is_success(status: Optional[int]) -> bool:
-    return status is not None and 200 <= status <= 299
-
-
-def responses_of(answer: Answer) -> Optional[list[dict[str, Any]]]:
+def responses_of(answer: Reply) -> Optional[list[dict[str, Any]]]:
     """The responses in an answer, whatever its status, or None if it has no document of them."""
     value = answer.value
     found = value.get("responses") if isinstance(value, dict) else None

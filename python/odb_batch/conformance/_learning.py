@@ -5,7 +5,7 @@ from urllib.parse import urljoin, urlsplit
 
 from ._entities import Entities, Entity
 from ._judge import responses_of
-from ._service import GONE, REFUSED, Answer, Unanswered
+from ._service import GONE, REFUSED, Reply, Unanswered
 from ._stage import QUERY, Stage
 from ._twin import etag_of
 from ._values import learn_values
@@ -48,7 +48,7 @@ def learn(entities: Entities) -> None:
     entities.learn_keys()
     entities.require_reads()
     entities.clear()
-    entities.before = entities.listed()
+    entities.before = entities.list_all()
     entities.text = text_property(entities)
     has = {
         "named": entities.are_named,
@@ -67,7 +67,7 @@ def learn(entities: Entities) -> None:
     entities.lacks.update(no_values)
     entities.lacks.update(learn_features(entities))
     entities.lacks.update(learn_references(entities))
-    entities.appeared()
+    entities.find_new()
     entities.clear()
 
 
@@ -231,12 +231,12 @@ def learn_references(entities: Entities) -> dict[str, str]:
     return lacking
 
 
-def statuses_of(answer: Answer) -> list[Any]:
+def statuses_of(answer: Reply) -> list[Any]:
     """The statuses of the responses in an answer."""
     return [response.get("status") for response in responses_of(answer) or ()]
 
 
-def refusal(answer: Answer) -> Optional[str]:
+def refusal(answer: Reply) -> Optional[str]:
     """How a service refuses a batch, or all of its requests; None if it does not."""
     responses = responses_of(answer)
     if responses is None:
@@ -244,7 +244,7 @@ def refusal(answer: Answer) -> Optional[str]:
     return "501 of its requests" if responses and all(response.get("status") == 501 for response in responses) else None
 
 
-def note_created(entities: Entities, answer: Answer) -> None:
+def note_created(entities: Entities, answer: Reply) -> None:
     """Notes what a batch has created, to remove it."""
     for response in responses_of(answer) or []:
         headers = response.get("headers")

@@ -42,7 +42,3 @@ CASES = (
     Case("members-new", "alone", "a member that is to be new and is not", error_of_a_member("put-new"), needs=NEW),
     Case("members-accept", "alone", "a member that takes plain text", error_of_a_member("get-accept-plain")),
 )
-
-
-def members() -> list[Case]:
-    return list(CASES)

@@ -200,7 +200,3 @@ CASES = (
     Case("reference-to-put", "reference", "reads of what a PUT changes", to_changed("put"), needs=["$ to put"]),
     Case("reference-at-once", "reference", "four batches with the same ids at the same time", at_once, at_once=4),
 )
-
-
-def references() -> list[Case]:
-    return list(CASES)

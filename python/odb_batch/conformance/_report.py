@@ -6,7 +6,7 @@ from typing import Any, NamedTuple, Sequence
 
 from ._promises import PROMISES, SECTIONS, Case
 from ._runner import Result
-from ._twin import shortened
+from ._twin import shorten
 
 # How many characters of a batch or a response a test shows.
 MAX_SHOWN = 10_000
@@ -75,7 +75,7 @@ def rules_text(result: Result) -> str:
 
 def failure_text(result: Result) -> str:
     """What a test says of a case that is broken: the rules, the batch and the response."""
-    batch, response = (shortened(text.decode(errors="replace"), MAX_SHOWN) for text in (result.batch, result.response))
+    batch, response = (shorten(text.decode(errors="replace"), MAX_SHOWN) for text in (result.batch, result.response))
     return f"{rules_text(result)}\nbatch:\n{batch}\nresponse:\n{response}"
 
 
@@ -96,14 +96,12 @@ def write_breaks(results: list[Result], folder: str) -> None:
 
 def document(service: str, results: list[Result], left: list[str], notes: Sequence[str] = ()) -> dict[str, Any]:
     """The results as a value of JSON."""
-    names = {"not_applicable": "notApplicable"}
-    found = counts(results)
     return {
         "service": service,
         "cases": len(results),
         "promises": [
-            {**promise._asdict(), **{names.get(name, name): n for name, n in found[promise.name]._asdict().items()}}
-            for promise in PROMISES
+            {**promise._asdict(), "cases": cases, "kept": kept, "broken": broken, "notApplicable": skipped}
+            for promise, (cases, kept, broken, skipped) in zip(PROMISES, counts(results).values())
         ],
         "breaks": [
             {"case": result.case.name, "promise": check.promise, "section": SECTIONS[check.promise], "rule": check.rule}
@@ -116,7 +114,7 @@ def document(service: str, results: list[Result], left: list[str], notes: Sequen
     }
 
 
-def listed(cases: list[Case]) -> str:
+def list_cases(cases: list[Case]) -> str:
     """The cases, each with what it shows and where the standard promises it."""
     return "\n".join(f"{case.name:26} {case.shows} ({SECTIONS[case.promise]})" for case in cases)
 

@@ -5,10 +5,10 @@ from typing import Callable, NamedTuple, Optional, Union
 
 from ._entities import Entities
 from ._failure_kinds import KINDS, failing_kinds
-from ._judge import Check, Judge, clear_responses, is_success, left_over, responses_of
+from ._judge import Check, Judge, clear_responses, left_over, responses_of
 from ._learning import learn, note_created, refusal
 from ._promises import Case
-from ._service import Answer, Service, Unanswered
+from ._service import Reply, Service, Unanswered, is_success
 from ._stage import DONE, FAILS, Stage
 
 # What a service may answer to one of some batches at the same time.
@@ -69,12 +69,12 @@ class Runner:
         try:
             if not self.has_learned:
                 self._learn()
-            self.entities.before = self.entities.listed()
+            self.entities.before = self.entities.list_all()
             for at, case in enumerate(cases):
                 progress(at, case.name)
                 found.append(self._run_to_be_sure(case))
                 self.entities.clear(self.entities.spare)
-            self.entities.appeared()
+            self.entities.find_new()
         finally:
             self.service.interruption.allowed = 1
             self.entities.clear()
@@ -126,7 +126,7 @@ class Runner:
 
     # Sending
 
-    def _send(self, case: Case, stages: list[Stage]) -> list[Union[Answer, Unanswered]]:
+    def _send(self, case: Case, stages: list[Stage]) -> list[Union[Reply, Unanswered]]:
         """Sends the batches of a case at the same time, and notes what they have created."""
         documents = [stage.document() for stage in stages]
         if len(documents) == 1:
@@ -135,7 +135,7 @@ class Runner:
             with ThreadPoolExecutor(len(documents)) as pool:
                 answers = list(pool.map(lambda document: self._answer(document, case), documents))
         for answer in answers:
-            if isinstance(answer, Answer):
+            if isinstance(answer, Reply):
                 note_created(self.entities, answer)
         late = [answer for answer in answers if isinstance(answer, Unanswered) and answer.is_late]
         self.late += len(late)
@@ -144,7 +144,7 @@ class Runner:
             raise lost
         return answers
 
-    def _answer(self, document: bytes, case: Case) -> Union[Answer, Unanswered]:
+    def _answer(self, document: bytes, case: Case) -> Union[Reply, Unanswered]:
         try:
             return self.service.batch(document, case.prefer)
         except Unanswered as error:
@@ -152,10 +152,10 @@ class Runner:
 
     # Judging
 
-    def _judge(self, case: Case, stages: list[Stage], answers: list[Union[Answer, Unanswered]]) -> Result:
+    def _judge(self, case: Case, stages: list[Stage], answers: list[Union[Reply, Unanswered]]) -> Result:
         """Judges the batches of a case by their answers, and by what the set has afterwards."""
         known = set(self.entities.made)
-        listing = self.entities.appeared()
+        listing = self.entities.find_new()
         checks: list[Check] = []
         result = Result(case, checks)
         for stage, answer in zip(stages, answers):
@@ -173,12 +173,12 @@ class Runner:
             checks += left_over(case, stages, listing, known)
             if any(step.twin for stage in stages for step in stage.steps):
                 # a request alone came after the batch
-                listing = self.entities.appeared()
-            if listing is not None and all(isinstance(answer, Answer) for answer in answers):
+                listing = self.entities.find_new()
+            if listing is not None and all(isinstance(answer, Reply) for answer in answers):
                 self.entities.settle(listing)
         return result
 
-    def _reason(self, case: Case, answer: Union[Answer, Unanswered]) -> Optional[str]:
+    def _reason(self, case: Case, answer: Union[Reply, Unanswered]) -> Optional[str]:
         """Why a case does not apply: the service refuses the batch, which it may for its size, or beside others."""
         if isinstance(answer, Unanswered):
             return None
@@ -187,7 +187,7 @@ class Runner:
         status = refusal(answer) if case.may_be_refused else None
         return status and f"the service refuses the batch with {status}"
 
-    def _applies_preference(self, stage: Stage, answer: Answer) -> bool:
+    def _applies_preference(self, stage: Stage, answer: Reply) -> bool:
         """Whether the service continues on errors. One that does not may leave it at that: it is a preference."""
         if self.continues and "continue-on-error" not in answer.headers.get("preference-applied", "").lower():
             clear = clear_responses(responses_of(answer) or [])

@@ -1,10 +1,11 @@
 """The service that is judged: requests over HTTP, and their answers."""
 
+import contextlib
 import http.client
-import io
 import socket
+import threading
 import time
-from typing import Any, Mapping, NamedTuple, Optional
+from typing import Any, Iterator, Mapping, NamedTuple, Optional
 from urllib.parse import unquote, urljoin, urlsplit
 
 from ._exact_json import text_of, value_of
@@ -13,17 +14,15 @@ from ._interruption import Interrupted, Interruption
 MAX_ANSWER = 67_108_864
 # For how many seconds an answer may be waited for, and for how many it is if nobody says.
 MAX_SECONDS, SECONDS = 3600, 20.0
-# For how many seconds at most a read waits before it looks for an interruption.
+# How many seconds lie between two looks for an interruption.
 SLICE = 0.25
 JSON = {"Content-Type": "application/json"}
 CONTINUE = "continue-on-error"
 GONE = (404, 410)
 # What a service may answer to what it refuses.
 REFUSED = (*range(400, 500), 501)
-
-
-# What is said of another URL.
-NO_ROOT = "{!r} is not the root of a service, such as http://localhost:8080/"
+# What a URL of a service has to be.
+ROOT = "the root of a service, such as http://localhost:8080/"
 
 
 def is_root(url: str) -> bool:
@@ -34,6 +33,11 @@ def is_root(url: str) -> bool:
     except ValueError:
         return False
     return bool(is_good) and not (parts.query or parts.fragment or " " in url)
+
+
+def is_success(status: Optional[int]) -> bool:
+    """Whether there is a status, and it is one from 200 to 299."""
+    return status is not None and 200 <= status <= 299
 
 
 class Unusable(Exception):
@@ -53,7 +57,7 @@ class Unanswered(Unusable):
         self.reason, self.is_late = reason, is_late
 
 
-class Answer(NamedTuple):
+class Reply(NamedTuple):
     """What a request is answered; the names of the headers are in lower case."""
 
     status: int
@@ -62,7 +66,7 @@ class Answer(NamedTuple):
 
     @property
     def is_success(self) -> bool:
-        return 200 <= self.status <= 299
+        return is_success(self.status)
 
     @property
     def value(self) -> Any:
@@ -97,34 +101,54 @@ class Service:
         self.headers = {"OData-MaxVersion": "4.01", "Accept": "application/json", "Connection": "close", **headers}
         self.parts = urlsplit(self.root)
 
-    def ask(self, method: str, url: str, value: Any = None, headers: Mapping[str, str] = {}) -> Answer:
+    def ask(self, method: str, url: str, value: Any = None, headers: Mapping[str, str] = {}) -> Reply:
         """Sends a request to a URL that is relative to the root; raises Unanswered if no answer can be read."""
         self.interruption.check()
         data = value if isinstance(value, (bytes, type(None))) else text_of(value).encode()
         path = urlsplit(urljoin(self.root, url))
         target = path.path + (f"?{path.query}" if path.query else "")
-        connection = self._connection()
+        kind = http.client.HTTPSConnection if self.parts.scheme == "https" else http.client.HTTPConnection
+        connection: http.client.HTTPConnection = kind(self.parts.hostname or "", self.parts.port, timeout=self.timeout)
+        late = threading.Event()
         try:
-            connection.request(method, target, data, {**self.headers, **(JSON if data else {}), **headers})
-            return _read(connection.getresponse())
+            connection.connect()
+            with self._ended_in_time(connection.sock, late):
+                connection.request(method, target, data, {**self.headers, **(JSON if data else {}), **headers})
+                answer = _read(connection.getresponse())
+            if not late.is_set():
+                return answer
+            raise socket.timeout("timed out")
         except (OSError, http.client.HTTPException, ValueError) as error:
             if self.interruption.is_due:
                 raise Interrupted from None
-            is_late = isinstance(error, socket.timeout) or "timed out" in str(error)
+            is_late = late.is_set() or isinstance(error, socket.timeout) or "timed out" in str(error)
             reason = f"no answer within {self.timeout:g} seconds" if is_late else reason_of(error)
             raise Unanswered(f"{method} {self.root}{url}", reason, is_late) from None
         finally:
             connection.close()
 
-    def _connection(self) -> http.client.HTTPConnection:
-        kind = http.client.HTTPSConnection if self.parts.scheme == "https" else http.client.HTTPConnection
-        found: http.client.HTTPConnection = kind(self.parts.hostname or "", self.parts.port, timeout=self.timeout)
-        until = time.monotonic() + self.timeout
-        answer = lambda sock, **rest: _Response(_Timed(sock, until, self.interruption), sock, **rest)
-        setattr(found, "response_class", answer)
-        return found
+    @contextlib.contextmanager
+    def _ended_in_time(self, connection: socket.socket, late: threading.Event) -> Iterator[None]:
+        """Ends a connection, and sets `late`, if the block takes too long, also if its answer comes drop by drop."""
+        done, until = threading.Event(), time.monotonic() + self.timeout
 
-    def batch(self, document: bytes, prefer: str = CONTINUE) -> Answer:
+        def watch() -> None:
+            while (rest := self.interruption.end(until) - time.monotonic()) > 0:
+                if done.wait(min(rest, SLICE)):
+                    return
+            late.set()
+            with contextlib.suppress(OSError):
+                socket.socket.shutdown(connection, socket.SHUT_RDWR)  # that of TLS would let go of its state
+
+        watching = threading.Thread(target=watch, daemon=True)
+        watching.start()
+        try:
+            yield
+        finally:
+            done.set()
+            watching.join()
+
+    def batch(self, document: bytes, prefer: str = CONTINUE) -> Reply:
         """Sends a batch, with the preference to continue on errors unless another one is given, or the empty text."""
         return self.ask("POST", "$batch", document, {"Prefer": prefer} if prefer else {})
 
@@ -143,7 +167,7 @@ class Service:
         kind = answer.headers.get("content-type", "no media type")
         raise Unusable(f"POST {self.root}$batch is not answered with a batch in JSON, but with {kind}")
 
-    def probe(self, url: str) -> Answer:
+    def probe(self, url: str) -> Reply:
         """Sends a batch of one read; one that is hung up on is sent once more."""
         request = {"id": "1", "method": "get", "url": url}
         document = text_of({"requests": [request]}).encode()
@@ -170,44 +194,7 @@ class Service:
             return url
 
 
-class _Timed(io.RawIOBase):
-    """Reads from a connection until a point in time, also if the answer comes drop by drop."""
-
-    def __init__(self, connection: socket.socket, until: float, interruption: Interruption) -> None:
-        self.connection, self.until, self.interruption = connection, until, interruption
-        # http.client closes the connection before the answer is read; it stays open as long as this file.
-        self.file = connection.makefile("rb", 0)
-
-    def readable(self) -> bool:
-        return True
-
-    def readinto(self, buffer: Any) -> Optional[int]:
-        while True:
-            until = min(self.until, self.interruption.until) if self.interruption.is_due else self.until
-            rest = until - time.monotonic()
-            if rest <= 0:
-                raise socket.timeout("timed out")
-            self.connection.settimeout(min(rest, SLICE))
-            try:
-                return self.connection.recv_into(buffer)
-            except socket.timeout:
-                pass
-
-    def close(self) -> None:
-        self.file.close()
-        super().close()
-
-
-class _Response(http.client.HTTPResponse):
-    """A response that is read from a file in place of its connection."""
-
-    def __init__(self, file: _Timed, sock: socket.socket, **rest: Any) -> None:
-        super().__init__(sock, **rest)
-        self.fp.close()
-        self.fp = io.BufferedReader(file)
-
-
-def _read(response: http.client.HTTPResponse) -> Answer:
+def _read(response: http.client.HTTPResponse) -> Reply:
     """Reads an answer, which may have MAX_ANSWER bytes."""
     text = bytearray()
     while part := response.read(65_536):
@@ -216,7 +203,7 @@ def _read(response: http.client.HTTPResponse) -> Answer:
             raise ValueError(f"the answer has more than {MAX_ANSWER:,} bytes")
     if response.length:
         raise http.client.IncompleteRead(bytes(text), response.length)
-    return Answer(response.status, {name.lower(): value for name, value in response.headers.items()}, bytes(text))
+    return Reply(response.status, {name.lower(): value for name, value in response.headers.items()}, bytes(text))
 
 
 def reason_of(error: Exception) -> str:

@@ -6,6 +6,7 @@ from urllib.parse import unquote
 
 from ._entities import Effect, Entities, Entity
 from ._exact_json import text_of
+from ._service import JSON
 from ._twin import Twin
 
 # What is expected of a request: success; an error of its own; 424 for a dependency that failed; no success, in a
@@ -78,13 +79,13 @@ class Subject:
         entity: As it was made, or is made in the batch.
         is_there: Whether it is there after the requests so far.
         mark: What its text property has then.
-        at: The position of the request whose effect shows afterwards, or None.
+        last_write: The position of the request whose effect shows afterwards, or None.
         maker: The id of the request that creates it.
     """
 
     def __init__(self, entity: Entity, is_there: bool) -> None:
         self.entity, self.is_there, self.mark = entity, is_there, entity.mark
-        self.at: Optional[int] = None
+        self.last_write: Optional[int] = None
         self.maker: Optional[str] = None
 
 
@@ -136,13 +137,9 @@ class Stage:
         if needs:
             request["dependsOn"] = list(needs)
         request.update(method=method, url=url)
-        if body is not None:
-            given = {"Content-Type": "application/json", **(headers or {})}
-            headers = {name: value for name, value in given.items() if value}
-        if headers:
-            request["headers"] = headers
-        if body is not None:
-            request["body"] = body
+        given = {**({} if body is None else JSON), **(headers or {})}
+        members = {"headers": {name: value for name, value in given.items() if value} or None, "body": body}
+        request.update({name: value for name, value in members.items() if value is not None})
         self.steps.append(Step(request, **rest))
 
     def subject(self, is_there: bool = True) -> Subject:
@@ -158,7 +155,7 @@ class Stage:
         entity, fails = subject.entity, subject.is_there == (act == "create")
         self.subjects[name] = subject
         if act == "read":
-            shows = None if fails else self._shown(subject)
+            shows = None if fails else self._expected_values(subject)
             self.add(name, "get", by or entity.url, fails=fails, shows=shows, **where)
             return
         is_known = not entity.url or subject.mark == entity.mark
@@ -174,16 +171,16 @@ class Stage:
         is_seen = not fails and bool(entity.url or "create" not in self.entities.lacks)
         self.add(name, METHODS[act], url, body, fails=fails, effect=effect if is_seen else None, **where)
 
-    def _shown(self, subject: Subject) -> Shown:
+    def _expected_values(self, subject: Subject) -> Shown:
         """What a read of an entity returns, as far as it is known."""
         values = {self.entities.key: subject.entity.key, self.entities.text or "": subject.mark}
         return Shown({name: value for name, value in values.items() if value is not None}, subject.maker)
 
     def _supersede(self, subject: Subject, effect: Effect) -> None:
         """The next request writes an entity: what an earlier one did to it does not show any more."""
-        if subject.at is not None:
-            self.steps[subject.at] = self.steps[subject.at]._replace(effect=None)
-        subject.at, subject.is_there, subject.mark = len(self.steps), effect.is_there, effect.mark
+        if subject.last_write is not None:
+            self.steps[subject.last_write] = self.steps[subject.last_write]._replace(effect=None)
+        subject.last_write, subject.is_there, subject.mark = len(self.steps), effect.is_there, effect.mark
 
     def write(self, name: str, **where: Any) -> None:
         """A request that creates, deletes or changes an entity, by turns."""

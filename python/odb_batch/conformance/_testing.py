@@ -4,12 +4,13 @@ import unittest
 import warnings
 from typing import Any, Mapping
 
-from ._cases import MAX_REQUESTS, REQUESTS, all_cases
+from .._native.calls import MAX_REQUESTS
+from ._cases import REQUESTS, all_cases
 from ._entities import Entities
 from ._interruption import Interruption
 from ._report import failure_text
 from ._runner import Runner
-from ._service import MAX_SECONDS, NO_ROOT, SECONDS, Service, is_root
+from ._service import MAX_SECONDS, ROOT, SECONDS, Service, is_root
 
 
 def judge(
@@ -49,7 +50,7 @@ def judge(
     """
     __tracebackhide__ = True  # for pytest  pylint: disable=unused-variable
     if not is_root(url):
-        raise ValueError(NO_ROOT.format(url))
+        raise ValueError(f"{url!r} is not {ROOT}")
     if not 1 <= requests <= MAX_REQUESTS:
         raise ValueError(f"requests must be a whole number from 1 to {MAX_REQUESTS}, not {requests!r}")
     if not 0 < timeout <= MAX_SECONDS:

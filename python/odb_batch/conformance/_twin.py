@@ -11,7 +11,7 @@ from urllib.parse import quote, urlsplit
 
 from ._entities import Entities, Entity
 from ._exact_json import text_of
-from ._service import Answer
+from ._service import Reply, is_success
 
 Parts = dict[str, Any]
 
@@ -131,7 +131,7 @@ class Taking:
     def _know_entity(self, status: int, headers: Mapping[str, str], value: Any) -> str:
         """The URL of the entity; its key is known from the answer where the service makes it."""
         key, url = self.entity.key, self.entity.url
-        if key is None and 200 <= status <= 299:
+        if key is None and is_success(status):
             shown = value if isinstance(value, dict) else {}
             if self.entities.key not in shown and "location" in headers:
                 shown = self.entities.service.ask("GET", headers["location"]).value or {}
@@ -189,7 +189,7 @@ def error_parts(value: Any) -> Parts:
     return {"the body": "with error", "the code of the error": error.get("code")}
 
 
-def parts_alone(taking: Taking, answer: Answer) -> Parts:
+def parts_alone(taking: Taking, answer: Reply) -> Parts:
     """The parts of a request that was sent alone."""
     # a text that is not JSON is compared by its media type alone
     value = answer.value
@@ -215,10 +215,10 @@ def differences(alone: Sequence[Parts], batch: Parts) -> list[str]:
         is_fixed = all(other.get(name, MISSING) == expected for other in others)
         is_open = (name == HOST and value == MISSING) or (name == VERSION and expected == MISSING)
         if expected != value and not is_open and (is_fixed or MISSING in (expected, value)):
-            found.append(f"{name} is {shortened(value)}, and alone {shortened(expected)}")
+            found.append(f"{name} is {shorten(value)}, and alone {shorten(expected)}")
     return found
 
 
-def shortened(value: Any, most: int = 80) -> str:
+def shorten(value: Any, most: int = 80) -> str:
     text = str(value)
     return text if len(text) <= most else text[: most - 3] + "..."

@@ -128,11 +128,6 @@ def body_json(body: Any) -> bytes:
     return b"" if body is None else _json_bytes(body, _BODY_ENCODER)
 
 
-def report_bytes(headers: Optional[Mapping[str, str]], body: Any) -> tuple[bytes, bytes]:
-    """The JSON texts of the headers and the body of a report; nothing of what it does not have."""
-    return b"" if headers is None else json_bytes(dict(headers)), body_json(body)
-
-
 def document_bytes(document: Document) -> bytes:
     """The bytes of a document, with no method of a subclass: the library reads as many as they are."""
     if type(document) is bytes:

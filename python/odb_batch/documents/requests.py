@@ -39,19 +39,17 @@ class Request(Value):
 
 def _request(document: bytes, text: bytes, numbers: tuple[int, ...], parts: Sequence[tuple[int, ...]]) -> Request:
     """Returns the request whose parts lie there; its reference is the position of another one."""
-    request_id, method, url, rest, headers, group, body = (
-        slice(start, start + length) for start, length in zip(numbers[0:14:2], numbers[1:14:2])
-    )
-    other = (0, 0) if numbers[14] == library.NONE else parts[numbers[14]]
+    at, length, method, of_method, url, of_url, rest, of_rest, headers, of_headers, group, of_group, body, of_body, to = numbers
+    other = (0, 0) if to == library.NONE else parts[to]
     return Request(
-        text[request_id].decode(),
-        text[method].decode(),
-        text[url].decode(),
+        text[at : at + length].decode(),
+        text[method : method + of_method].decode(),
+        text[url : url + of_url].decode(),
         text[other[0] : other[0] + other[1]].decode() or None,
-        text[rest].decode(),
-        json.loads(text[headers]),
-        None if numbers[10] == library.NONE else text[group].decode(),
-        None if numbers[12] == library.NONE else document[body],
+        text[rest : rest + of_rest].decode(),
+        json.loads(text[headers : headers + of_headers]) if of_headers > len("{}") else {},
+        None if group == library.NONE else text[group : group + of_group].decode(),
+        None if body == library.NONE else document[body : body + of_body],
     )
 
 

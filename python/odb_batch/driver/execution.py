@@ -1,5 +1,6 @@
 """A batch on its way: which unit begins, and what is reported. It has no threads, and does not send."""
 
+from dataclasses import dataclass
 from typing import Callable, Generator, Optional, Sequence, Union
 
 from .._native.calls import MAX_WIDTH, Mode
@@ -17,6 +18,7 @@ from .journal import Journal, JournalEvent, ReportUnit, StartUnit, Stop
 from .references import ReferenceResolver
 
 
+@dataclass(eq=False)
 class Unit:
     """An atomicity group, or a request without one, that has begun.
 
@@ -24,17 +26,15 @@ class Unit:
         ids: Its requests in order: each comes after those of the group that it needs.
         group: The name of the group, or None.
         open: The request that has started and is not reported yet, or None.
-        prepared: Its first request as it is sent, if somebody has asked for that before; or None.
         is_noted: Whether the journal has its start.
         prepared: Its first request as it is sent, if a place was asked for by it.
     """
 
-    __slots__ = ("ids", "group", "open", "is_noted", "prepared")
-
-    def __init__(self, ids: tuple[str, ...], group: Optional[str], is_noted: bool = False) -> None:
-        self.ids, self.group, self.is_noted = ids, group, is_noted
-        self.open: Optional[str] = ids[0]
-        self.prepared: Optional[PreparedRequest] = None
+    ids: tuple[str, ...]
+    group: Optional[str]
+    open: Optional[str]
+    is_noted: bool = False
+    prepared: Optional[PreparedRequest] = None
 
     def __str__(self) -> str:
         return self.ids[0] if self.group is None else f"the group {self.group}"
@@ -73,6 +73,7 @@ class Execution:
         journal: Where its events are kept, and what has happened before.
 
     Attributes:
+        resolver: Prepares its requests.
         resumed: The units that were out when another process ended, and are sent again.
 
     Raises:
@@ -103,7 +104,7 @@ class Execution:
         if has_groups and not (has_transactions or sends_groups):
             raise Refusal(501, "NoGroups", "Atomicity groups are not supported here")
         self._requests = {request.id: request for request in given}
-        self._resolver, self._stop, self._journal = ReferenceResolver(given, base, roots), stop, journal
+        self.resolver, self._stop, self._journal = ReferenceResolver(given, base, roots), stop, journal
         self._plan = plan(batch) if has_groups and sends_groups else None
         # Whether nothing more starts: since that was asked for, and in mode stop after an error.
         self._is_stopped, self._has_failed, self._mode = False, False, mode
@@ -145,7 +146,7 @@ class Execution:
         for request_id in [request_id for request_id in out if request_id not in again]:
             LOG.error("%s was out when a process ended, and is lost", request_id)
             self._report_and_note(request_id, LOST)
-        return [Unit((request_id,), None, is_noted=True) for request_id in out if request_id in again]
+        return [Unit((request_id,), None, request_id, is_noted=True) for request_id in out if request_id in again]
 
     def _is_get(self, request_id: str) -> bool:
         """Whether a request is a GET that is sent alone, so that it may be sent again."""
@@ -154,46 +155,43 @@ class Execution:
     def _replay_report(self, event: Report) -> None:
         headers = dict(event.headers or {})
         self._run.report(event.id, event.status, headers or None, event.body)
-        if event.id in self._resolver.referred:
-            self._resolver.record(event.id, Answer(event.status, headers, event.body))
-
-    def _note(self, event: JournalEvent) -> None:
-        if self._journal is not None:
-            self._journal.write(event)
+        if event.id in self.resolver.referred:
+            self.resolver.record(event.id, Answer(event.status, headers, event.body))
 
     def begin(self, count: int) -> list[Unit]:
         """Starts the first request of each unit that may begin, or all of them if it is a group that is sent as one; of so many
         units at most."""
         found: list[Unit] = []
-        while len(found) < count and (unit := self._begin_unit()) is not None:
-            found.append(unit)
-        return found
-
-    def _begin_unit(self) -> Optional[Unit]:
-        self._ask_to_stop()
-        while self._left and (ids := self._run.next_unit()) is not None:
-            unit = Unit(ids, self._requests[ids[0]].group)
+        while self._left and len(found) < count:
+            if self._stop is not None:
+                self._ask_to_stop(self._stop)
+            ids = self._run.next_unit()
+            if ids is None:
+                break
+            first = ids[0]
+            group = self._requests[first].group
             try:
-                if self._is_one(unit):
-                    self._run.start_unit(ids[0])
+                if group is None or self._plan is None:
+                    self._run.start(first)
                 else:
-                    self._run.start(ids[0])
+                    self._run.start_unit(first)
             except Refused:
                 continue  # meanwhile another thread has reported an error that stops the run
             self._left -= len(ids)
-            return unit
-        return None
+            found.append(Unit(ids, group, first))
+        return found
 
     def confirm(self, unit: Unit) -> bool:
         """Notes the start of a unit that is sent now, and returns true. If nothing more may start meanwhile, it is
         answered 424 instead. The journal then has nothing of it, and who goes on from there answers the same."""
-        self._ask_to_stop()
+        if self._stop is not None:
+            self._ask_to_stop(self._stop)
         # One that was on its way when a process ended has started before what failed since.
         is_over = self._is_stopped or (self._has_failed and not unit.is_noted)
         if is_over:
             self._drop(unit)
         elif self._journal is not None and not unit.is_noted:
-            self._note(StartUnit(unit.ids) if self._is_one(unit) else Start(unit.ids[0]))
+            self._journal.write(StartUnit(unit.ids) if self._is_one(unit) else Start(unit.ids[0]))
         return not is_over
 
     def _is_one(self, unit: Unit) -> bool:
@@ -203,24 +201,20 @@ class Execution:
     def _drop(self, unit: Unit) -> None:
         unit.open = None
         for request_id in unit.ids if self._is_one(unit) else unit.ids[:1]:
-            event = self._report(request_id, SKIPPED)
-            if unit.is_noted:
-                self._note(event)
+            reported = self._report(request_id, SKIPPED)
+            if unit.is_noted and self._journal is not None:
+                self._journal.write(Report(request_id, *reported))
 
-    def _ask_to_stop(self) -> None:
-        if self._stop is not None and not self._is_stopped and self._stop():
+    def _ask_to_stop(self, is_to_stop: Callable[[], bool]) -> None:
+        if not self._is_stopped and is_to_stop():
             self.stop()
-            self._note(Stop())
+            if self._journal is not None:
+                self._journal.write(Stop())
 
     def stop(self) -> None:
         """Lets nothing more start."""
         self._is_stopped = True
         self._run.stop()
-
-    def prepare(self, unit: Unit) -> PreparedRequest:
-        """Returns the first request of a unit, as it is sent; raises Refusal if it cannot be."""
-        unit.prepared = self._resolver.prepare(unit.ids[0])
-        return unit.prepared
 
     # A group that is sent as one
 
@@ -230,7 +224,7 @@ class Execution:
         members, needs, inside = [], {}, frozenset(unit.ids)
         for request_id in unit.ids:
             try:
-                members.append(self._resolver.prepare_member(request_id, inside))
+                members.append(self.resolver.prepare_member(request_id, inside))
             except Refusal as refusal:
                 raise MemberRefused(request_id, refusal.answer) from None
             needs[request_id] = tuple(name for name in self._plan.request(request_id).needs if name in inside)
@@ -241,7 +235,9 @@ class Execution:
         place of that. It is one event: a process that ends keeps all or none."""
         answers = self._group_answers(unit, answered)
         unit.open = None
-        self._note(ReportUnit(tuple(self._report(request_id, answer) for request_id, answer in zip(unit.ids, answers))))
+        reports = tuple(Report(name, *self._report(name, answer)) for name, answer in zip(unit.ids, answers))
+        if self._journal is not None:
+            self._journal.write(ReportUnit(reports))
 
     def _group_answers(self, unit: Unit, answered: Union[Sequence[Answered], BaseException]) -> Sequence[Answer]:
         if isinstance(answered, MemberRefused):
@@ -257,10 +253,10 @@ class Execution:
 
     # The requests of a unit that are sent one after another
 
-    def steps(self, unit: Unit) -> Generator[PreparedRequest, Union[Answered, BaseException, None], Optional[Answer]]:
-        """Yields the requests of a unit as they are sent, and is sent what each is answered, or the exception in place of
-        that. The value in the end is the answer to the last one of a group, which is not reported before the commit: what
-        needs the group starts then. A request without a group is confirmed and reported here.
+    def steps(self, unit: Unit) -> Generator[PreparedRequest, Union[Answer, BaseException, None], Optional[Answer]]:
+        """Yields the requests of a unit as they are sent, and is sent what each is answered, validated, or the exception in
+        place of that. The value in the end is the answer to the last one of a group, which is not reported before the commit:
+        what needs the group starts then. A request without a group is confirmed and reported here.
 
         Raises:
             GroupFailed: A request of a group has not succeeded, or the body of the last one cannot be written.
@@ -272,15 +268,14 @@ class Execution:
             if unit.open != request_id:
                 self._run.start(request_id)
                 unit.open = request_id
+            answered: Union[Answer, BaseException, None]
             try:
                 prepared, unit.prepared = unit.prepared, None
-                answered = yield prepared or self._resolver.prepare(request_id)
-                if isinstance(answered, BaseException):
-                    answer = answer_for(answered, f"the request {request_id}")
-                else:
-                    answer = validate_answer(answered)
+                answered = yield prepared or self.resolver.prepare(request_id)
             except Exception as error:
-                answer = answer_for(error, f"the request {request_id}")
+                answered = error
+            what = f"the request {request_id}"
+            answer = answer_for(answered, what) if isinstance(answered, BaseException) else answered or FAILED
             if unit.group is None:
                 self.finish(unit, answer)
             else:
@@ -337,21 +332,25 @@ class Execution:
         return Answer(answer.status, answer.headers), b""
 
     def _report_and_note(self, request_id: str, answer: Answer) -> None:
-        self._note(self._report(request_id, answer))
+        reported = self._report(request_id, answer)
+        if self._journal is not None:
+            self._journal.write(Report(request_id, *reported))
 
-    def _report(self, request_id: str, answer: Answer) -> Report:
-        """Reports the answer to a request; returns the event."""
+    def _report(self, request_id: str, answer: Answer) -> tuple[int, dict[str, str], Optional[bytes]]:
+        """Reports the answer to a request; returns the status, the headers and the body that the event has."""
         answer, text = self._write_body(request_id, answer)
-        if request_id in self._resolver.referred:
-            self._resolver.record(request_id, answer)
+        if request_id in self.resolver.referred:
+            self.resolver.record(request_id, answer)
         # Before the report, after which another thread may begin what it allows.
         self._has_failed = self._has_failed or (self._mode == "stop" and answer.status >= 400)
-        headers = {name: value for name, value in answer.headers.items() if name not in _NOT_SHOWN}
+        headers = dict(answer.headers)
+        for name in _NOT_SHOWN.intersection(headers):
+            del headers[name]
         try:
             self._run.report(request_id, answer.status, headers or None, text)
         except Fault:
             headers, text = self._report_unread(request_id, answer, headers, text)
-        return Report(request_id, answer.status, headers, text or None)
+        return answer.status, headers, text or None
 
     def _report_unread(
         self, request_id: str, answer: Answer, headers: dict[str, str], text: bytes

@@ -31,15 +31,22 @@ class ReferenceResolver:
         self._requests = {request.id: request for request in requests}
         self._targets = targets_of(base, roots)
         self._urls: dict[str, str] = {}
-        self.referred = {request_id for request in self._requests.values() for request_id in self._references(request)}
+        self.referred: set[str] = set()
+        # The requests whose headers refer to others.
+        self._tagged: set[str] = set()
+        for request in self._requests.values():
+            if request.reference is not None:
+                self.referred.add(request.reference)
+            if request.headers and (tags := set(self._tags_in(request))):
+                self._tagged.add(request.id)
+                self.referred |= tags
         self._answers: dict[str, Answer] = {}
         # What was read in them, since bodies may be long and referred to often.
         self._locations: dict[str, tuple[Optional[str], Optional[str]]] = {}
         self._etags: dict[str, Optional[str]] = {}
 
-    def _references(self, request: Request) -> Iterator[str]:
-        if request.reference is not None:
-            yield request.reference
+    def _tags_in(self, request: Request) -> Iterator[str]:
+        """Yields the requests for whose ETags the headers of another one have references."""
         for name in CONDITIONS:
             value = request.headers.get(name, "")
             if value.startswith("$") and value[1:] in self._requests:
@@ -48,7 +55,7 @@ class ReferenceResolver:
     def record(self, request_id: str, answer: Answer) -> None:
         """Keeps what a request was answered to which others refer, and its URL, if it was not sent from here."""
         self._answers[request_id] = answer
-        if answer.is_success:
+        if request_id not in self._urls and answer.is_success:
             with contextlib.suppress(Refusal):
                 self.url(request_id)
 
@@ -60,7 +67,8 @@ class ReferenceResolver:
                 a reference stands for nothing (424; 400 if the request with the ETag is not in dependsOn).
         """
         given = self._requests[request_id]
-        url, headers, body = self.url(request_id), self.headers(request_id), b""
+        url, body = self.url(request_id), b""
+        headers = self.headers(request_id) if request_id in self._tagged else dict(given.headers)
         if given.body is not None:
             headers.setdefault("content-type", "application/json")
             body = to_wire(given.body, headers)

@@ -1,10 +1,13 @@
 """Where the requests of a batch are sent: below roots, which the library sees to, or anywhere."""
 
+import ctypes
 import re
+import threading
 from typing import Optional, Sequence, Union
 from urllib.parse import quote, unquote, urljoin, urlsplit, urlunsplit
 
-from .._native.calls import resolve
+from .._native import library
+from .._native.calls import MORE, status_error
 from ..http.messages import Refusal
 
 # What stays as it is in a URL, apart from letters, digits, - . _ and ~.
@@ -36,6 +39,9 @@ class ServiceTargets:
         self._path = unquote(parts[0][1])
         self._roots = "\n".join(map("".join, parts)).encode()
         self._hosts = "\n".join(f"{host}/" for host, _ in parts).encode()
+        # What the library writes a URL into. Threads may share this object.
+        self._lock, self._length = threading.Lock(), ctypes.c_size_t()
+        self._text = ctypes.create_string_buffer(len(self._base) + len(self._roots) + MORE)
 
     def target(self, url: str) -> str:
         """Returns where a request with a URL is sent, in ASCII.
@@ -65,14 +71,26 @@ class ServiceTargets:
 
     def _resolve(self, base: bytes, roots: bytes, url: str, sent: str = "", location: str = "", given: str = "") -> str:
         try:
-            found = resolve(base, roots, url.encode(), sent.encode(), location.encode())
+            rest, own, place = url.encode(), sent.encode(), location.encode()
         except UnicodeEncodeError:
             raise _unreadable() from None
-        if found is None:
-            is_elsewhere = given.startswith("/") and not unquote(given).startswith(("//", self._path))
-            hint = ": drop the / that it begins with" if is_elsewhere else ""
-            raise Refusal(404, "NotFound", f"The URL leads out of {self._first}{hint}")
-        return found
+        sizes = len(base), len(roots), len(rest), len(own), len(place)
+        with self._lock:
+            while True:
+                status = library.LIBRARY.odb_resolve(
+                    base, sizes[0], roots, sizes[1], rest, sizes[2], own, sizes[3], place, sizes[4], 0,
+                    self._text, len(self._text), self._length,
+                )  # fmt: skip
+                if status != library.SMALL_BUFFER:
+                    break
+                self._text = ctypes.create_string_buffer(self._length.value)
+            if status == library.DONE:
+                return self._text.raw[: self._length.value].decode()
+        if status not in (library.UNREADABLE, library.OUTSIDE):
+            raise status_error("odb_resolve", status)
+        is_elsewhere = given.startswith("/") and not unquote(given).startswith(("//", self._path))
+        hint = ": drop the / that it begins with" if is_elsewhere else ""
+        raise Refusal(404, "NotFound", f"The URL leads out of {self._first}{hint}")
 
 
 class AnyTargets:

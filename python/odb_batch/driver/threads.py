@@ -9,7 +9,7 @@ from typing import Any, Callable, ContextManager, Optional, Sequence, Union
 
 from .._native.calls import Mode
 from ..documents.encoding import Document, document_bytes
-from ..http.messages import Answer, Answered, PreparedRequest
+from ..http.messages import Answer, Answered, PreparedRequest, validate_answer
 from .execution import Execution, Unit
 
 #: Sends a request, and returns what it is answered.
@@ -156,12 +156,12 @@ def _perform_unit(execution: Execution, unit: Unit, send: Send, transaction: Opt
 def _send_requests(execution: Execution, unit: Unit, send: Send) -> Optional[Answer]:
     """Takes the steps of a unit, and returns in what they end."""
     steps = execution.steps(unit)
-    answered: Union[Answered, Exception, None] = None
+    answered: Union[Answer, Exception, None] = None
     try:
         while True:
             request = steps.send(answered)
             try:
-                answered = send(request)
+                answered = validate_answer(send(request))
             except Exception as error:
                 answered = error
     except StopIteration as end:

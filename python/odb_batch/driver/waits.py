@@ -1,10 +1,11 @@
 """The units of a batch that are out, each in a task of the running loop: what they wait for, and when they have to be over."""
 
 import asyncio
+import math
 import sys
 from typing import Any, AsyncContextManager, Awaitable, Callable, NamedTuple, Optional, Sequence, TypeVar, Union
 
-from ..http.messages import Answer, Answered, PreparedRequest, Refusal, answer_for
+from ..http.messages import Answer, Answered, PreparedRequest, Refusal, answer_for, validate_answer
 from .execution import Execution, Unit
 from .groups import MemberRefused, PreparedGroup
 from .journal import Journal
@@ -17,6 +18,7 @@ SendGroup = Callable[[PreparedGroup], Awaitable[Sequence[Answered]]]
 Gate = Callable[[Union[PreparedRequest, PreparedGroup]], AsyncContextManager[Any]]
 
 _Sent = TypeVar("_Sent")
+_Given = TypeVar("_Given")
 _Result = TypeVar("_Result")
 
 
@@ -56,7 +58,7 @@ class Places:
         loop = asyncio.get_running_loop()
         turn: "asyncio.Future[None]" = loop.create_future()
         self._line[turn] = None
-        timer = None if self._seconds is None else loop.call_later(self._seconds, _give_up, turn)
+        timer = None if self._seconds is None else loop.call_later(self._seconds, self.give_up, turn)
         try:
             await turn
         except asyncio.CancelledError:
@@ -80,41 +82,35 @@ class Places:
                 return turn.set_result(None)
         self._free += 1
 
-
-def _give_up(turn: "asyncio.Future[None]") -> None:
-    if not turn.done():
-        turn.set_exception(Refusal(503, "Busy", "No place was free in time; the request was not sent", retry_after="1"))
+    def give_up(self, turn: "asyncio.Future[None]") -> None:
+        """Refuses a request that has waited for its turn too long."""
+        if not turn.done():
+            turn.set_exception(Refusal(503, "Busy", "No place was free in time; the request was not sent", retry_after="1"))
 
 
 class Deadline:
     """When a batch has to be over, by the clock of the running loop."""
 
     def __init__(self, seconds: Optional[float]) -> None:
-        self._clock = asyncio.get_running_loop().time
-        self.at = None if seconds is None else self._clock() + seconds
+        self.at = None if seconds is None else asyncio.get_running_loop().time() + seconds
         self.is_over = False
-
-    def end(self, timeout: Optional[float]) -> Optional[float]:
-        """Returns when a request has to be over that starts now, or None; raises TimeoutError if that has passed."""
-        if timeout is None and self.at is None:
-            return None
-        now = self._clock()
-        if self.at is not None and self.at <= now:
-            raise asyncio.TimeoutError("the deadline of the batch has passed")
-        if timeout is None:
-            return self.at
-        return now + timeout if self.at is None else min(self.at, now + timeout)
 
 
 class Watch:
     """Cancels tasks that are late, by one timer of the loop for all of them: most tasks end long before.
 
     No task has to be over before one that was watched earlier. It is left by ``with``.
+
+    Args:
+        ends: When all of them have to be over.
+
+    Attributes:
+        running: When each task that is watched has to be over.
     """
 
-    def __init__(self) -> None:
-        self._loop = asyncio.get_running_loop()
-        self._ends: "dict[asyncio.Task[Any], float]" = {}
+    def __init__(self, ends: Deadline) -> None:
+        self._loop, self._end = asyncio.get_running_loop(), math.inf if ends.at is None else ends.at
+        self.running: "dict[asyncio.Task[Any], float]" = {}
         self._late: "set[asyncio.Task[Any]]" = set()
         self._timer: Optional[asyncio.TimerHandle] = None
 
@@ -125,18 +121,25 @@ class Watch:
         if self._timer is not None:
             self._timer.cancel()
 
-    def begin(self, at: float) -> "asyncio.Task[Any]":
-        """Watches the running task, which has to be over at a time; returns it."""
+    def begin(self, timeout: Optional[float]) -> "Optional[asyncio.Task[Any]]":
+        """Watches the running task, which has to be over after a time, if one is given, and at the deadline. Returns it,
+        or None if there is neither; raises TimeoutError if the deadline has passed."""
+        now, at = self._loop.time(), self._end
+        if at <= now:
+            raise asyncio.TimeoutError("the deadline of the batch has passed")
+        if timeout is not None:
+            at = min(at, now + timeout)
         task = asyncio.current_task(self._loop)
-        assert task is not None
-        self._ends[task] = at
+        if at == math.inf or task is None:
+            return None
+        self.running[task] = at
         if self._timer is None:
             self._timer = self._loop.call_at(at, self._cancel_late)
         return task
 
     def end(self, task: "Optional[asyncio.Task[Any]]") -> bool:
         """Watches a task no longer, if there is one. Returns whether this has cancelled it; it is then no longer cancelled by this."""
-        if task is None or self._ends.pop(task, None) is not None or task not in self._late:
+        if task is None or self.running.pop(task, None) is not None or task not in self._late:
             return False
         self._late.remove(task)
         uncancel(task)
@@ -144,11 +147,11 @@ class Watch:
 
     def _cancel_late(self) -> None:
         self._timer = None
-        for task, at in [*self._ends.items()]:
+        for task, at in [*self.running.items()]:
             if at > self._loop.time():
                 self._timer = self._loop.call_at(at, self._cancel_late)
                 return
-            del self._ends[task]
+            del self.running[task]
             self._late.add(task)
             task.cancel()
 
@@ -161,8 +164,8 @@ def uncancel(task: "Optional[asyncio.Task[Any]]") -> int:
 
 async def within(seconds: float, result: Awaitable[_Result]) -> _Result:
     """Returns what something results in; raises asyncio.TimeoutError if that takes longer."""
-    with Watch() as watch:
-        task = watch.begin(asyncio.get_running_loop().time() + seconds)
+    with Watch(Deadline(seconds)) as watch:
+        task = watch.begin(None)
         try:
             return await result
         except asyncio.CancelledError:
@@ -187,7 +190,7 @@ class UnitOptions(NamedTuple):
 
 async def perform_units(execution: Execution, width: int, options: UnitOptions) -> None:
     """Performs all units of a batch; raises what one of them ends by, if that is not reported."""
-    with Watch() as watch:
+    with Watch(options.ends) as watch:
         await _Tasks(execution, width, options, watch).run()
     if options.journal is not None:
         await options.journal.sync()
@@ -201,14 +204,15 @@ class _Tasks:
         self._out: "set[asyncio.Task[None]]" = set()
         # Those that wait for a place.
         self._waiting: "set[asyncio.Task[Any]]" = set()
-        self._finished: "asyncio.Future[None]" = asyncio.get_running_loop().create_future()
+        self._loop = asyncio.get_running_loop()
+        self._finished: "asyncio.Future[None]" = self._loop.create_future()
         # Whether the batch is cancelled, and with it what is out.
         self._is_cancelled = False
 
     async def run(self) -> None:
         """Performs all units."""
         at = self._options.ends.at
-        timer = None if at is None else asyncio.get_running_loop().call_at(at, self._expire)
+        timer = None if at is None else self._loop.call_at(at, self._expire)
         try:
             for unit in self._execution.resumed:
                 self._start(unit)
@@ -248,7 +252,7 @@ class _Tasks:
             self._finished.set_result(None)
 
     def _start(self, unit: Unit) -> None:
-        task = asyncio.ensure_future(self._perform(unit))
+        task = self._loop.create_task(self._perform(unit))
         self._out.add(task)
         task.add_done_callback(self._on_end)
 
@@ -269,12 +273,17 @@ class _Tasks:
     async def _perform(self, unit: Unit) -> None:
         gate = self._options.gate
         if gate is None:
-            return await self._perform_unit(unit)
-        if isinstance(gate, Places) and gate.take():  # most have one at once
+            await self._perform_unit(unit)
+        elif isinstance(gate, Places) and gate.take():  # most have one at once
             try:
-                return await self._perform_unit(unit)
+                await self._perform_unit(unit)
             finally:
                 gate.leave()
+        else:
+            await self._perform_in(gate, unit)
+
+    async def _perform_in(self, gate: Union[AsyncContextManager[Any], Gate], unit: Unit) -> None:
+        """Performs a unit once it has its place."""
         place, refused = await self._take_place(unit, gate)
         try:
             if refused is None:
@@ -315,20 +324,23 @@ class _Tasks:
     def _outgoing(self, unit: Unit) -> Union[PreparedRequest, PreparedGroup, None]:
         """Returns what of a unit is sent first, or None if that cannot be sent."""
         try:
-            is_one = unit.group is not None and self._options.groups is not None
-            return self._execution.prepare_group(unit) if is_one else self._execution.prepare(unit)
+            if unit.group is not None and self._options.groups is not None:
+                return self._execution.prepare_group(unit)
+            unit.prepared = self._execution.resolver.prepare(unit.ids[0])
+            return unit.prepared
         except (MemberRefused, Refusal):
             return None
 
-    async def _perform_unit(self, unit: Unit) -> None:
+    def _perform_unit(self, unit: Unit) -> Awaitable[object]:
         """Performs a unit that has its place, unless nothing more starts."""
+        return self._send_requests(unit) if unit.group is None else self._perform_group(unit, unit.group)
+
+    async def _perform_group(self, unit: Unit, group: str) -> None:
         options, execution = self._options, self._execution
-        if unit.group is None:
-            await self._send_requests(unit)
-        elif not execution.confirm(unit):
+        if not execution.confirm(unit):
             return
-        elif options.transaction is not None:
-            await self._send_in(options.transaction(unit.group), unit)
+        if options.transaction is not None:
+            await self._send_in(options.transaction(group), unit)
         elif options.groups is not None:
             if options.journal is not None:
                 await options.journal.sync()
@@ -351,38 +363,36 @@ class _Tasks:
     async def _send_group(self, unit: Unit, send: SendGroup) -> Union[Sequence[Answered], BaseException]:
         """Sends a group as one."""
         try:
-            group = self._execution.prepare_group(unit)
+            return await self._answered(send, self._execution.prepare_group(unit), list)
         except MemberRefused as refused:
             return refused
-        return await self._answered(send, group)
 
     def _is_to_end(self) -> bool:
-        """Whether the running task is cancelled, not something that it waited for."""
-        return self._is_cancelled or _is_cancelling()
+        """Whether the running task is cancelled, not something that it waited for; until Python 3.11 nobody can say."""
+        return self._is_cancelled or getattr(asyncio.current_task(), "cancelling", int)() > 0
 
     async def _send_requests(self, unit: Unit) -> Optional[Answer]:
         """Takes the steps of a unit, and returns in what they end."""
         steps, journal = self._execution.steps(unit), self._options.journal
-        answered: Union[Answered, BaseException, None] = None
+        answered: Union[Answer, BaseException, None] = None
         try:
             while True:
                 request = steps.send(answered)
                 if journal is not None and request.method != "GET":
                     await journal.sync()
-                answered = await self._answered(self._options.send, request)
+                answered = await self._answered(self._options.send, request, validate_answer)
         except StopIteration as end:
             answer: Optional[Answer] = end.value
             return answer
 
     async def _answered(
-        self, send: Callable[[_Sent], Awaitable[_Result]], sent: _Sent
+        self, send: Callable[[_Sent], Awaitable[_Given]], sent: _Sent, read: Callable[[_Given], _Result]
     ) -> Union[_Result, BaseException]:
-        """Sends a request or a group; returns what that is answered, or the exception in place of an answer."""
+        """Sends a request or a group; returns what is read of its answer, or the exception in place of that."""
         watch, task = self._watch, None
         try:
-            end = self._options.ends.end(self._options.timeout)
-            task = None if end is None else watch.begin(end)
-            return await send(sent)
+            task = watch.begin(self._options.timeout)
+            return read(await send(sent))
         except asyncio.CancelledError as error:
             is_late = watch.end(task)
             if self._is_to_end():
@@ -392,10 +402,5 @@ class _Tasks:
         except Exception as error:
             return error
         finally:
-            watch.end(task)
-
-
-def _is_cancelling() -> bool:
-    """Whether somebody has cancelled the running task; until Python 3.11 nobody can say."""
-    task = asyncio.current_task()
-    return bool(task is not None and getattr(task, "cancelling", int)())
+            if task is not None and watch.running.pop(task, None) is None:
+                watch.end(task)

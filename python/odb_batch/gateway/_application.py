@@ -5,7 +5,7 @@ import contextlib
 import itertools
 import time
 from dataclasses import replace
-from typing import AsyncContextManager, AsyncIterator, Awaitable, Dict, Optional, cast
+from typing import AsyncContextManager, AsyncIterator, Awaitable, Optional, cast
 
 from aiohttp import web
 
@@ -157,7 +157,7 @@ class Gateway:
     async def _answer(self, request: web.Request, budget: BodyBudget) -> Answer:
         """Returns what a batch is answered; counts it and writes a line of the log."""
         began, code, batch = time.perf_counter(), "", None
-        context: Dict[str, object] = {"number": next(self._numbers), "from": request.remote or ""}
+        context: dict[str, object] = {"number": next(self._numbers), "from": request.remote or ""}
         BATCH.set(context)
         try:
             headers = self._headers(request)
@@ -181,12 +181,12 @@ class Gateway:
         log_line({**words, **counts, "bytes": size, "gone": gone, "ms": f"{1000 * seconds:.1f}"})
         return answer
 
-    def _logged_client(self, headers: Dict[str, str]) -> str:
+    def _logged_client(self, headers: dict[str, str]) -> str:
         """Returns who the client is, as the log has it: no credential."""
         name = self._options.client_header
         return "" if name is None or name in self._options.credentials else headers.get(name, "")
 
-    def _headers(self, request: web.Request) -> Dict[str, str]:
+    def _headers(self, request: web.Request) -> dict[str, str]:
         """Returns the headers of a request that hold for its batch."""
         headers = self._client_headers.read(request.headers.items())
         try:
@@ -195,7 +195,7 @@ class Gateway:
             raise Refusal(400, "BadHeader", "The URL or a header has bytes that are not UTF-8") from None
         return headers
 
-    def _batch(self, request: web.Request, headers: Dict[str, str], budget: BodyBudget) -> GatewayBatch:
+    def _batch(self, request: web.Request, headers: dict[str, str], budget: BodyBudget) -> GatewayBatch:
         """Returns the batch of a request before it is read; raises Refusal if it is not one."""
         scheme = headers.get("x-forwarded-proto", "").partition(",")[0].strip().lower()
         scheme = scheme if scheme in ("http", "https") else request.scheme
@@ -212,7 +212,7 @@ class Gateway:
         return GatewayBatch(self._options, self._upstream, batch_request, forwarded, public_base, budget)
 
     async def _perform(
-        self, request: web.Request, headers: Dict[str, str], batch: GatewayBatch, budget: BodyBudget
+        self, request: web.Request, headers: dict[str, str], batch: GatewayBatch, budget: BodyBudget
     ) -> Answer:
         """Reads and performs a batch; raises what it is refused by."""
         self._require_running()
@@ -224,7 +224,7 @@ class Gateway:
             document = await self._read(request, budget)
             self._require_running()
             if self._journals is not None and repeatable is not None:
-                same = (request.path, str(self._options.forwards), headers.get("prefer", ""))
+                same = (request.path, str(self._options.groups == "forward"), headers.get("prefer", ""))
                 parts = {"sender": digest(*map(str.encode, same)), "sent": repeatable.first_sent}
                 first = identity(batch=digest(document), mode=batch.mode, **parts)
                 opening = self._journals.journal(repeatable.key, first, budget.hold)

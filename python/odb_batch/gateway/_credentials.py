@@ -1,6 +1,6 @@
 """Which service gets the headers by which it knows a client, and which headers are the gateway's own."""
 
-from typing import Dict, FrozenSet, Iterable, Sequence, Tuple
+from typing import Iterable, Sequence
 
 from ..http.messages import header_dict
 from ._routes import Route
@@ -30,7 +30,7 @@ class ClientHeaders:
     def __init__(self, known: Iterable[str]) -> None:
         self._lasting = _LASTING.union(known)
 
-    def read(self, given: Iterable[Tuple[str, str]]) -> Dict[str, str]:
+    def read(self, given: Iterable[tuple[str, str]]) -> dict[str, str]:
         """Returns headers by their names in lower case, but for those of the connection (RFC 9110, section 7.6.1), and
         for what proxies say in another way than by X-Forwarded-For, -Host and -Proto, unless that is known."""
         headers = header_dict(given)
@@ -53,20 +53,24 @@ class Credentials:
         named: The names in lower case of the headers that are credentials.
         sent: Names of headers with the prefix of the route to which they are sent. If there are none, the one service
             of all routes gets all; of several services none gets any.
+
+    Attributes:
+        are_held_back: Whether there are several services, of which none gets any.
+        withheld: What the service of a route does not get, by its prefix.
     """
 
-    def __init__(self, routes: Sequence[Route], named: Iterable[str], sent: Sequence[Tuple[str, str]]) -> None:
+    def __init__(self, routes: Sequence[Route], named: Iterable[str], sent: Sequence[tuple[str, str]]) -> None:
         names = frozenset(named).union(name for name, _ in sent)
         self.are_held_back = not sent and len({route.origin for route in routes}) > 1
-        self._withheld: Dict[str, FrozenSet[str]] = {}
+        self.withheld: dict[str, frozenset[str]] = {}
         for route in routes:
             own = {name for name, prefix in sent if prefix == route.prefix}
-            self._withheld[route.prefix] = names - own if sent or self.are_held_back else frozenset()
+            self.withheld[route.prefix] = names - own if sent or self.are_held_back else frozenset()
 
-    def headers_for(self, routes: Iterable[Route], headers: Dict[str, str]) -> Dict[str, str]:
+    def headers_for(self, routes: Iterable[Route], headers: dict[str, str]) -> dict[str, str]:
         """Returns headers without those that the service of some routes does not get."""
         for route in routes:
-            withheld = self._withheld[route.prefix]
+            withheld = self.withheld[route.prefix]
             if not withheld.isdisjoint(headers):
                 headers = {name: value for name, value in headers.items() if name not in withheld}
         return headers

@@ -1,30 +1,14 @@
-"""What a service has answered, as a batch has it: headers by their names, and bodies without their coding."""
+"""Bodies of answers without their coding."""
 
 import zlib
-from typing import Any, Dict, Iterable, Iterator, Tuple
+from typing import Any, Iterator
 
-from ..http.messages import Refusal, header_dict
+from ..http.messages import Refusal
 
-# The headers that requests of a batch refer to, and of which an answer has one.
-_SINGLE = frozenset({"content-location", "etag", "location", "odata-entityid"})
 # The formats of zlib: gzip, and deflate with its frame and without.
 _GZIP, _ZLIB, _RAW = 31, 15, -15
 # How many bytes are made of a part at once.
 _MOST = 65_536
-
-
-def answer_headers(pairs: Iterable[Tuple[str, str]]) -> Dict[str, str]:
-    """Returns the headers of an answer by their names in lower case. One that names a resource or a version is dropped
-    if it comes several times with different values: a request that refers to it would go somewhere else."""
-    lines = list(pairs)
-    headers = header_dict(lines)
-    if len(headers) < len(lines):
-        for name in _SINGLE & headers.keys():
-            values = {value for other, value in lines if other.lower() == name}
-            headers[name] = values.pop()
-            if values:
-                del headers[name]
-    return headers
 
 
 class Decoder:

@@ -5,7 +5,6 @@ import socket
 import ssl
 import time
 from collections import Counter
-from typing import Dict
 from urllib.parse import urlsplit
 
 import aiohttp
@@ -39,7 +38,7 @@ class FailureLog:
 
     def __init__(self) -> None:
         # Services by their routes, so there are few: when there was a line, and how many were left out since.
-        self._last: Dict[str, float] = {}
+        self._last: dict[str, float] = {}
         self._left_out: "Counter[str]" = Counter()
 
     def write(self, url: str, code: str, reason: str, detail: object = "") -> None:

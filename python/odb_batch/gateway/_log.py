@@ -5,13 +5,13 @@ import logging
 import re
 import time
 from contextvars import ContextVar
-from typing import Dict, Mapping
+from typing import Mapping
 from urllib.parse import quote
 
 from ..http.messages import LOG
 
 #: What each line says of the batch that is on its way: its number in this process, its client and its trace.
-BATCH: "ContextVar[Dict[str, object]]" = ContextVar("batch", default={})
+BATCH: "ContextVar[dict[str, object]]" = ContextVar("batch", default={})
 #: Writes a line for each batch at INFO, and for each request at DEBUG.
 LINES = LOG.getChild("gateway")
 # What a value has as it is: printable ASCII but a space.
@@ -25,7 +25,7 @@ def trace_id(headers: Mapping[str, str]) -> str:
     return match[1] if match else ""
 
 
-def log_line(values: Dict[str, object], level: int = logging.INFO) -> None:
+def log_line(values: dict[str, object], level: int = logging.INFO) -> None:
     """Writes a line of names with their values; what is empty is left out. Lines about requests have the level DEBUG."""
     LINES.log(level, values)
 
@@ -40,7 +40,7 @@ class _Formatter(logging.Formatter):
     def format(self, record: logging.LogRecord) -> str:
         moment = time.strftime("%Y-%m-%dT%H:%M:%SZ", time.gmtime(record.created))
         given: object = record.msg
-        own: Dict[str, object] = given if isinstance(given, dict) else {"level": record.levelname.lower()}
+        own: dict[str, object] = given if isinstance(given, dict) else {"level": record.levelname.lower()}
         values = {**own, **BATCH.get(), "worker": self._worker, **own}
         values = {name: value for name, value in values.items() if value != ""}
         message = "" if own is given else super().format(record)

@@ -1,7 +1,7 @@
 """What is counted of batches and requests, for Prometheus."""
 
 import os
-from typing import Any, Callable, Iterator, Tuple
+from typing import Any, Callable, Iterator
 
 from ..driver.waits import Places
 from ..http.budget import MemoryBudget
@@ -16,7 +16,10 @@ class Counts:
 
     Attributes:
         batches_running, requests_running: How many are on their way.
+        has_metrics: Whether the other methods count anything.
     """
+
+    has_metrics = False
 
     def __init__(self) -> None:
         self.batches_running = self.requests_running = 0
@@ -39,6 +42,8 @@ class Counts:
 
 class Metrics(Counts):
     """What is counted since the start of the process. It needs prometheus_client."""
+
+    has_metrics = True
 
     def __init__(self, options: Options, budget: MemoryBudget) -> None:
         os.environ.setdefault("PROMETHEUS_DISABLE_CREATED_SERIES", "True")  # else each counter has a second sample
@@ -63,7 +68,7 @@ class Metrics(Counts):
         ProcessCollector(registry=self._registry)
         PlatformCollector(registry=self._registry)
 
-    def _gauges(self, options: Options, budget: MemoryBudget) -> Iterator[Tuple[str, str, Callable[[], float]]]:
+    def _gauges(self, options: Options, budget: MemoryBudget) -> Iterator[tuple[str, str, Callable[[], float]]]:
         yield "batches_running", "Batches on their way.", lambda: self.batches_running
         yield "requests_running", "Requests on their way to services.", lambda: self.requests_running
         yield "memory_used", "Bytes that batches and their answers hold.", lambda: budget.used
@@ -89,7 +94,7 @@ class Metrics(Counts):
     def watch_journals(self, journals: Journals) -> None:
         self._registry.register(_JournalCollector(journals))
 
-    def page(self) -> Tuple[str, bytes]:
+    def page(self) -> tuple[str, bytes]:
         """Returns all of it as Prometheus reads it: the media type, and the text."""
         from prometheus_client import CONTENT_TYPE_LATEST, generate_latest
 

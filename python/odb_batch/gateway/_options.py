@@ -3,8 +3,9 @@
 import argparse
 import sys
 from dataclasses import dataclass, field, fields
-from typing import Any, Callable, Optional, Sequence, Tuple, Union
+from typing import Any, Callable, Optional, Sequence, Union
 
+from ..driver.execution import MAX_BODY_BYTES
 from ..http.budget import DEFAULT_MEMORY
 from ..http.observation import OnRequest
 from . import _values as values
@@ -35,12 +36,12 @@ def _choice(default: str, choices: Sequence[str], explanation: str) -> Any:
 class Options:
     """What a gateway is told: each option by its name, as the help explains it, and what follows from them."""
 
-    upstream: Tuple[Route, ...] = _each("URL", values.upstream, "the root of a service; its path is the same here")
-    route: Tuple[Route, ...] = _each("PREFIX=URL", values.route, "where paths with a prefix go; the longest counts")
+    upstream: tuple[Route, ...] = _each("URL", values.upstream, "the root of a service; its path is the same here")
+    route: tuple[Route, ...] = _each("PREFIX=URL", values.route, "where paths with a prefix go; the longest counts")
     groups: str = _choice("refuse", ("refuse", "forward"), "answers atomicity groups 501, or sends each as a batch")
-    allow: Tuple[str, ...] = _each("NAME", values.inner_header, "a further header that requests of a batch may have")
-    credential: Tuple[str, ...] = _each("NAME", values.header, "a further header by which services know a client")
-    send: Tuple[Tuple[str, str], ...] = _each(
+    allow: tuple[str, ...] = _each("NAME", values.inner_header, "a further header that requests of a batch may have")
+    credential: tuple[str, ...] = _each("NAME", values.header, "a further header by which services know a client")
+    send: tuple[tuple[str, str], ...] = _each(
         "HEADER=PREFIX", values.credential_route, "the route that gets a credential; by default the one service, or none"
     )
     width: int = _option(8, "N", values.width, "requests or groups of a batch at once")
@@ -50,7 +51,7 @@ class Options:
     connections: int = _option(100, "N", values.number, "requests of all batches at once to one service; others wait")
     keep_alive: float = _option(1, "S", values.seconds, "seconds to keep a connection, fewer than services do")
     limit: int = _option(1_000, "N", values.number, "requests in a batch, else 413")
-    max_size: int = _option(16_777_216, "BYTES", values.size, "of a batch, else 413, and of its answers together")
+    max_size: int = _option(MAX_BODY_BYTES, "BYTES", values.size, "of a batch, else 413, and of its answers together")
     memory: int = _option(DEFAULT_MEMORY, "BYTES", values.number, "of all batches and their answers, else 503")
     journal: str = _option("", "PLACE", str, "a folder or postgresql://.. for batches with a Repeatability-Request-ID")
     journal_size: int = _option(16_384, "MB", values.number, "megabytes of the journals in a folder, else 503")
@@ -73,19 +74,14 @@ class Options:
     config: str = _option("", "FILE", str, "a file in TOML that has options by their names, and tables of routes")
 
     @property
-    def routes(self) -> Tuple[Route, ...]:
+    def routes(self) -> tuple[Route, ...]:
         """Where requests go."""
         return (*self.route, *self.upstream)
 
     @property
-    def credentials(self) -> Tuple[str, ...]:
+    def credentials(self) -> tuple[str, ...]:
         """The headers by which services know a client."""
         return (*USUAL, *self.credential)
-
-    @property
-    def forwards(self) -> bool:
-        """Whether groups are sent."""
-        return self.groups == "forward"
 
 
 def parser(program: str = PROGRAM) -> argparse.ArgumentParser:

@@ -1,12 +1,15 @@
 """Where the requests of a batch go: services by the prefixes of paths, and back."""
 
+import contextlib
 import re
-from dataclasses import dataclass
-from typing import Iterable, List, Optional, Tuple
+from dataclasses import dataclass, replace
+from typing import Any, AsyncContextManager, Iterable, Mapping, Optional, Union
 from urllib.parse import SplitResult, urljoin, urlsplit, urlunsplit
 
+from ..driver.groups import PreparedGroup
+from ..driver.waits import Places
 from ..http.batch_request import batch_folder
-from ..http.messages import Refusal
+from ..http.messages import Answer, PreparedRequest, Refusal
 
 _ESCAPE = re.compile("%[0-9A-Fa-f]{2}")
 # What may be escaped in a path without another meaning (RFC 3986, section 2.4; OData URL Conventions 4.01, section 2).
@@ -17,6 +20,8 @@ _IS_BATCH = re.compile(r"/\$batch((;|%3B)[^/]*)?/*$").search
 # What may follow a prefix: the key of an entity, or a further segment.
 _ENDS = ("", "/", "(")
 _PORTS = {"http": 80, "https": 443}
+#: The headers of an answer that have a URL.
+URL_HEADERS = frozenset({"location", "content-location", "odata-entityid"})
 
 
 def normalize_path(path: str) -> str:
@@ -65,12 +70,12 @@ class Routes:
 
     def __init__(self, routes: Iterable[Route]) -> None:
         self._routes = sorted(routes, key=lambda route: len(route.prefix), reverse=True)
-        self._by_upstream: List[Tuple[str, str, Route]] = []
+        self._by_upstream: list[tuple[str, str, Route]] = []
         for route in sorted(self._routes, key=lambda route: len(route.upstream), reverse=True):
             parts = urlsplit(route.upstream)
             self._by_upstream.append((_host(parts), normalize_path(parts.path), route))
 
-    def target(self, url: str) -> Tuple[Route, str]:
+    def target(self, url: str) -> tuple[Route, str]:
         """Returns the route of a URL that clients see, and the URL that is sent.
 
         Raises:
@@ -116,6 +121,41 @@ class Routes:
                 front = client[:2] if given.netloc or path.startswith("//") else ("", "")
                 return urlunsplit((*front, path, whole.query, whole.fragment))
         return location
+
+    def public_answer(self, base: str, request_url: str, answer: Answer) -> Answer:
+        """Returns an answer of a service with the URLs in its headers as clients see them; the arguments are as of `public`."""
+        headers = dict(answer.headers)
+        for name in URL_HEADERS & headers.keys():
+            headers[name] = self.public(base, request_url, headers[name])
+        return replace(answer, headers=headers)
+
+
+class BatchTargets:
+    """Where the requests of one batch go: the route of each is found once, when its place is asked for.
+
+    Args:
+        routes: All routes.
+        places: What bounds the requests to the service of a route, by its prefix.
+
+    Attributes:
+        found: The routes that were found, with the URL that is sent, by the ids of the requests.
+    """
+
+    def __init__(self, routes: Routes, places: Mapping[str, Places]) -> None:
+        self._routes, self._places = routes, places
+        self.found: dict[str, Optional[tuple[Route, str]]] = {}
+
+    def gate(self, outgoing: Union[PreparedRequest, PreparedGroup]) -> AsyncContextManager[Any]:
+        """Returns what bounds the requests to the service of a request or a group; nothing if no route takes that."""
+        try:
+            if isinstance(outgoing, PreparedGroup):
+                first = next(request for request in outgoing.requests if request.reference is None)
+                route, _ = self._routes.target(first.url)
+            else:
+                route, _ = self.found[outgoing.id] = self._routes.target(outgoing.url)
+        except Refusal:
+            return contextlib.AsyncExitStack()
+        return self._places[route.prefix]
 
 
 def _takes(prefix: str, path: str) -> bool:

@@ -1,24 +1,34 @@
-"""Sends requests to services, over connections that are kept."""
+"""Requests to services: where they go, with which headers, over connections that are kept, and what they are answered."""
 
 import asyncio
+import logging
 import ssl
-from typing import Any, Dict, Optional
+import time
+from typing import Any, Collection, Mapping, Optional
+from urllib.parse import urlsplit
 
 import aiohttp
 from yarl import URL
 
 from ..driver.waits import Places
-from ..http.budget import BodyBudget, BodyReader
-from ..http.messages import Answer, PreparedRequest, Refusal
+from ..http.batch_request import HeaderPolicy
+from ..http.budget import BodyBudget
+from ..http.messages import TIMED_OUT, Answer, PreparedRequest, Refusal, header_dict
+from ..http.observation import notify
 from ..journals import Late, StoreJournal
 from ._credentials import Credentials
-from ._decoding import Decoder, answer_headers
+from ._decoding import Decoder
 from ._failures import FailureLog, error_code, failure_reason
+from ._log import LINES, log_line, trace_id
 from ._metrics import Counts
 from ._options import Options
-from ._routes import Route, Routes
+from ._routes import URL_HEADERS, BatchTargets, Route, Routes
 
 _PART = 65_536
+# The headers that requests of a batch refer to, and of which an answer has one.
+_SINGLE = URL_HEADERS | {"etag"}
+# What was not sent, by the code of its answer.
+_UNSENT = ("Stopping", "Unreachable", "NoJournal", "InProgress")
 
 
 async def _send_once(_: aiohttp.ClientSession, context: Any, __: Any) -> None:
@@ -47,13 +57,14 @@ class _ServicePlaces(Places):
         super().__init__(count, seconds)
         self._service, self._upstream = service, upstream
 
-    async def __aenter__(self) -> None:
-        try:
-            await super().__aenter__()
-        except Refusal:
-            self._upstream.counts.fault("Busy")
-            self._upstream.failures.write(self._service, "Busy", "connections")
-            raise
+    def give_up(self, turn: "asyncio.Future[None]") -> None:
+        if not turn.done():  # what has its place is late at the same time, and ends first
+            asyncio.get_running_loop().call_soon(self._note_busy)
+        super().give_up(turn)
+
+    def _note_busy(self) -> None:
+        self._upstream.counts.fault("Busy")
+        self._upstream.failures.write(self._service, "Busy", "connections")
 
 
 class UpstreamClient:
@@ -64,6 +75,8 @@ class UpstreamClient:
         credentials: Which service gets which credentials.
         counts: What is counted of them.
         failures: Logs why services have not answered.
+        places: What bounds how many requests are on their way to the service of a route, by its prefix: each has a place
+            before it is sent, and is 503 ``Busy`` after the time-out of waiting.
         is_stopping: Whether no further request is sent.
     """
 
@@ -71,12 +84,13 @@ class UpstreamClient:
         self._options, self.counts, self.failures = options, counts, FailureLog()
         self.routes = Routes(options.routes)
         self.credentials = Credentials(options.routes, options.credentials, options.send)
-        self._places: Dict[str, _ServicePlaces] = {}
+        lines: dict[str, _ServicePlaces] = {}
         for route in options.routes:
-            if route.line not in self._places:
+            if route.line not in lines:
                 count, seconds = route.connections or options.connections, route.timeout or options.timeout
-                self._places[route.line] = _ServicePlaces(route.origin, count, seconds, self)
-                counts.watch_queue(route.line, self._places[route.line])
+                lines[route.line] = _ServicePlaces(route.origin, count, seconds, self)
+                counts.watch_queue(route.line, lines[route.line])
+        self.places = {route.prefix: lines[route.line] for route in options.routes}
         self.is_stopping = self._is_broken_off = False
 
     async def open(self) -> None:
@@ -114,11 +128,6 @@ class UpstreamClient:
         """Breaks what is on its way off: it is answered 504 ``Stopped``."""
         self._is_broken_off = True
         await self._connector.close()
-
-    def places(self, route: Route) -> Places:
-        """Returns what bounds how many requests are on their way to the service of a route: each has a place before it
-        is sent, and is 503 ``Busy`` after the time-out of waiting."""
-        return self._places[route.line]
 
     async def send(
         self, route: Route, request: PreparedRequest, budget: BodyBudget, journal: Optional[StoreJournal] = None
@@ -166,7 +175,7 @@ class UpstreamClient:
     ) -> Answer:
         """Returns the answer of a service; raises Refusal if there is no room for it, or it cannot be shown."""
         session = self.session(request.method, journal is not None)
-        options: Dict[str, Any] = {
+        options: dict[str, Any] = {
             "headers": request.headers,
             "data": request.body or None,
             "allow_redirects": False,
@@ -176,14 +185,16 @@ class UpstreamClient:
         async with session.request(request.method, URL(request.url, encoded=True), **options) as response:
             if not 200 <= response.status <= 599:
                 raise Refusal(502, "BadGateway", f"The service has answered with the status {response.status}")
-            with budget.read(request.method) as reader:
-                await _read_body(response, reader)
-                return Answer(response.status, answer_headers(response.headers.items()), reader.body())
+            body = await _read_body(response, request.method, budget)
+            headers = header_dict(response.headers.items())
+            if len(headers) < len(response.headers):
+                _drop_ambiguous(headers, response.headers)
+            return Answer(response.status, headers, body)
 
 
-def _route_options(route: Route) -> Dict[str, Any]:
+def _route_options(route: Route) -> dict[str, Any]:
     """Returns what requests of a route have in place of what those of all have."""
-    options: Dict[str, Any] = {} if route.timeout is None else {"timeout": aiohttp.ClientTimeout(route.timeout)}
+    options: dict[str, Any] = {} if route.timeout is None else {"timeout": aiohttp.ClientTimeout(route.timeout)}
     if route.ca or route.certificate:
         try:
             options["ssl"] = context = ssl.create_default_context(cafile=route.ca or None)
@@ -203,16 +214,111 @@ async def _wait_for_lease(journal: Optional[StoreJournal]) -> None:
         raise Refusal(503, "NoJournal", "The journal cannot be reached; the request was not sent") from None
 
 
-async def _read_body(response: aiohttp.ClientResponse, reader: BodyReader) -> None:
-    """Reads the body of an answer without its coding, as far as it is kept; raises Refusal if it cannot be read: 502
+async def _read_body(response: aiohttp.ClientResponse, method: str, budget: BodyBudget) -> bytes:
+    """Returns the body of an answer without its coding, as far as it is kept; raises Refusal if it cannot be read: 502
     ``Encoded``."""
     coding = response.headers.get("Content-Encoding", "").strip().lower()
     is_coded = coding not in ("", "identity") and response.status not in (204, 304)
     decoder = Decoder(coding) if is_coded else None
     content = response.content
-    while not content.at_eof():
-        part = await content.read(_PART)
-        if not (reader.add(part) if decoder is None else all(map(reader.add, decoder.decode(part)))):
-            return
-    if decoder is not None:
-        decoder.require_end()
+    with budget.read(method) as reader:
+        while not content.at_eof():
+            part = await content.read(_PART)
+            if not (reader.add(part) if decoder is None else all(map(reader.add, decoder.decode(part)))):
+                return reader.body()
+        if decoder is not None:
+            decoder.require_end()
+        return reader.body()
+
+
+def _drop_ambiguous(headers: dict[str, str], given: Mapping[str, str]) -> None:
+    """Drops a header that names a resource or a version, and comes several times with different values: a request that
+    refers to it would go somewhere else."""
+    for name in _SINGLE & headers.keys():
+        values = {value for other, value in given.items() if other.lower() == name}
+        headers[name] = values.pop()
+        if values:
+            del headers[name]
+
+
+class ServiceRequests:
+    """The requests of one batch, as they are sent to the services of their routes.
+
+    Args:
+        upstream: Sends them.
+        options: Those of the gateway.
+        policy: Which headers of the batch they have.
+        forwarded: The headers by which services see who has sent the batch.
+        public_base: A URL with the scheme and the host that the client has asked, as services see them.
+        budget: What the batch may hold in memory.
+
+    Attributes:
+        targets: Where they go.
+        journal: The journal of the batch, if it may be sent again.
+        sent: How many requests and groups were sent so far.
+        failed: How many of those that were sent, or could not be sent, were not answered 2xx or 3xx.
+    """
+
+    def __init__(
+        self, upstream: UpstreamClient, options: Options, policy: HeaderPolicy, forwarded: dict[str, str], public_base: str,
+        budget: BodyBudget,
+    ) -> None:  # fmt: skip
+        self._upstream, self._options, self._counts = upstream, options, upstream.counts
+        self._policy, self._forwarded, self._public_base, self._budget = policy, forwarded, public_base, budget
+        self.journal: Optional[StoreJournal] = None
+        self.sent = self.failed = 0
+        self.targets = BatchTargets(upstream.routes, upstream.places)
+        # What all requests of a route have, by its prefix.
+        self._common: dict[str, dict[str, str]] = {}
+
+    async def send(self, request: PreparedRequest) -> Answer:
+        """Sends a request to the service of its route."""
+        try:
+            route, url = self.targets.found.pop(request.id, None) or self._upstream.routes.target(request.url)
+            own = self._policy.own(request.headers) if request.headers else {}
+            if not self._upstream.credentials.withheld[route.prefix].isdisjoint(own):
+                own = self._upstream.credentials.headers_for([route], own)
+            common = self._common.get(route.prefix) or self._common_headers(route)
+            outgoing = PreparedRequest(request.id, request.method, url, {**common, **own}, request.body)
+            answer = await self.exchange(route, outgoing)
+            if URL_HEADERS.isdisjoint(answer.headers):
+                return answer
+            return self._upstream.routes.public_answer(self._public_base, url, answer)
+        except Refusal as refusal:
+            self._counts.fault(error_code(refusal.answer))
+            raise
+
+    def _common_headers(self, route: Route) -> dict[str, str]:
+        found = self._common[route.prefix] = self.headers_for([route], route.upstream, self._policy.inherited)
+        return found
+
+    def headers_for(self, routes: Collection[Route], url: str, headers: dict[str, str]) -> dict[str, str]:
+        """Returns the headers of a request to a URL: those that the service of its routes gets, and the gateway's."""
+        kept = self._upstream.credentials.headers_for(routes, headers)
+        return {"accept-encoding": "identity", **kept, **self._forwarded, "host": urlsplit(url).netloc}
+
+    async def exchange(self, route: Route, request: PreparedRequest) -> Answer:
+        """Sends a request, and counts and logs it."""
+        answer, code = TIMED_OUT, ""  # at the deadline of the batch
+        on_answer = None if self._options.on_request is None else self._options.on_request(request)
+        began = time.perf_counter()
+        self._counts.requests_running += 1
+        try:
+            answer = await self._upstream.send(route, request, self._budget, self.journal)
+            return answer
+        except Refusal as refusal:
+            answer, code = refusal.answer, error_code(refusal.answer)
+            raise
+        finally:
+            self._counts.requests_running -= 1
+            seconds, status = time.perf_counter() - began, answer.status
+            if self._counts.has_metrics:
+                self._counts.request(route.prefix, request.method, status, seconds)
+            self.sent += code not in _UNSENT
+            self.failed += not 200 <= status < 400
+            if LINES.isEnabledFor(logging.DEBUG):
+                words = {"request": request.id, "method": request.method, "url": request.url.partition("?")[0]}
+                more = {"status": status, "code": code, "ms": f"{1000 * seconds:.1f}"}
+                log_line({**words, **more, "trace": trace_id(request.headers)}, logging.DEBUG)
+            if on_answer is not None:
+                notify(on_answer, answer)

@@ -4,10 +4,12 @@ import argparse
 import importlib
 import re
 from dataclasses import replace
-from typing import Any, Callable, Dict, List, Mapping, NamedTuple, Tuple, Union, cast
+from typing import Any, Callable, Mapping, NamedTuple, Union, cast
 from urllib.parse import urlsplit
 
+from .. import arguments
 from .._native.calls import MAX_WIDTH
+from ..arguments import require
 from ..driver.execution import MAX_BODY_BYTES
 from ..http.batch_request import is_of_connection
 from ..http.observation import OnRequest
@@ -37,12 +39,6 @@ class Address(NamedTuple):
         return self._replace(port=self.port + number - 1)
 
 
-def _require(is_right: object, text: str, what: str) -> None:
-    """Raises what argparse takes if a text is not what it has to be."""
-    if not is_right:
-        raise argparse.ArgumentTypeError(f"{text!r} is not {what}")
-
-
 def _is_service(url: str) -> bool:
     """Whether a URL can be that of a service."""
     try:
@@ -66,7 +62,7 @@ def route(text: str) -> Route:
     prefix, _, url = text.partition("=")
     is_path = re.fullmatch(r"/[!-~]*", prefix) is not None and not set("?#") & set(prefix)
     is_route = is_path and _is_service(url) and ".." not in prefix.split("/")
-    _require(is_route, text, "PREFIX=URL, such as /odata/Orders=http://localhost:8101/v2/Orders")
+    require(is_route, text, "PREFIX=URL, such as /odata/Orders=http://localhost:8101/v2/Orders")
     if not urlsplit(url).path:
         url += "/"
     if prefix.endswith("/") != url.endswith("/"):
@@ -76,7 +72,7 @@ def route(text: str) -> Route:
 
 def upstream(text: str) -> Route:
     """Reads the root of a service, whose path is its prefix."""
-    _require(_is_service(text), text, "a URL, such as http://localhost:8101/odata/")
+    require(_is_service(text), text, "a URL, such as http://localhost:8101/odata/")
     root = text if text.endswith("/") else text + "/"
     return Route(normalize_path(urlsplit(root).path), root)
 
@@ -86,19 +82,19 @@ def address(text: str) -> Address:
     host, _, port = text.rpartition(":") if ":" in text else ("127.0.0.1", "", text)
     name = host[1:-1] if re.fullmatch(r"\[.*:.*\]", host) else host
     is_port = re.fullmatch(r"[0-9]{1,5}", port) is not None and int(port) <= 65_535
-    _require(is_port and (not name or _is_host(name)), text, "a port or HOST:PORT")
+    require(is_port and (not name or _is_host(name)), text, "a port or HOST:PORT")
     return Address(name, int(port))
 
 
 def path(text: str) -> str:
     """Reads the path of a URL."""
-    _require(re.fullmatch(r"/[A-Za-z0-9._~/-]+", text), text, "a path, such as /metrics")
+    require(re.fullmatch(r"/[A-Za-z0-9._~/-]+", text), text, "a path, such as /metrics")
     return text
 
 
 def header(text: str) -> str:
     """Reads the name of a header, and returns it in lower case."""
-    _require(re.fullmatch(r"[A-Za-z0-9-]+", text), text, "the name of a header, such as X-Api-Key")
+    require(re.fullmatch(r"[A-Za-z0-9-]+", text), text, "the name of a header, such as X-Api-Key")
     return text.lower()
 
 
@@ -110,10 +106,10 @@ def client(text: str) -> str:
     return name
 
 
-def credential_route(text: str) -> Tuple[str, str]:
+def credential_route(text: str) -> tuple[str, str]:
     """Reads the name of a header with the prefix of a route."""
     name, _, prefix = text.partition("=")
-    _require(re.fullmatch(r"/[!-~]*", prefix), text, "HEADER=PREFIX, such as Authorization=/odata/")
+    require(re.fullmatch(r"/[!-~]*", prefix), text, "HEADER=PREFIX, such as Authorization=/odata/")
     return header(name), normalize_path(prefix)
 
 
@@ -137,37 +133,20 @@ def hook(text: str) -> OnRequest:
         function = getattr(importlib.import_module(module), name)
     except Exception as error:
         raise argparse.ArgumentTypeError(f"{text!r}: {type(error).__name__}: {error}") from None
-    _require(callable(function), text, "MODULE:NAME of a function, such as tracing:on_request")
+    require(callable(function), text, "MODULE:NAME of a function, such as tracing:on_request")
     return cast(OnRequest, function)
 
 
-def _whole(most: int) -> Callable[[str], int]:
-    """Returns what reads a whole number from 1 to another one."""
-
-    def read(text: str) -> int:
-        is_whole = re.fullmatch(r"[0-9]{1,10}", text) is not None and 1 <= int(text) <= most
-        _require(is_whole, text, f"a whole number from 1 to {most}")
-        return int(text)
-
-    return read
-
-
 #: How many there are of something, requests at once, bytes of a document, and processes.
-number, width, size, workers = _whole(1_000_000_000), _whole(MAX_WIDTH), _whole(MAX_BODY_BYTES), _whole(256)
-
-
-def seconds(text: str) -> float:
-    """Reads a number of seconds above 0."""
-    is_number = re.fullmatch(r"[0-9]{1,9}(\.[0-9]+)?", text) is not None and float(text) > 0
-    _require(is_number, text, "a number of seconds above 0")
-    return float(text)
-
+number, width, size, workers = map(arguments.whole_number, (1_000_000_000, MAX_WIDTH, MAX_BODY_BYTES, 256))
+#: How long something takes.
+seconds = arguments.seconds()
 
 _LIMITS: Mapping[str, Callable[[str], Any]] = {"timeout": seconds, "connections": number}
 _TLS = ("ca", "certificate", "key")
 
 
-def route_table(given: Mapping[str, Any]) -> Tuple[Route, List[Tuple[str, str]]]:
+def route_table(given: Mapping[str, Any]) -> tuple[Route, list[tuple[str, str]]]:
     """Reads a route of a file, which may have limits, credentials and TLS of its own; and which credentials it gets."""
     for name in given:
         if name not in ("url", "prefix", "send", *_LIMITS, *_TLS):
@@ -175,7 +154,7 @@ def route_table(given: Mapping[str, Any]) -> Tuple[Route, List[Tuple[str, str]]]
     url, prefix = str(given.get("url", "")), given.get("prefix")
     plain = upstream(url) if prefix is None else route(f"{prefix}={url}")
     limits = {name: read(str(given[name])) for name, read in _LIMITS.items() if name in given}
-    files: Dict[str, Any] = {name: str(given[name]) for name in _TLS if name in given}
+    files: dict[str, Any] = {name: str(given[name]) for name in _TLS if name in given}
     if files and not url.startswith("https:"):
         raise argparse.ArgumentTypeError(f"{plain.prefix}: {', '.join(files)}: only for https")
     if "key" in files and "certificate" not in files:

@@ -5,7 +5,7 @@ import os
 import signal
 import time
 import traceback
-from typing import Callable, Dict, NamedTuple, Set, Tuple
+from typing import Callable, NamedTuple
 
 from ._log import LINES, log_line
 
@@ -41,7 +41,7 @@ class Workers:
     def __init__(self, count: int, work: Callable[[Worker], int]) -> None:
         self._count, self._work = count, work
         # By their ids: the number of each process, and where it gets its orders.
-        self._running: Dict[int, Tuple[int, int]] = {}
+        self._running: dict[int, tuple[int, int]] = {}
         self._is_stopping = False
 
     def run(self) -> int:
@@ -79,7 +79,7 @@ class Workers:
 
     def _start(self, number: int) -> None:
         reading, orders = os.pipe()
-        before: Set[int] = set(signal.pthread_sigmask(signal.SIG_BLOCK, _STOPS))
+        before: set[int] = set(signal.pthread_sigmask(signal.SIG_BLOCK, _STOPS))
         process = os.fork()
         if process:
             os.close(reading)

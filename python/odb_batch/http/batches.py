@@ -5,10 +5,16 @@ import json
 import re
 from typing import Any, Iterable, Iterator, Sequence
 
-from ..documents.encoding import json_bytes
 from ..documents.requests import Request
 from .bodies import is_json, media_type, to_wire
 from .messages import Answer, Refusal, header_dict
+
+
+_ENCODER = json.JSONEncoder(ensure_ascii=False, separators=(",", ":"))
+_DECODER = json.JSONDecoder()
+_SPACE = re.compile(r"[ \t\r\n]*").match
+_BODILESS = "null"
+_BASE64 = re.compile(r"[A-Za-z0-9_+/-]*={0,2}").fullmatch
 
 
 def request_json(request: Request, needs: Sequence[str]) -> bytes:
@@ -26,7 +32,7 @@ def request_json(request: Request, needs: Sequence[str]) -> bytes:
     members.update(method=request.method.lower(), url=request.url)
     if request.headers:
         members["headers"] = request.headers
-    text = json_bytes(members)
+    text = _ENCODER.encode(members).encode("utf-8", "surrogatepass")
     return text if request.body is None else b'%s,"body":%s}' % (text[:-1], request.body)
 
 
@@ -35,24 +41,19 @@ def batch_json(elements: Iterable[bytes]) -> bytes:
     return b'{"requests":[%s]}' % b",".join(elements)
 
 
-_DECODER = json.JSONDecoder()
-_SPACE = re.compile(r"[ \t\r\n]*").match
-_BODILESS = "null"
-_BASE64 = re.compile(r"[A-Za-z0-9_+/-]*={0,2}").fullmatch
-
-
 def read_answers(responses: bytes) -> dict[str, Answer]:
     """Returns what each request was answered, by its id: header names in lower case, the body as bytes on the wire.
 
     Args:
         responses: A response document (OData JSON Format 4.01, section 19.5) that :func:`odb_batch.match` accepts.
     """
+    members = list(response_members(responses.decode()))
+    headers = list(map(header_dict, [_header_pairs(json.loads(texts.get("headers", "null"))) for texts in members]))
     found = {}
-    for texts in response_members(responses.decode()):
-        headers = _headers(json.loads(texts.get("headers", "null")))
+    for texts, own in zip(members, headers):
         body = texts.get("body", _BODILESS)
-        wire = b"" if body == _BODILESS else _wire(body.encode(), headers)
-        found[json.loads(texts["id"])] = Answer(json.loads(texts["status"]), headers, wire)
+        wire = b"" if body == _BODILESS else body.encode() if is_json(own) else _wire(body.encode(), own)
+        found[json.loads(texts["id"])] = Answer(json.loads(texts["status"]), own, wire)
     return found
 
 
@@ -66,18 +67,16 @@ def response_members(responses: str) -> Iterator[dict[str, str]]:
         yield {name: responses[slice(*span)] for name, span in _members(responses, at).items()}
 
 
-def _headers(value: Any) -> dict[str, str]:
+def _header_pairs(value: Any) -> list[tuple[str, str]]:
     """The headers of a response; what is not a text or a number is left out, since no rule asks for them."""
     given = value.items() if isinstance(value, dict) else ()
     texts = (str, int, float)
-    pairs = ((name, value) for name, value in given if isinstance(value, texts) and not isinstance(value, bool))
-    return header_dict([(name, str(value)) for name, value in pairs])
+    return [(name, str(value)) for name, value in given if isinstance(value, texts) and not isinstance(value, bool)]
 
 
 def _wire(text: bytes, headers: dict[str, str]) -> bytes:
-    """The bytes on the wire of a body; where it is not what its media type says, those of its JSON or its text."""
-    if is_json(headers):
-        return text
+    """The bytes on the wire of a body that is not JSON; where it is not what its media type says, those of its JSON or its
+    text."""
     value = json.loads(text)
     if not isinstance(value, str):
         return text

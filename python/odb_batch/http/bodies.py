@@ -24,14 +24,19 @@ def charset(headers: Mapping[str, str]) -> str:
     return found[1] if found else "utf-8"
 
 
+# No media type, and that of JSON.
+_USUAL_JSON = ("", "application/json")
 # Encodings of names of hosts, which are no character sets: they take time by the square of a text.
 _OF_HOSTS = frozenset({"idna", "punycode"})
 
 
 def is_json(headers: Mapping[str, str]) -> bool:
     """Returns whether the body of a message is JSON, by its media type; so it is without one."""
+    kind = headers.get("content-type", "")
+    if kind in _USUAL_JSON:
+        return True
     kind = media_type(headers)
-    return kind in ("", "application/json") or kind.endswith("+json")
+    return kind in _USUAL_JSON or kind.endswith("+json")
 
 
 def _encoding(headers: Mapping[str, str]) -> str:

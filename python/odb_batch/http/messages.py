@@ -154,15 +154,15 @@ def validate_answer(answered: Any) -> Answer:
         raise TypeError(f"a status is a whole number, not {status!r}")
     if not hasattr(headers, "items"):
         raise TypeError(f"headers are a mapping, not {headers!r}")
-    shown = _legible_headers(header_dict(headers.items()))
+    shown = header_dict(headers.items())
+    if not "".join(shown).isascii() or not "".join(shown.values()).isascii():
+        shown = _legible_headers(shown)
     return Answer(int(status) if 200 <= status <= 599 else 502, shown, answered.body)
 
 
 def _legible_headers(headers: dict[str, str]) -> dict[str, str]:
     """Returns headers that a document can have. Bytes that a client has read by surrogateescape are Latin-1 (RFC 9110,
     section 5.5); a header with any other half of a surrogate pair is left out."""
-    if "".join(headers).isascii() and "".join(headers.values()).isascii():
-        return headers
     found = {}
     for name, value in headers.items():
         try:

@@ -95,24 +95,24 @@ class Scripted:
         if happening == "hang up":
             raise ConnectionError("the service has hung up")
         folded = {name.lower(): value for name, value in headers.items()}
-        answered = self._answered(document, folded.get(_ID, ""), folded.get(_FIRST_SENT, ""))
+        answered = self._answer(document, folded.get(_ID, ""), folded.get(_FIRST_SENT, ""))
         if happening == "lose":
             raise ConnectionError("the answer is lost")
         return answered
 
-    def _answered(self, document: bytes, request_id: str, date: str) -> Response:
+    def _answer(self, document: bytes, request_id: str, date: str) -> Response:
         """Answers a batch, or answers it again."""
         if not request_id or self._repeatable is None:
-            return self._performed(document)
+            return self._perform_batch(document)
         if not self._repeatable:
-            return self._rejected(501, "NotRepeatable")
+            return self._reject(501, "NotRepeatable")
         if request_id not in self._kept:
-            status, given, body = self._performed(document)
+            status, given, body = self._perform_batch(document)
             self._kept[request_id] = document, date, (status, {**given, _RESULT: "accepted"}, body)
         *first, answered = self._kept[request_id]
-        return answered if first == [document, date] else self._rejected(422, "AnotherBatch")
+        return answered if first == [document, date] else self._reject(422, "AnotherBatch")
 
-    def _performed(self, document: bytes) -> Response:
+    def _perform_batch(self, document: bytes) -> Response:
         """Performs a batch."""
         try:
             run = Run(document, mode=self._mode, width=1)
@@ -122,17 +122,17 @@ class Scripted:
             if sum(1 for _ in json.loads(document)["requests"]) > self._limit:
                 return self._refusal(413, "BatchTooLong")
             while (ids := run.next_unit()) is not None:
-                self._perform(run, ids)
+                self._perform_unit(run, ids)
             response = run.response()
         found = json.loads(response)["responses"]
-        self.performed.update(each["id"] for each in found if 200 <= each["status"] <= 299)
+        self.performed.update(each["id"] for each in found if Answer(each["status"]).is_success)
         return 200, dict(_JSON), response
 
     async def post_async(self, document: bytes, headers: Mapping[str, str] = {}) -> Response:
         """Does what :meth:`post` does, for clients that await."""
         return self.post(document, headers)
 
-    def _perform(self, run: Run, ids: Sequence[str]) -> None:
+    def _perform_unit(self, run: Run, ids: Sequence[str]) -> None:
         """Performs the requests of a unit, up to the first that fails."""
         for request_id in ids:
             answer = self._next(run.request(request_id))
@@ -146,20 +146,17 @@ class Scripted:
         scene = left.pop(0) if len(left) > 1 else left[0]
         if isinstance(scene, Answer):
             return scene
-        headers = {}
-        if scene in _BUSY:
-            headers["Retry-After"] = self._retry_after
-        if 200 <= scene <= 299:
-            headers["ETag"] = '"1"'
-            if request.method == "POST":
-                headers["Location"] = f"/Made('{request.id}')"
-        return Answer(scene, headers)
+        answer = Answer(scene, {"Retry-After": self._retry_after} if scene in _BUSY else {})
+        if not answer.is_success:
+            return answer
+        location = {"Location": f"/Made('{request.id}')"} if request.method == "POST" else {}
+        return Answer(scene, {"ETag": '"1"', **location})
 
     def _refusal(self, status: int, code: str) -> Response:
         headers = {**_JSON, **({"retry-after": self._retry_after} if status in _BUSY else {})}
         return status, headers, json.dumps({"error": {"code": code, "message": code}}).encode()
 
-    def _rejected(self, status: int, code: str) -> Response:
+    def _reject(self, status: int, code: str) -> Response:
         """The refusal of a batch because of its id."""
         status, headers, body = self._refusal(status, code)
         return status, {**headers, _RESULT: "rejected"}, body

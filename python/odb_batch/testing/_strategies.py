@@ -67,7 +67,7 @@ class Choices(NamedTuple):
 # Batches
 
 
-def unused(names: Sequence[str], prefix: str, taken: Sequence[Any]) -> list[str]:
+def unused_names(names: Sequence[str], prefix: str, taken: Sequence[Any]) -> list[str]:
     """The names that are not taken; if all are, one with a number."""
     return [name for name in names if name not in taken] or [f"{prefix}{len(taken)}"]
 
@@ -87,7 +87,7 @@ def names_of(draw: Any, batch: list[Json], group: Optional[str]) -> list[str]:
     return names
 
 
-def covered(batch: list[Json], request: Json) -> list[str]:
+def covered_ids(batch: list[Json], request: Json) -> list[str]:
     """The ids that a URL of a request may refer to, by the names that it lists. What has a reserved URL is not referred
     to: that URL cannot take the place of a reference."""
     around = {*(request.get("dependsOn") or []), request.get("atomicityGroup")} - {None}
@@ -105,14 +105,14 @@ def add_body(draw: Any, request: Json, choices: Choices) -> None:
 
 def request_after(draw: Any, batch: list[Json], group: Optional[str], choices: Choices) -> Json:
     """A request that may come next in a batch."""
-    name = draw(st.sampled_from(unused(ID_NAMES, "r", [request["id"] for request in batch])))
+    name = draw(st.sampled_from(unused_names(ID_NAMES, "r", [request["id"] for request in batch])))
     request: Json = {"id": name, "method": draw(METHODS)}
     if group is not None:
         request["atomicityGroup"] = group
     names = names_of(draw, batch, group)
     if names or draw(chance(10)):
         request["dependsOn"] = names or draw(of([], None))
-    referred = covered(batch, request) if choices.references else []
+    referred = covered_ids(batch, request) if choices.references else []
     refers = bool(referred) and draw(chance(40))
     request["url"] = draw(DOLLARS) + draw(st.sampled_from(referred)) + draw(TAILS) if refers else draw(URLS)
     if choices.bodies is not None and request["method"] in WITH_BODY and draw(chance(60)):
@@ -132,7 +132,7 @@ def units(draw: DrawFn, batch: list[Json], least: int, most: int, groups: bool, 
         return []
     size = min(draw(SIZES) if groups else 0, room)
     taken = sorted({request["atomicityGroup"] for request in batch if "atomicityGroup" in request})
-    group = unused(GROUP_NAMES, "group-", taken)[0] if size else None
+    group = unused_names(GROUP_NAMES, "group-", taken)[0] if size else None
     found: list[Json] = []
     for _ in range(size or 1):
         found.append(request_after(draw, [*batch, *found], group, choices))

@@ -10,7 +10,7 @@ from odb_batch.conformance._interruption import Interruption
 from odb_batch.conformance._exact_json import Number, text_of, value_of
 from odb_batch.conformance._judge import left_over
 from odb_batch.conformance._promises import Case
-from odb_batch.conformance._service import Answer, Service
+from odb_batch.conformance._service import Reply, Service
 from odb_batch.conformance._stage import Stage
 from odb_batch.conformance._command import body_of
 from odb_batch.conformance._twin import Taking, differences, host_of, parts_alone, parts_in_batch
@@ -49,7 +49,7 @@ def test_characters_are_written_as_escapes_or_as_they_are():
 
 def compared(entities, alone, batch, headers=JSON):
     """The differences between what a read is answered alone and in a batch, by the texts of its bodies and headers."""
-    first = parts_alone(Taking(entities, BOOK, [], True), Answer(200, {**JSON, **headers}, alone.encode()))
+    first = parts_alone(Taking(entities, BOOK, [], True), Reply(200, {**JSON, **headers}, alone.encode()))
     response = {"status": 200, "headers": {**JSON, **headers}, "body": value_of(batch)}
     return differences([first, first], parts_in_batch(Taking(entities, BOOK, [], True), response))
 
@@ -85,7 +85,7 @@ def test_values_are_compared_as_they_are_written(alone, batch, entities):
     ("/Books(1)", "/Books(2)", False),
 ])  # fmt: skip
 def test_locations_lead_to_the_same_host(alone, batch, is_same, entities):
-    first = parts_alone(Taking(entities, BOOK, [], True), Answer(200, {"location": alone}, b""))
+    first = parts_alone(Taking(entities, BOOK, [], True), Reply(200, {"location": alone}, b""))
     response = {"status": 200, "headers": {"Location": batch}}
     found = differences([first, first], parts_in_batch(Taking(entities, BOOK, [], True), response))
     assert (found == []) is is_same

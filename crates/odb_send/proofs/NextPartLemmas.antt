@@ -1,0 +1,274 @@
+-- The next part of a batch: what its units are, and that it is determined.
+use Rattle.std.proofs.Common.{◌≡◌, ◌∙◌, ◌⊎◌, ◌+◌, ◌-◌, ◌<◌, ◌≤◌, ◌==◌, ◌&&◌, ◌||◌, ℕ, zero, suc, Bool, true, false, not, cond, List, length, set, replicate, inl, inr, refl, ap, sym, subst, arith, eq-eqb, get_or-set_other}
+use Rattle.std.specs.Prelude.{Result, Ok, Err, IfOk, IfErr}
+use Rattle.std.specs.List.{list_any}
+use Rattle.std.proofs.lemmas.Bool.{cases_Bool, cases_eq, eqb-true, ne_eqb, true≢false, false≢true}
+use Rattle.std.proofs.lemmas.List.{length-set, length-replicate}
+use Rattle.odb_doc.specs.batch.Records.{Record}
+use Rattle.odb_check.specs.Firsts.{count_below, list_below}
+use Rattle.odb_check.specs.LeastNameFault.{HasGoodNames}
+use Rattle.odb_check.specs.Needs.{needs_at}
+use Rattle.odb_check.specs.PlanGraph.{PlanGraph, IsPlanGraphOf, IsSpan, plan_graph_of, unit_of}
+use Rattle.odb_check.specs.Units.{unit_at, unit_count}
+use Rattle.std.proofs.lemmas.Grind.{get_or-set_at}
+use Rattle.odb_check.proofs.BelowLemmas.{get_or-list_below}
+use Rattle.odb_check.proofs.PlanLemmas.{in_plan_graph, is_plan_graph}
+use Rattle.odb_sched.specs.run.State.{members_in}
+use Rattle.odb_sched.proofs.CountLemmas.{count_same, count_none, count_either}
+use Rattle.odb_sched.proofs.FirstLemmas.{members_of_span}
+use Rattle.odb_sched.proofs.LiveLemmas.{populated}
+use Rattle.odb_send.specs.Marks.{AreBarred, AreFirst, AreWhole, waits_at}
+use Rattle.odb_send.specs.NextPart.{HasToWait, IsNextPart, IsWhole, MayGo, member_count, request_count}
+use Rattle.odb_send.specs.Rests.{is_kept}
+use Rattle.odb_send.specs.Units.{AreMarksOf, marked, unit_needed}
+use Rattle.odb_send.proofs.MarkLemmas.{AreBarred-exempt, AreBarred-kept, AreBarred-more, barred-needing, barred-own, marked-cases, marked-kept, marked-none, marked-other, marked-set, not_marked}
+
+-- ---- counts
+
+-- a test that passes wherever another does counts no less
+pub count_upto : (n : ℕ) (test other : ℕ → Bool) → ((i : ℕ) → i < n → test i ≡ true → other i ≡ true) → count_below n test ≤ count_below n other
+count_upto zero test other more = omega arith
+count_upto (suc n) test other more = at (test n) (other n) (more n (omega arith)) (count_upto n test other (λ i within. more i (omega arith)))
+  where
+    at : (t o : Bool) → (t ≡ true → o ≡ true) → count_below n test ≤ count_below n other → cond t (suc (count_below n test)) (count_below n test) ≤ cond o (suc (count_below n other)) (count_below n other)
+    at true true only less = omega (arith, less)
+    at true false only less = absurd (false≢true (only refl))
+    at false true only less = omega (arith, less)
+    at false false only less = less
+
+-- where some are counted, one passes
+pub count_some : (n : ℕ) (test : ℕ → Bool) → 0 < count_below n test → (i : ℕ) × (i < n) × (test i ≡ true)
+count_some zero test some = absurd (omega (arith, some))
+count_some (suc n) test some = elim (cases_Bool (test n)) [
+  | inl is ↦ (n, omega arith, is)
+  | inr fails ↦ let found = count_some n test (rw fails at some) in (found.0, omega (arith, found.1), found.2)
+]
+
+-- ---- members
+
+-- each unit has a member
+pub unit_member : (rs : List Record) (u : ℕ) → u < unit_count rs → (i : ℕ) × (i < length rs) × (unit_at rs i ≡ u)
+unit_member rs u known =
+    let graph = plan_graph_of rs in
+    let found = count_some (length graph.units) (λ i. unit_of graph i == u) (populated rs graph (is_plan_graph rs) u known) in
+    let within = in_plan_graph rs found.0 found.1 in
+    (found.0, within, sym ((is_plan_graph rs).units found.0 within) ∙ eqb-true _ _ found.2)
+
+-- a unit has as many requests as its positions span
+pub members_spanned : (rs : List Record) (graph : PlanGraph) (u from to : ℕ) → IsPlanGraphOf rs graph → IsSpan graph u from to → from + member_count rs u ≡ to
+members_spanned rs graph u from to is span =
+    let begins = span.begins in
+    let counted : to - from ≡ members_in graph u = members_of_span graph u from to span begins in
+    let same : members_in graph u ≡ member_count rs u =
+    ap (λ n. count_below n (λ i. unit_of graph i == u)) is.size ∙ count_same (length rs) (λ i. unit_of graph i == u) (λ i. unit_at rs i == u) (λ i within. ap (λ v. v == u) (is.units i within)) in
+    omega (arith, begins, counted, same)
+
+-- a unit more has its requests more
+pub more_requests : (rs : List Record) (units : List Bool) (u : ℕ) → u < length units → marked units u ≡ false → request_count rs (set units u true) ≡ request_count rs units + member_count rs u
+more_requests rs units u known out = count_either (length rs) (is_kept rs units) (λ i. unit_at rs i == u) (is_kept rs (set units u true))
+    (λ i within is. ap (marked units) (eqb-true _ _ is) ∙ out)
+    (λ i within. elim (cases_eq (unit_at rs i) u) [
+      | inl same ↦ rw (eq-eqb (unit_at rs i) u same) (ap (marked (set units u true)) same ∙ marked-set units u known)
+      | inr other ↦ rw (ne_eqb (unit_at rs i) u other) (marked-other units u (unit_at rs i) other)
+    ])
+
+-- ---- units that have to wait
+
+waits_true : (d l a : Bool) → (not d && (not l || a)) ≡ true → (d ≡ false) × ((l ≡ false) ⊎ (a ≡ true))
+waits_true true l a is = absurd (false≢true is)
+waits_true false true a is = (refl, inr is)
+waits_true false false a is = (refl, inl refl)
+
+waits_false : (d l a : Bool) → (not d && (not l || a)) ≡ false → (d ≡ true) ⊎ ((l ≡ true) × (a ≡ false))
+waits_false true l a is = inl refl
+waits_false false true a is = inr (refl, is)
+waits_false false false a is = absurd (true≢false is)
+
+abbrev is_left : List Record → List Bool → ℕ → Bool
+is_left rs left i = marked left (unit_at rs i)
+
+abbrev needs_held : List Record → List Bool → ℕ → Bool
+needs_held rs units i = list_any (λ need. marked units (unit_needed rs need)) (needs_at rs i)
+
+-- the unit of the next request has to wait
+pub held_more : (rs : List Record) (done left : List Bool) (n : ℕ) (units : List Bool) → HasGoodNames rs → AreBarred rs (marked done) (λ i. marked left (unit_at rs i)) n units → n < length rs → unit_at rs n < unit_count rs → waits_at rs done left units n ≡ true
+    → AreBarred rs (marked done) (λ i. marked left (unit_at rs i)) (n + 1) (set units (unit_at rs n) true)
+held_more rs done left n units good before within known is =
+    let (bound, why) = waits_true (marked done (unit_at rs n)) (is_left rs left n) (needs_held rs units n) is in
+    AreBarred-more rs (marked done) (is_left rs left) n units good before known (elim why [
+      | inl bad ↦ barred-own rs (marked done) (is_left rs left) n within bound bad
+      | inr some ↦ barred-needing rs (marked done) (is_left rs left) n units before within bound some
+    ])
+
+-- it need not wait for this request
+pub held_same : (rs : List Record) (done left : List Bool) (n : ℕ) (units : List Bool) → AreBarred rs (marked done) (λ i. marked left (unit_at rs i)) n units → waits_at rs done left units n ≡ false
+    → AreBarred rs (marked done) (λ i. marked left (unit_at rs i)) (n + 1) units
+held_same rs done left n units before is = elim (waits_false (marked done (unit_at rs n)) (is_left rs left n) (needs_held rs units n) is) [
+  | inl over ↦ AreBarred-exempt rs (marked done) (is_left rs left) n units before over
+  | inr (passes, none) ↦ AreBarred-kept rs (marked done) (is_left rs left) n units before passes none
+]
+
+-- ---- one unit after another
+
+pub AreFirst-none : (rs : List Record) (done left : List Bool) (limit : ℕ) → AreFirst rs done left limit 0 limit (replicate (unit_count rs) false)
+AreFirst-none rs done left limit = record {
+  marks = record {
+    count = length-replicate (unit_count rs) false;
+    each = λ u within. ((λ is. absurd (false≢true (sym (marked-none (unit_count rs) u) ∙ is))), (λ first. absurd (omega (arith, first.0))));
+  };
+  count = let none : request_count rs (replicate (unit_count rs) false) ≡ 0 = count_none (length rs) (is_kept rs (replicate (unit_count rs) false)) (λ i within. marked-none (unit_count rs) (unit_at rs i)) in omega (arith, none);
+}
+
+-- a unit that may not go is passed over
+pub AreFirst-over : (rs : List Record) (done left : List Bool) (limit u room : ℕ) (units : List Bool) → AreFirst rs done left limit u room units → ¬ MayGo rs done left u → AreFirst rs done left limit (u + 1) room units
+AreFirst-over rs done left limit u room units before out = record {
+  marks = record {
+    count = before.marks.count;
+    each = λ v within. (
+      (λ is. let there = (before.marks.each v within).0 is in (omega (arith, there.0), there.1)),
+      (λ first. elim (cases_eq v u) [
+        | inl same ↦ absurd (out (subst (MayGo rs done left) same first.1))
+        | inr other ↦ (before.marks.each v within).1 (omega (arith, first.0, other), first.1)
+      ]),
+    );
+  };
+  count = before.count;
+}
+
+-- the units so far do not have the next
+not_yet : (rs : List Record) (done left : List Bool) (limit u room : ℕ) (units : List Bool) → AreFirst rs done left limit u room units → u < unit_count rs → marked units u ≡ false
+not_yet rs done left limit u room units before known = not_marked (marked units u) (λ is. let there = (before.marks.each u known).0 is in omega (arith, there.0))
+
+-- a unit that may go, and fits
+pub AreFirst-more : (rs : List Record) (done left : List Bool) (limit u room count : ℕ) (units : List Bool) → AreFirst rs done left limit u room units → MayGo rs done left u → count ≡ member_count rs u → count ≤ room
+    → AreFirst rs done left limit (u + 1) (room - count) (set units u true)
+AreFirst-more rs done left limit u room count units before goes counted fits = record {
+  marks = record {
+    count = length-set units u true ∙ before.marks.count;
+    each = λ v within. (
+      (λ is. elim (marked-cases units u v is) [
+        | inl same ↦ (omega (arith, same), subst (MayGo rs done left) (sym same) goes)
+        | inr there ↦ let first = (before.marks.each v within).0 there in (omega (arith, first.0), first.1)
+      ]),
+      (λ first. elim (cases_eq v u) [
+        | inl same ↦ subst (λ w. marked (set units u true) w ≡ true) (sym same) (marked-set units u inside)
+        | inr other ↦ marked-kept units u v inside ((before.marks.each v within).1 (omega (arith, first.0, other), first.1))
+      ]),
+    );
+  };
+  count = let more = more_requests rs units u inside (not_yet rs done left limit u room units before goes.known) in omega (arith, more, before.count, counted, fits);
+}
+  where
+    inside : u < length units
+    inside = omega (arith, goes.known, before.marks.count)
+
+-- the next unit does not fit
+pub part_full : (rs : List Record) (done left : List Bool) (limit u room count : ℕ) (units : List Bool) → AreFirst rs done left limit u room units → MayGo rs done left u → count ≡ member_count rs u → room < count → IsNextPart rs done left limit units
+part_full rs done left limit u room count units before goes counted more = record {
+  end = u;
+  units = before.marks;
+  within = omega (arith, before.count);
+  next = inr (goes, omega (arith, before.count, counted, more));
+}
+
+-- all units were looked at
+pub part_whole : (rs : List Record) (done left : List Bool) (limit room : ℕ) (units : List Bool) → AreFirst rs done left limit (unit_count rs) room units → IsNextPart rs done left limit units
+part_whole rs done left limit room units before = record {
+  end = unit_count rs;
+  units = before.marks;
+  within = omega (arith, before.count);
+  next = inl refl;
+}
+
+-- ---- whether a unit may go, by the marks of those that have to wait
+
+pub may_go : (rs : List Record) (done left waiting : List Bool) (u : ℕ) → u < unit_count rs → AreMarksOf rs (HasToWait rs done left) waiting → marked done u ≡ false → marked waiting u ≡ false → MayGo rs done left u
+may_go rs done left waiting u known are open_unit free = record {
+  known = known;
+  not_done = open_unit;
+  free = λ waits. true≢false (sym ((are.each u known).1 waits) ∙ free);
+}
+
+pub may_not_wait : (rs : List Record) (done left waiting : List Bool) (u : ℕ) → u < unit_count rs → AreMarksOf rs (HasToWait rs done left) waiting → marked waiting u ≡ true → ¬ MayGo rs done left u
+may_not_wait rs done left waiting u known are waits goes = goes.free ((are.each u known).0 waits)
+
+pub may_not_done : (rs : List Record) (done left : List Bool) (u : ℕ) → marked done u ≡ true → ¬ MayGo rs done left u
+may_not_done rs done left u over goes = true≢false (sym over ∙ goes.not_done)
+
+-- ---- units whose requests pass a test
+
+marked-all : (n u : ℕ) → u < n → marked (replicate n true) u ≡ true
+marked-all zero u less = absurd (omega (arith, less))
+marked-all (suc n) zero less = refl
+marked-all (suc n) (suc u) less = marked-all n u (omega (arith, less))
+
+pub AreWhole-none : (rs : List Record) (test : ℕ → Bool) → AreWhole rs test 0 (replicate (unit_count rs) true)
+AreWhole-none rs test = record {
+  count = length-replicate (unit_count rs) true;
+  passed = λ u i is less unit. absurd (omega (arith, less));
+  failed = λ u known is. absurd (true≢false (sym (marked-all (unit_count rs) u known) ∙ is));
+}
+
+pub AreWhole-passed : (rs : List Record) (test : ℕ → Bool) (n : ℕ) (units : List Bool) → AreWhole rs test n units → test n ≡ true → AreWhole rs test (n + 1) units
+AreWhole-passed rs test n units before passes = record {
+  count = before.count;
+  passed = λ u i is less unit. elim (cases_eq i n) [
+    | inl last ↦ ap test last ∙ passes
+    | inr early ↦ before.passed u i is (omega (arith, less, early)) unit
+  ];
+  failed = before.failed;
+}
+
+pub AreWhole-failed : (rs : List Record) (test : ℕ → Bool) (n : ℕ) (units : List Bool) → AreWhole rs test n units → n < length rs → unit_at rs n < unit_count rs → test n ≡ false → AreWhole rs test (n + 1) (set units (unit_at rs n) false)
+AreWhole-failed rs test n units before within known fails = record {
+  count = length-set units (unit_at rs n) false ∙ before.count;
+  passed = λ u i is less unit. elim (cases_eq u (unit_at rs n)) [
+    | inl same ↦ absurd (true≢false (sym is ∙ ap (marked (set units (unit_at rs n) false)) same ∙ cleared))
+    | inr other ↦ elim (cases_eq i n) [
+      | inl last ↦ absurd (other (sym unit ∙ ap (unit_at rs) last))
+      | inr early ↦ before.passed u i (sym (get_or-set_other units (unit_at rs n) u false false other) ∙ is) (omega (arith, less, early)) unit
+    ]
+  ];
+  failed = λ u inside is. elim (cases_eq u (unit_at rs n)) [
+    | inl same ↦ (n, within, sym same, fails)
+    | inr other ↦ before.failed u inside (sym (get_or-set_other units (unit_at rs n) u false false other) ∙ is)
+  ];
+}
+  where
+    cleared : marked (set units (unit_at rs n) false) (unit_at rs n) ≡ false
+    cleared = get_or-set_at units (unit_at rs n) (unit_at rs n) false false refl (omega (arith, known, before.count))
+
+pub AreWhole-all : (rs : List Record) (test : ℕ → Bool) (units : List Bool) → AreWhole rs test (length rs) units → AreMarksOf rs (IsWhole rs test) units
+AreWhole-all rs test units all = record {
+  count = all.count;
+  each = λ u known. (
+    (λ is i less unit. all.passed u i is less unit),
+    (λ whole. elim (cases_Bool (marked units u)) [
+      | inl is ↦ is
+      | inr is ↦ let (i, less, unit, fails) = all.failed u known is in absurd (true≢false (sym (whole i less unit) ∙ fails))
+    ]),
+  );
+}
+
+-- the marks by a list of tests
+pub whole_list : (rs : List Record) (test : ℕ → Bool) (n : ℕ) (list units : List Bool) → n ≡ length rs → list ≡ list_below n test → AreMarksOf rs (IsWhole rs (marked list)) units → AreMarksOf rs (IsWhole rs test) units
+whole_list rs test n list units count is are = record {
+  count = are.count;
+  each = λ u known. (
+    (λ marks i less unit. sym (same i less) ∙ (are.each u known).0 marks i less unit),
+    (λ whole. (are.each u known).1 (λ i less unit. same i less ∙ whole i less unit)),
+  );
+}
+  where
+    same : (i : ℕ) → i < length rs → marked list i ≡ test i
+    same i less = ap (λ (marks : List Bool). marked marks i) is ∙ get_or-list_below n test i false (omega (arith, less, count))
+
+-- what holds of a value that there is
+pub ok_by : {T E : Type 0} (r : Result T E) (P Q : T → Type 0) → ((x : T) → P x → Q x) → IfOk r P → IfOk r Q
+ok_by (Ok x) P Q more holds = more x holds
+ok_by (Err e) P Q more holds = tt
+
+-- what holds of an error
+pub error_by : {T E : Type 0} (r : Result T E) (P Q : E → Type 0) → ((e : E) → P e → Q e) → IfErr r P → IfErr r Q
+error_by (Ok x) P Q more holds = tt
+error_by (Err e) P Q more holds = more e holds

@@ -1,0 +1,100 @@
+-- The next part of a batch: requests that may be sent together as a batch of their own, in the order of the batch (OData JSON
+-- Format 4.01, sections 19.1 and 19.4). `done` marks the units whose requests have all succeeded, `left` those that are not
+-- sent yet and may be sent.
+use Rattle.std.specs.Prelude.{◌≡◌, ◌⊎◌, ◌+◌, ◌<◌, ◌≤◌, ◌==◌, ℕ, Bool, true, false, List, length, Contains, Option, slice_index_or}
+use Rattle.odb_doc.specs.Statuses.{is_success}
+use Rattle.odb_doc.specs.batch.Records.{Record}
+use Rattle.odb_check.specs.declared.need.Need.{Need}
+use Rattle.odb_check.specs.Firsts.{count_below}
+use Rattle.odb_check.specs.Needs.{needs_at}
+use Rattle.odb_check.specs.Units.{unit_at, unit_count}
+use Rattle.odb_sched.specs.declared.states.RequestState.{RequestState}
+use Rattle.odb_sched.specs.declared.states.RequestState.TheVariants.{Waiting, Ready, Running, Reported, Skipped}
+use Rattle.odb_send.specs.declared.rest.Rest.{Rest}
+use Rattle.odb_send.specs.Rests.{HasUrls, is_kept, kept, urls}
+use Rattle.odb_send.specs.Units.{AreMarksOf, IsBarred, marked, unit_needed}
+
+-- A unit has to wait, unless it is done, if it is not left, or needs something of a unit that has to wait.
+abbrev pub HasToWait : List Record → (done left : List Bool) → ℕ → Type 0
+HasToWait rs done left = IsBarred rs (marked done) (λ i. marked left (unit_at rs i))
+
+-- a unit may go if it is not done, and need not wait; so it is left
+pub record MayGo (rs : List Record) (done left : List Bool) (u : ℕ) : Type 0 where
+  pub known : u < unit_count rs
+  pub not_done : marked done u ≡ false
+  pub free : ¬ HasToWait rs done left u
+
+-- how many requests these units have
+abbrev pub request_count : List Record → List Bool → ℕ
+request_count rs units = count_below (length rs) (is_kept rs units)
+
+-- how many requests a unit has
+abbrev pub member_count : List Record → ℕ → ℕ
+member_count rs u = count_below (length rs) (λ i. unit_at rs i == u)
+
+-- The next part has the units that may be sent, from the first up to one that does not fit any more, at most so many requests.
+pub record IsNextPart (rs : List Record) (done left : List Bool) (limit : ℕ) (part : List Bool) : Type 0 where
+  pub end : ℕ
+  pub units : AreMarksOf rs (λ u. (u < end) × MayGo rs done left u) part
+  pub within : request_count rs part ≤ limit
+  pub next : (end ≡ unit_count rs) ⊎ (MayGo rs done left end × (limit < request_count rs part + member_count rs end))
+
+-- the part, with the URLs that its requests get by these Locations
+pub record IsPartOf (rs : List Record) (done left : List Bool) (limit : ℕ) (locations : ℕ → Option (List ℕ)) (part : Rest) : Type 0 where
+  pub units : IsNextPart rs done left limit (kept part)
+  pub urls_are : HasUrls rs (kept part) locations (urls part)
+
+-- ---- by what has become of each request of a run
+
+abbrev pub has_succeeded : RequestState → Bool
+has_succeeded Waiting = false
+has_succeeded Ready = false
+has_succeeded Running = false
+has_succeeded (Reported status) = is_success status
+has_succeeded Skipped = false
+
+-- it has not started, and may still start
+abbrev pub may_start : RequestState → Bool
+may_start Waiting = true
+may_start Ready = true
+may_start Running = false
+may_start (Reported status) = false
+may_start Skipped = false
+
+abbrev pub state_at : List RequestState → ℕ → RequestState
+state_at states i = slice_index_or states i Skipped
+
+-- each request of the unit passes a test
+abbrev pub IsWhole : List Record → (ℕ → Bool) → ℕ → Type 0
+IsWhole rs test u = (i : ℕ) → i < length rs → unit_at rs i ≡ u → test i ≡ true
+
+-- A unit is done if all its requests have succeeded, and left if each of them may still start.
+pub record HasProgress (rs : List Record) (states : List RequestState) (done left : List Bool) : Type 0 where
+  pub succeeded : AreMarksOf rs (IsWhole rs (λ i. has_succeeded (state_at states i))) done
+  pub starting : AreMarksOf rs (IsWhole rs (λ i. may_start (state_at states i))) left
+
+-- the next part of a run in which this has become of each request
+pub record IsPartAfter (rs : List Record) (states : List RequestState) (limit : ℕ) (locations : ℕ → Option (List ℕ)) (part : Rest) : Type 0 where
+  pub done : List Bool
+  pub left : List Bool
+  pub progress : HasProgress rs states done left
+  pub part_is : IsPartOf rs done left limit locations part
+
+-- ---- what holds of every part
+
+-- each request of the part may still start
+abbrev pub IsFresh : List Record → List RequestState → List Bool → Type 0
+IsFresh rs states part = (i : ℕ) → i < length rs → is_kept rs part i ≡ true → may_start (state_at states i) ≡ true
+
+-- what a request of the part needs is in the part, or of a unit whose requests have all succeeded
+abbrev pub NeedsMet : List Record → List RequestState → List Bool → Type 0
+NeedsMet rs states part = (i : ℕ) (need : Need) → i < length rs → is_kept rs part i ≡ true → Contains (needs_at rs i) need
+    → (marked part (unit_needed rs need) ≡ true) ⊎ IsWhole rs (λ j. has_succeeded (state_at states j)) (unit_needed rs need)
+
+-- no unit has more requests than the limit
+abbrev pub HasNoLonger : List Record → ℕ → Type 0
+HasNoLonger rs limit = (u : ℕ) → u < unit_count rs → member_count rs u ≤ limit
+
+-- a request is in the part
+abbrev pub HasSome : List Record → List Bool → Type 0
+HasSome rs part = (i : ℕ) × (i < length rs) × (is_kept rs part i ≡ true)

@@ -1,0 +1,148 @@
+//! The next part of a batch: requests that may be sent together as a batch of their own.
+
+ghost use Rattle.std.specs.Prelude.{◌≡◌, ◌<◌, ℕ, List, Bool, length, IfOk, IfErr};
+ghost use Rattle.odb_check.specs.Plans.{plan_records};
+ghost use Rattle.odb_check.specs.Units as all;
+ghost use Rattle.odb_reply.specs.BodyTexts.{text_at};
+ghost use Rattle.odb_send.specs.Faults.{RefusesRest};
+ghost use Rattle.odb_send.specs.Locations.{texts_of};
+ghost use Rattle.odb_send.specs.Marks.{waits_at};
+ghost use Rattle.odb_send.specs.NextPart as parts;
+ghost use Rattle.odb_send.specs.Units.{AreMarksOf};
+
+use crate::fault::RestFault;
+use crate::progress::{starting_units, succeeded_units};
+use crate::rest::{Rest, urls_of};
+use crate::units::needs_marked;
+use odb_check::Plan;
+use odb_sched::RequestState;
+use std::alloc::{AllocError, Global};
+
+/// Returns whether the unit of a request has to wait for what this request is or needs, by the units that have to wait.
+fn waits(plan: &Plan<'_>, units: &[bool], done: &[bool], left: &[bool], i: u32) -> bool
+    requires request { i < length (plan_records plan.now) }
+    requires units { length units.now ≡ all.unit_count (plan_records plan.now) }
+    requires done { length done.now ≡ all.unit_count (plan_records plan.now) }
+    requires left { length left.now ≡ all.unit_count (plan_records plan.now) }
+    ensures { result ≡ waits_at (plan_records plan.now) done.now left.now units.now i }
+{
+    odb_check::laws::every_plan(plan);
+    let u = plan.unit_of(i) as usize;
+    !done[u] && (!left[u] || needs_marked(plan, units, i))
+}
+
+/// Returns for each unit whether it has to wait.
+fn waiting_units(
+    alloc: Global,
+    plan: &Plan<'_>,
+    done: &[bool],
+    left: &[bool],
+) -> Result<Vec<bool>, AllocError>
+    requires done { length done.now ≡ all.unit_count (plan_records plan.now) }
+    requires left { length left.now ≡ all.unit_count (plan_records plan.now) }
+    ensures { IfOk result (λ units. AreMarksOf (plan_records plan.now)
+        (parts.HasToWait (plan_records plan.now) done.now left.now) units.items) }
+{
+    odb_check::laws::every_plan(plan);
+    let mut units = vec![in alloc; false; plan.unit_count() as usize]?;
+    for i in 0..plan.len() {
+        if waits(plan, &units, done, left, i) {
+            units[plan.unit_of(i) as usize] = true;
+        }
+    }
+    Ok(units)
+}
+
+/// Returns the units of the next part of a batch, which have at most `limit` requests together.
+fn next_units(
+    alloc: Global,
+    plan: &Plan<'_>,
+    done: &[bool],
+    left: &[bool],
+    limit: u32,
+) -> Result<Vec<bool>, AllocError>
+    requires done { length done.now ≡ all.unit_count (plan_records plan.now) }
+    requires left { length left.now ≡ all.unit_count (plan_records plan.now) }
+    ensures { IfOk result (λ units. parts.IsNextPart (plan_records plan.now) done.now left.now limit
+        units.items) }
+{
+    odb_check::laws::every_plan(plan);
+    let waiting = waiting_units(alloc, plan, done, left)?;
+    let mut units = vec![in alloc; false; plan.unit_count() as usize]?;
+    let mut room = limit;
+    for u in 0..plan.unit_count() {
+        if !done[u as usize] && !waiting[u as usize] {
+            let members = plan.members(u);
+            let count = members.end - members.start;
+            if count > room {
+                return Ok(units);
+            }
+            room -= count;
+            units[u as usize] = true;
+        }
+    }
+    Ok(units)
+}
+
+/// Returns the next part of a batch, by which of its units are done and which are left.
+fn part_by(
+    alloc: Global,
+    plan: &Plan<'_>,
+    done: &[bool],
+    left: &[bool],
+    limit: u32,
+    locations: &[Option<&str>],
+) -> Result<Rest, RestFault>
+    requires done { length done.now ≡ all.unit_count (plan_records plan.now) }
+    requires left { length left.now ≡ all.unit_count (plan_records plan.now) }
+    requires locations { length locations.now ≡ length (plan_records plan.now) }
+    ensures part { IfOk result (parts.IsPartOf (plan_records plan.now) done.now left.now limit
+        (text_at (texts_of locations.now))) }
+    ensures least { IfErr result (λ fault. (units : List Bool)
+        → parts.IsNextPart (plan_records plan.now) done.now left.now limit units
+        → RefusesRest fault (plan_records plan.now) units (text_at (texts_of locations.now))) }
+{
+    let kept = next_units(alloc, plan, done, left, limit)?;
+    let urls = urls_of(alloc, plan, &kept, locations)?;
+    Ok(Rest { kept, urls })
+}
+
+/// Returns the next part of a batch on its way: requests that may be sent together as a batch of their own (OData JSON
+/// Format 4.01, sections 19.1 and 19.4), `limit` of them at most. [`crate::rest_text`] makes their text.
+///
+/// `states` has what has become of each request, as [`odb_sched::OwnedRun::state`] returns it, and `locations` the
+/// Location of each, if it is known. A unit is an atomicity group or a request without one. It is done if all its
+/// requests have succeeded, and left if each of them may still start. It has to wait if it is neither, or if one of its
+/// requests needs something of a unit that has to wait. The part has the units that are left and need not wait, in the
+/// order of the batch, up to the first that does not fit any more. So what its requests need is done, or in the part.
+///
+/// A URL that refers to a request that is not in the part becomes the Location of that request, and what follows the
+/// first segment of the URL.
+///
+/// Takes O(requests + dependencies) and the length of the URLs that change. Allocates marks of units and requests, and
+/// these URLs.
+///
+/// # Errors
+///
+/// F90 at the first request of the part whose URL refers to a request that is not in the part, if no Location makes a
+/// URL of it that refers to no request and names no batch. `OutOfMemory` if an allocation fails.
+pub fn part_of(
+    alloc: Global,
+    plan: &Plan<'_>,
+    states: &[RequestState],
+    limit: u32,
+    locations: &[Option<&str>],
+) -> Result<Rest, RestFault>
+    requires states { length states.now ≡ length (plan_records plan.now) }
+    requires locations { length locations.now ≡ length (plan_records plan.now) }
+    ensures part { IfOk result (parts.IsPartAfter (plan_records plan.now) states.now limit
+        (text_at (texts_of locations.now))) }
+    ensures least { IfErr result (λ fault. (done left units : List Bool)
+        → parts.HasProgress (plan_records plan.now) states.now done left
+        → parts.IsNextPart (plan_records plan.now) done left limit units
+        → RefusesRest fault (plan_records plan.now) units (text_at (texts_of locations.now))) }
+{
+    let done = succeeded_units(alloc, plan, states)?;
+    let left = starting_units(alloc, plan, states)?;
+    part_by(alloc, plan, &done, &left, limit, locations)
+}
