@@ -171,6 +171,7 @@ pub(crate) fn fault_in(
     match Value::from_slice(alloc, text) {
         Ok(_) => Ok(text.len()),
         Err(error) if error.is_memory() => Err(AllocError),
+        Err(error) if error.is_eof() => Ok(text.len()),
         Err(error) => {
             let guess = bytes_before(text, error.line(), error.column());
             first_wrong(alloc, text, guess, error.is_eof())
