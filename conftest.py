@@ -13,8 +13,10 @@ import pytest
 sys.dont_write_bytecode = True
 
 from support import profiles
-from support.program import BUILT, ROOT, SHARED, library_fault, place_of
+from support.program import BUILT, COMPILED, ROOT, SHARED, library_fault, place_of
 
+# The tests themselves are compiled once, not by each worker of each run.
+sys.dont_write_bytecode, sys.pycache_prefix = False, COMPILED
 profiles.register()
 
 UNBUILT = "unbuilt"
@@ -94,6 +96,8 @@ def pytest_sessionfinish(session):
 
 
 def pytest_unconfigure(config):
+    if "support.starts" in sys.modules:
+        sys.modules["support.starts"].end()
     if getattr(config, UNBUILT, None):
         print(f"ERROR: {config.unbuilt}", file=sys.stderr)
 

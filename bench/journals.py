@@ -3,10 +3,12 @@
 
 FOLDER is what `bin/odb_library` has written, `dist/library` unless it is given. A gateway for each kind stands before one
 service that answers at once. 1, 8 and 64 clients send batches of five POSTs, side by side (flat: two syncs) or each after
-the one before (chain: six); the kinds take turns. Shown are medians over the turns, and as a share of those of the first
-kind in the same turn, beside the share that a quiet machine has to have. SQLite is on the disk of the temporary folder,
-PostgreSQL too, with its usual `fsync`. With `--two` the clients ask two gateways by turns, over one PostgreSQL. It takes three
-minutes; no turn begins after four. With `--short` it is one short turn, which shows that it runs.
+the one before (chain: six); for each number of clients the kinds take turns, in an order drawn anew. Counted are the answers
+of a while that begins once all clients are under way. Each turn has gateways of its own, as two processes of one kind differ.
+Shown are medians over the turns, and as a share of those of the first kind in the same turn, beside the share that a quiet
+machine has to have. SQLite is on the disk of the temporary folder, PostgreSQL too, with its usual `fsync`. With `--two` the
+clients ask two gateways by turns, over one PostgreSQL. It takes five minutes; no turn begins later. With `--short` it is one
+short turn, which shows that it runs.
 """
 
 import asyncio
@@ -32,9 +34,10 @@ from support import databases  # noqa: E402
 from support.commands import with_package  # noqa: E402
 from support.servers import FIRST_SENT  # noqa: E402
 
-CLIENTS, TURNS, SECONDS, MOST_SECONDS = (1, 8, 64), 5, 2.0, 240.0
+# How long clients are under way before their answers count, and how long these do.
+CLIENTS, TURNS, WARM, SECONDS, MOST_SECONDS = (1, 8, 64), 7, 0.4, 1.5, 290.0
 if "--short" in sys.argv:
-    TURNS, SECONDS = 1, 0.2
+    TURNS, WARM, SECONDS = 1, 0.1, 0.2
 # The shares of a prototype on a quiet machine, by 1, 8 and 64 clients; a tenth less is enough.
 PROTOTYPE = {
     ("flat", "SQLite"): (0.61, 0.66, 0.68), ("flat", "PostgreSQL"): (0.49, 0.73, 0.71),
@@ -96,24 +99,29 @@ async def rate(gateways, clients, shape, is_kept):
     """How many batches a second some clients get answers to, the processor time of the gateways for one, the median and the
     99th of a hundred waits, in ms."""
     text, waits, port = batch(shape), [], itertools.cycle(port for _, port in gateways)
-    before = sum(processor(process) for process, _ in gateways)
     opened = [await asyncio.open_connection("127.0.0.1", next(port), limit=2**24) for _ in range(clients)]
+    start = time.perf_counter() + WARM
+    end = start + SECONDS
 
     async def client(streams):
         while (began := time.perf_counter()) < end or not waits:
-            id = f"Repeatability-Request-ID: {secrets.token_hex(16)}\r\nRepeatability-First-Sent: {FIRST_SENT}\r\n"
-            status = await ask(streams, (id.encode() if is_kept else b"", text))
+            key = f"Repeatability-Request-ID: {secrets.token_hex(16)}\r\nRepeatability-First-Sent: {FIRST_SENT}\r\n"
+            status = await ask(streams, (key.encode() if is_kept else b"", text))
             assert status == 200, status
-            waits.append(time.perf_counter() - began)
+            ended = time.perf_counter()
+            if start <= ended < end or (ended >= end and not waits):
+                waits.append(ended - began)
         streams[1].close()
 
-    began = time.perf_counter()
-    end = began + SECONDS
-    await asyncio.gather(*map(client, opened))
-    took = time.perf_counter() - began
-    used = sum(processor(process) for process, _ in gateways) - before
+    running = asyncio.gather(*map(client, opened))
+    used = []
+    for moment in (start, end):
+        await asyncio.sleep(moment - time.perf_counter())
+        used.append(sum(processor(process) for process, _ in gateways))
+    await running
     waits.sort()
-    return len(waits) / took, used / len(waits), 1000 * waits[len(waits) // 2], 1000 * waits[int(len(waits) * 0.99)]
+    count = len(waits)
+    return count / SECONDS, (used[1] - used[0]) / count, 1000 * waits[count // 2], 1000 * waits[int(count * 0.99)]
 
 
 def gateway(upstream, *options):
@@ -126,23 +134,23 @@ def gateway(upstream, *options):
 async def measure(places):
     server = await asyncio.get_running_loop().create_server(Fast, "127.0.0.1", 0, backlog=1000)
     url = f"http://127.0.0.1:{server.sockets[0].getsockname()[1]}/odata/"
-    made = {
-        kind: [gateway(url, *(("--journal", place, "--one-client") if place else ())) for _ in range(count)]
-        for kind, (place, count) in places.items()
-    }
     found, end = {}, time.monotonic() + MOST_SECONDS
-    try:
-        for turn in range(TURNS):
-            if turn and time.monotonic() > end:
-                break
+    for turn in range(TURNS):
+        if turn and time.monotonic() > end:
+            break
+        made = {
+            kind: [gateway(url, *(("--journal", place, "--one-client") if place else ())) for _ in range(count)]
+            for kind, (place, count) in places.items()
+        }
+        try:
             for shape, clients in itertools.product(("flat", "chain"), CLIENTS):
                 for kind in sorted(made, key=lambda _: secrets.randbits(16)):
                     row = await rate(made[kind], clients, shape, bool(places[kind][0]))
                     found.setdefault((shape, clients, kind), []).append(row)
-    finally:
-        for process, _ in itertools.chain(*made.values()):
-            process.send_signal(signal.SIGTERM)
-            process.wait()
+        finally:
+            for process, _ in itertools.chain(*made.values()):
+                process.send_signal(signal.SIGTERM)
+                process.wait()
     return found
 
 

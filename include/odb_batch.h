@@ -201,9 +201,9 @@ typedef struct odb_position {
  * fault: `batch`, `outcomes`, `responses` or `events` for a document, or the path to an element, as `/requests/3`. `batch`
  * and `/requests/3` are in the batch, all others in the second document. If there is no such element, the position is that
  * of the document's value. If the document is not JSON (F02) and the place is a document, it is that of the first byte that
- * cannot be there, or the end. Returns ODB_DONE; or, with `*position` as it was, ODB_WRONG_OPTION if the text is no place,
- * or ODB_OUT_OF_MEMORY. `position` must not be NULL, nor overlap the document or the place. Takes O(n) time for a document
- * of n bytes; for F02 O(n log k), if the wrong token has k bytes. */
+ * cannot be there, or the end: this one is tested, not proved. Returns ODB_DONE; or, with `*position` as it was,
+ * ODB_WRONG_OPTION if the text is no place, or ODB_OUT_OF_MEMORY. `position` must not be NULL, nor overlap the document or
+ * the place. Takes O(n) time for a document of n bytes; for F02 O(n log k), if the wrong token has k bytes. */
 uint32_t odb_where(const uint8_t *document, size_t document_size,
                    const uint8_t *place, size_t place_size, odb_position *position);
 

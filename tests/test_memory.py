@@ -20,7 +20,6 @@ from support.program import EXAMPLES, TESTS
 pytestmark = [pytest.mark.slow, pytest.mark.needs("cc")]
 
 MEMORY = (4, b"error: memory\n")
-SECONDS = 60
 SHARE = 10
 SEED = 1
 SHOWN_RUNS, SHOWN_BYTES = 3, 400
@@ -56,26 +55,29 @@ class Program:
         source = os.path.join(TESTS, "memory", "refuse.c")
         subprocess.run(["cc", "-shared", "-fPIC", "-O2", "-o", self.library, source], check=True)
 
-    def run(self, trial, at=0, rest=False):
-        """Runs a trial in which the allocation `at` fails, and the later ones too if `rest`."""
-        read, write = os.pipe()
-        variables = {"LD_PRELOAD": self.library, "REFUSE_AT": str(at), "REFUSE_TELL": str(write)}
-        with os.fdopen(read, "rb") as file:
-            try:
-                done = subprocess.run(
-                    ["odb_batch", *trial.arguments],
-                    executable=self.binary,
-                    cwd=self.folder,
-                    env=variables | ({"REFUSE_REST": "1"} if rest else {}),
-                    pass_fds=[write],
-                    input=trial.input,
-                    capture_output=True,
-                    timeout=SECONDS,
-                )
-            finally:
-                os.close(write)
-            said = file.read().decode()
-        return Ending(done.returncode, done.stdout, done.stderr, "!" in said, int(said.strip("!") or 0))
+    def run(self, trial, places=(), rest=False):
+        """Runs a trial without a failed allocation, and then once for each of these places, where the allocation fails, and the
+        later ones too if `rest`; returns the endings."""
+        paths = {f"REFUSE_{name.upper()}": os.path.join(self.folder, name) for name in ("places", "input", "told")}
+        given = (" ".join(map(str, [0, *places])).encode(), trial.input)
+        for name, data in zip(("places", "input"), given):
+            with open(os.path.join(self.folder, name), "wb") as file:
+                file.write(data)
+        variables = {"LD_PRELOAD": self.library, **paths, **({"REFUSE_REST": "1"} if rest else {})}
+        words = ["odb_batch", *trial.arguments]
+        subprocess.run(words, executable=self.binary, cwd=self.folder, env=variables, check=True)
+        with open(paths["REFUSE_TOLD"], "rb") as file:
+            return list(endings(file))
+
+
+def endings(file):
+    """The endings of the runs of which the library tells; the first one has the whole output."""
+    whole = b""
+    for line in iter(file.readline, b""):
+        status, failed, allocations, begins, length, of_errors = map(int, line.split())
+        out = whole[:length] if begins else file.read(length)
+        whole = whole or out
+        yield Ending(status, out, file.read(of_errors), bool(failed), allocations)
 
 
 def is_right(trial, got, whole):
@@ -96,10 +98,10 @@ def places(trial, whole):
 
 
 def further_places(program, trial, rest, after):
-    """Goes on from the last place until no allocation fails; returns the places before that."""
+    """Goes on from the last place until no allocation fails; returns the endings of the places before that."""
     passed = []
-    while program.run(trial, after + len(passed) + 1, rest).failed:
-        passed.append(after + len(passed) + 1)
+    while (found := program.run(trial, [after + len(passed) + 1], rest)[1]).failed:
+        passed.append((after + len(passed) + 1, found))
     return passed
 
 
@@ -117,11 +119,12 @@ def refusing(program, tmp_path_factory):
 
 @pytest.mark.parametrize("trial, rest", CALLS)
 def test_allocations(refusing, trial, rest):
-    whole = refusing.run(trial)
+    (whole,) = refusing.run(trial)
     assert whole.status == trial.status and whole.allocations
     chosen = places(trial, whole)
+    found = list(zip(chosen, refusing.run(trial, chosen, rest)[1:]))
+    assert len(found) == len(chosen)
     if not trial.large:
-        chosen += further_places(refusing, trial, rest, whole.allocations)
-    endings = [(at, refusing.run(trial, at, rest)) for at in chosen]
-    wrong = [shown(at, got) for at, got in endings if not (got.failed and is_right(trial, got, whole))]
-    assert not wrong, "\n".join([f"{len(wrong)} of {len(chosen)} runs", *wrong[:SHOWN_RUNS]])
+        found += further_places(refusing, trial, rest, whole.allocations)
+    wrong = [shown(at, got) for at, got in found if not (got.failed and is_right(trial, got, whole))]
+    assert not wrong, "\n".join([f"{len(wrong)} of {len(found)} runs", *wrong[:SHOWN_RUNS]])

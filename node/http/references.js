@@ -18,7 +18,7 @@ const NONE = new Set()
 
 /** The first of some members that an object has, if it is a string. */
 function textAmong(object, names) {
-  return names.map((name) => object[name]).find((it) => typeof it === 'string')
+  return names.map((name) => object[name]).find((value) => typeof value === 'string')
 }
 
 /** What a call returns, or the refusal that it throws, as a function. */

@@ -96,7 +96,7 @@ class ServiceTargets {
   constructor(base, roots) {
     const parts = roots.map((root) => rootParts('roots', root))
     this.#base = bytesOf(base === '' ? '' : rootParts('base', base).join(''))
-    this.#roots = Buffer.from(parts.map((it) => it.join('')).join('\n'))
+    this.#roots = Buffer.from(parts.map((part) => part.join('')).join('\n'))
     this.#hosts = Buffer.from(parts.map(([host]) => `${host}/`).join('\n'))
     this.#path = decodePart(parts[0][1])
   }

@@ -64,13 +64,13 @@ DEFECTS = {
     "a-preference-lost": ("http/batch_request", '", ".join([value, *self._prefer]) if name == "prefer" else value', "value", MIDDLEWARE, "inherited"),
     "batches-in-batches": ("wsgi", 'if environ["PATH_INFO"] == self._middleware.path:', "if False:", MIDDLEWARE, "batch_in_a_batch"),
     "no-dependencies-of-references": (
-        "client/_builder", ", *filter(self._names.__contains__, _referred(url, given))]", "]", BUILDING, "dependencies",
+        "client/_builder", ", *filter(self._names.__contains__, _find_references(url, given))]", "]", BUILDING, "dependencies",
     ),
     "no-groups-of-dependencies": ("client/_builder", "if group is not None and group != own", "if False", BUILDING, "dependencies"),
     "half-a-group": ("client/_builder", "del self._requests[begun:]", "pass", BUILDING, "block_that_fails"),
     "digits-of-a-decimal": ("documents/encoding", "raise _HasDecimal", "return float(value)", BUILDING, "bodies"),
     "digits-of-an-answer": (
-        "http/batches", "_wire(body.encode(), headers)", "_wire(json.dumps(json.loads(body)).encode(), headers)",
+        "http/batches", "body.encode() if is_json(own)", "json.dumps(json.loads(body)).encode() if is_json(own)",
         SENDING, "bodies",
     ),
     "what-depends-on-a-failure": (
@@ -82,7 +82,7 @@ DEFECTS = {
     ),
     "a-stop-that-goes-on": ("client/_parts", 'self._mode == "stop" and self._is_error(unit)', "False", SENDING, "error_in_mode_stop"),
     "each-424-stops": ("client/_parts", " and not is_skipped and not any(300 <= status <= 399 for status in statuses)", "", SENDING, "no_error_in_mode_stop"),
-    "a-part-after-a-refusal": ("client/_parts", "answer))\n        self._is_stopped = True", "answer))", SENDING, "answer_to_the_whole"),
+    "a-part-after-a-refusal": ("client/_parts", ".ids})\n        self._is_stopped = True", ".ids})", SENDING, "answer_to_the_whole"),
     "responses-to-something-else": ("client/_parts", "match(self._part, text, mode=self._mode)", "pass", SENDING, "not_the_response"),
     "places-of-any-kind": ("client/_parts", "if not url or not is_plain(url):", "if False:", SENDING, "no_url_may_have"),
     "the-shortest-wait": ("client/_batch", "max(map(seconds_of", "min(map(seconds_of", SENDING, "retry_after"),

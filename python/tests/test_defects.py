@@ -2,14 +2,14 @@
 
 import os
 import shutil
-import subprocess
 import sys
 
 import pytest
 
 import odb_batch
 from support.commands import SECONDS
-from support.program import ROOT
+from support.program import COMPILED, ROOT
+from support.starts import ended
 
 sys.path.append(os.path.dirname(os.path.abspath(__file__)))
 from defects import DEFECTS
@@ -29,7 +29,6 @@ def test_is_found(name, library, tmp_path):
     place.write_text(before.replace(text, planted), encoding="utf-8")
     words = ["-q", "-x", "-p", "no:xdist", "-o", f"pythonpath=tests tools {tmp_path}/python", f"--library={library}"]
     tested = [f"{ROOT}/python/tests/{tests}.py", "-k", word]
-    done = subprocess.run(
-        [sys.executable, "-m", "pytest", *words, *tested], cwd=ROOT, capture_output=True, text=True, timeout=SECONDS
-    )
-    assert done.returncode == TESTS_FAILED, done.stdout
+    status, said, _ = ended(["pytest", *words, *tested], ROOT, dict(os.environ), SECONDS, anew="odb_batch")
+    shutil.rmtree(f"{COMPILED}{tmp_path}", ignore_errors=True)
+    assert status == TESTS_FAILED, said

@@ -30,10 +30,11 @@ NAME = b"3:ada%s"
 
 
 @pytest.mark.parametrize("line", [
-    b"{}\n", b"[]\n", b"x\n", b"[" * 100_000 + b"\n", b'{"report":[["a",200]]}\n', b'{"start":7}\n', b'{"start":[]}\n',
-    b'{"start":[7]}\n', b'{"start":[[]]}\n', b'{"report":[["a","200",{},null]]}\n', b'{"report":[["a",200,7,null]]}\n',
-    b'{"report":[["a",200,{},-5]]}\n', b'{"report":[["a",200,{},9999999]]}\n', b'{"report":[]}\n', b"{",
-], ids=range(15))  # fmt: skip
+    b"{}\n", b"[]\n", b"x\n", b"[" * 100_000 + b"\n", b'[{"report":[["a",200]]}]\n', b'[{"start":7}]\n', b'[{"start":[]}]\n',
+    b'[{"start":[7]}]\n', b'[{"start":[[]]}]\n', b'[{"report":[["a","200",{},null]]}]\n', b'[{"report":[["a",200,7,null]]}]\n',
+    b'[{"report":[["a",200,{},-5]]}]\n', b'[{"report":[["a",200,{},9999999]]}]\n', b'[{"report":[]}]\n', b"{", b"[{}]\n",
+    b'{"start":"a"}\n', b"7\n",
+], ids=range(18))  # fmt: skip
 def test_a_damaged_batch_is_not_gone_on_with(pair, place, line):
     service, ask = pair
     assert ask("x")[0] == 200
@@ -94,13 +95,14 @@ def test_a_batch_goes_on_wherever_its_journal_ends(pair, place):
     text = text_at(place, NAME % b"x")
     first = text.index(b"\n") + 1
     events = _encoding.decode_events(text[first:])
-    ends = [first]
-    for event in events:
-        ends.append(ends[-1] + len(b"".join(_encoding.encode_event(event))))
-    assert ends[-1] == len(text) and len(events) == 10
-    for count, end in enumerate(ends):
+    assert len(events) == 10
+    texts = [text[:first]]
+    for event in events:  # each alone, as if it had been synced
+        texts.append(b"".join([texts[-1], *_encoding.encode_events([event])]))
+    assert _encoding.decode_events(texts[-1][first:]) == events
+    for count, kept in enumerate(texts):
         id = f"after {count}"
-        plant(place, NAME % id.encode(), text[:end])
+        plant(place, NAME % id.encode(), kept)
         out = set()
         for event in events[:count]:
             reports = getattr(event, "reports", (event,) if hasattr(event, "status") else ())

@@ -192,7 +192,7 @@ def test_a_body_is_kept_byte_for_byte(size):
     body = None if size is None else bytes(k % 256 for k in range(size))
     report = Report("a", 200, {"x": "\u00fc\n"}, body)
     for event in (report, ReportUnit((report, Report("b", 204, {}), report))):
-        text = b"".join(_encoding.encode_event(event))
+        text = b"".join(_encoding.encode_events([event]))
         assert _encoding.decode_events(text * 2) == [event, event]
         for cut in {1, len(text) // 2, len(text) - 1}:
             with pytest.raises(ValueError, match="damaged"):

@@ -202,7 +202,7 @@ def test_no_request_is_sent_twice_by_a_library(upstream, loop, method):
         upstreams = UpstreamClient(options_of(["--upstream", service.url]), Counts())
         await upstreams.open()
         try:
-            await upstreams.session(method).request(method, service.url + "/x")
+            await upstreams.request(method, service.url + "/x")
         finally:
             await upstreams.close()
 

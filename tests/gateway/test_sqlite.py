@@ -38,7 +38,7 @@ def test_processes_write_by_turns(tmp_path, monkeypatch):
                 await events_of(other, b"y")
             left.set()
             thread.join()
-            await soon(lambda: other.store._hanging.done())
+            await soon(lambda: other.store._hanging is None)
             await soon(lambda: not other._releases)
             assert await events_of(other) == [Start("a")]
 

@@ -6,7 +6,7 @@ import pytest
 
 from odb_batch import Refusal, Report, ReportUnit, Start
 from odb_batch.journals import SqliteStore, store_of
-from odb_batch.journals._encoding import encode_event
+from odb_batch.journals._encoding import encode_events
 from odb_batch.journals.testing import CHECKS
 from support.journals import EVENTS, FIRST, LEASE, events_of, opened, parts_of, soon, written
 
@@ -55,7 +55,7 @@ def status_of(error):
 def test_a_body_is_not_copied_where_the_loop_writes_its_event():
     bodies = b"1" * 1_000_000, b"[" + b" " * 1_000_000 + b"]"
     reports = [Report("a", 200, {}, bodies[0]), Report("b", 201, {}, bodies[1])]
-    chunks = [*encode_event(reports[0]), *encode_event(ReportUnit(tuple(reports)))]
+    chunks = [*encode_events(reports[:1]), *encode_events([ReportUnit(tuple(reports))])]
     assert [sum(it is body for it in chunks) for body in bodies] == [2, 1]
     assert sum(len(it) for it in chunks if len(it) < 1_000_000) < 200
 

@@ -3,14 +3,16 @@
 import os
 import subprocess
 
-from .program import ROOT
+from .program import COMPILED, ROOT
 
 SECONDS = 900
 
 
 def with_package():
-    """The environment of a process that imports the package for Python of the repository."""
-    return {**os.environ, "PYTHONPATH": os.path.join(ROOT, "python"), "PYTHONDONTWRITEBYTECODE": "1"}
+    """The environment of a process that imports the package for Python of the repository. What it compiles is kept for the
+    next one, which starts in half the time."""
+    variables = {name: it for name, it in os.environ.items() if name != "PYTHONDONTWRITEBYTECODE"}
+    return {**variables, "PYTHONPATH": os.path.join(ROOT, "python"), "PYTHONPYCACHEPREFIX": COMPILED}
 
 
 def run(*words, wanted=None, **more):

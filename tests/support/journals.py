@@ -7,7 +7,7 @@ import sqlite3
 
 from odb_batch import Report, ReportUnit, Start, StartUnit, Stop
 from odb_batch.journals import NOBODY, Journals, Part, digest, identity, store_of
-from odb_batch.journals._encoding import encode_event
+from odb_batch.journals._encoding import encode_events
 
 from .servers import SECONDS
 
@@ -17,7 +17,7 @@ EVENTS = [
     ReportUnit((Report("d", 201, {"location": "/y"}, b"1.0"), Report("e", 204, {}))), Stop(),
 ]  # fmt: skip
 FIRST = identity(batch="1", mode="stop")
-TEXTS = [b"".join(encode_event(event)) for event in EVENTS]
+TEXTS = [b"".join(encode_events([event])) for event in EVENTS]
 # How long a lease is in tests that wait for its end, in seconds.
 LEASE = 1.0
 

@@ -15,6 +15,8 @@ PROGRAM = os.path.join(CRATES, "odb_batch", "out", "odb_batch")
 LIBRARY = os.path.join(ROOT, "dist", "library")
 SHARED = "libodb_batch.so.0"
 WASM = os.path.join(ROOT, "dist", "wasm")
+# Where the tests keep modules of Python that are compiled, beside no source.
+COMPILED = os.path.join(ROOT, "dist", "compiled")
 MODULE, MODULE32 = "odb_batch.wasm", "odb_batch32.wasm"
 
 

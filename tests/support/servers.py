@@ -134,12 +134,16 @@ class Server(Asked):
 
     def __init__(self, command, folder, log, **variables):
         with socket.create_server(("127.0.0.1", 0)) as listening, open(log, "ab") as out:
-            self.port, number = listening.getsockname()[1], listening.fileno()
-            words = [sys.executable, "-m", *(word.format(fd=number) for word in command)]
-            variables = {**with_package(), **variables}
-            more = {"cwd": folder, "stdout": out, "stderr": out, "env": variables, "pass_fds": [number]}
-            self.process = subprocess.Popen(words, start_new_session=True, **more)
+            self.port = listening.getsockname()[1]
+            self.process = self.started(command, folder, {**with_package(), **variables}, out, listening)
         self.log, self.url = log, f"http://127.0.0.1:{self.port}/odata/"
+
+    def started(self, command, folder, variables, out, listening):
+        """Starts the process, which takes over the socket."""
+        number = listening.fileno()
+        words = [sys.executable, "-m", *(word.format(fd=number) for word in command)]
+        more = {"cwd": folder, "stdout": out, "stderr": out, "env": variables, "pass_fds": [number]}
+        return subprocess.Popen(words, start_new_session=True, **more)
 
     def stop(self, number=signal.SIGTERM):
         if self.process.poll() is None:

@@ -30,3 +30,4 @@ mod FirstFaultLemmas
 mod VerdictLemmas
 mod LocatedLemmas
 mod ListLawLemmas
+mod WrittenLemmas

@@ -178,6 +178,6 @@ module _ (law : AreFunctional) (history : AreOneHistory) (policy : Policy) where
           batch = batched.batch;
           shaped = batched.shaped;
           is_batch = batched.is_batch;
-          holds = (batched.holds.0, record { labels = is.labels; texts = is.texts; after = after-next batched.batch events more live.run e is.after (subst (λ rs. RecordsOneMore rs events more e) (same_batch law batch _ _ next opens) next.holds.holds.1) within may });
+          holds = (batched.holds.0, record { labels = is.labels; texts = is.texts; places = is.places; after = after-next batched.batch events more live.run e is.after (subst (λ rs. RecordsOneMore rs events more e) (same_batch law batch _ _ next opens) next.holds.holds.1) within may });
         };
       }

@@ -14,8 +14,11 @@ use Rattle.odb_engine.specs.declared.ending.Ended.TheVariants.{Done}
 use Rattle.odb_engine.specs.declared.form.Form.{Form}
 use Rattle.odb_engine.specs.Cascade.{WritesIn, Accepts, AcceptsValue, Answers, AnswersValue}
 use Rattle.odb_engine.specs.ReadAgain.{IsReadAgain}
-use Rattle.odb_engine.specs.Replays.{Replays, ReplaysValue}
-use Rattle.odb_engine.specs.Runs.{Runs, RunsValue}
+use Rattle.odb_engine.specs.Contents.Given.{InMemory}
+use Rattle.odb_engine.specs.Replays.{Replays, ReplaysBatch, ReplaysValue}
+use Rattle.odb_engine.specs.Runs.{Runs, RunsBatch, RunsValue}
+use Rattle.odb_engine.specs.Tasks.{OfDocuments, OfTask}
+use Rattle.odb_engine.specs.declared.tasks.task.Task.TheVariants as tasks
 
 -- the laws of odb_doc on what is read from a text, and on what documents record
 pub record AreReadings : Type 0 where
@@ -33,9 +36,9 @@ answers-done : (P : List Record → WritesIn) (Q : List Record → Type 0) (byte
 answers-done P Q bytes text form so (inl x) = absurd (cc (x.ends))
 answers-done P Q bytes text form so (inr x) = record { value = x.value; document = x.document; holds = value-done P Q x.value form text so x.holds }
 
-replays-again : AreReadings → (order : Order) (policy : Policy) (outcomes text : List ℕ) (form : Form) (batch : List Record) → Replays (AllowsOrder order) policy false (Some outcomes) batch form Done text → IsReadAgain batch text
-replays-again law order policy outcomes text form batch (document, gives, inl x) = absurd (cc (x.ends))
-replays-again law order policy outcomes text form batch (document, gives, inr has) = at has.holds
+replays-batch : AreReadings → (order : Order) (policy : Policy) (document text : List ℕ) (form : Form) (batch : List Record) → ReplaysBatch (AllowsOrder order) policy false batch document form Done text → IsReadAgain batch text
+replays-batch law order policy document text form batch (inl x) = absurd (cc (x.ends))
+replays-batch law order policy document text form batch (inr has) = at has.holds
   where
     at : ReplaysValue (AllowsOrder order) policy false batch has.value form Done text → IsReadAgain batch text
     at (inl x) = absurd (cc (x.ends))
@@ -45,9 +48,12 @@ replays-again law order policy outcomes text form batch (document, gives, inr ha
         subst (IsReadAgain batch) (sym result.result) (result.read_again recordable)
     at (inr (entries, is, inr lacks)) = absurd (cc (lacks.ends))
 
-runs-again : AreReadings → (policy : Policy) (events text : List ℕ) (form : Form) (batch : List Record) → Runs policy (Some events) batch form Done text → IsReadAgain batch text
-runs-again law policy events text form batch (document, gives, inl x) = absurd (cc (x.ends))
-runs-again law policy events text form batch (document, gives, inr has) = at has.holds
+replays-again : AreReadings → (order : Order) (policy : Policy) (outcomes text : List ℕ) (form : Form) (batch : List Record) → Replays (AllowsOrder order) policy false (Some outcomes) batch form Done text → IsReadAgain batch text
+replays-again law order policy outcomes text form batch (document, gives, so) = replays-batch law order policy document text form batch so
+
+runs-batch : AreReadings → (policy : Policy) (document text : List ℕ) (form : Form) (batch : List Record) → RunsBatch policy batch document form Done text → IsReadAgain batch text
+runs-batch law policy document text form batch (inl x) = absurd (cc (x.ends))
+runs-batch law policy document text form batch (inr has) = at has.holds
   where
     at : RunsValue policy batch has.value form Done text → IsReadAgain batch text
     at (inl x) = absurd (cc (x.ends))
@@ -57,8 +63,19 @@ runs-again law policy events text form batch (document, gives, inr has) = at has
         let recordable = law.events has.value named (law.held document has.value reads) (law.nests document has.value reads) is.1 in
         subst (IsReadAgain batch) (sym result.result) (result.read_again recordable)
 
+runs-again : AreReadings → (policy : Policy) (events text : List ℕ) (form : Form) (batch : List Record) → Runs policy (Some events) batch form Done text → IsReadAgain batch text
+runs-again law policy events text form batch (document, gives, so) = runs-batch law policy document text form batch so
+
 pub replay-again : AreReadings → (order : Order) (policy : Policy) (form : Form) (bytes outcomes text : List ℕ) → Answers (Replays (AllowsOrder order) policy false (Some outcomes)) bytes form Done text → Accepts bytes (λ batch. IsReadAgain batch text)
 replay-again law order policy form bytes outcomes text = answers-done (Replays (AllowsOrder order) policy false (Some outcomes)) (λ batch. IsReadAgain batch text) bytes text form (replays-again law order policy outcomes text form)
 
 pub run-again : AreReadings → (policy : Policy) (form : Form) (bytes events text : List ℕ) → Answers (Runs policy (Some events)) bytes form Done text → Accepts bytes (λ batch. IsReadAgain batch text)
 run-again law policy form bytes events text = answers-done (Runs policy (Some events)) (λ batch. IsReadAgain batch text) bytes text form (runs-again law policy events text form)
+
+-- ---- of documents in memory
+
+pub replayed-again : AreReadings → (order : Order) (policy : Policy) (form : Form) (bytes outcomes text : List ℕ) → OfDocuments (tasks.Replay policy order false) (InMemory outcomes) bytes form Done text → Accepts bytes (λ batch. IsReadAgain batch text)
+replayed-again law order policy form bytes outcomes text = answers-done (OfTask (tasks.Replay policy order false) bytes (InMemory outcomes)) (λ batch. IsReadAgain batch text) bytes text form (replays-batch law order policy outcomes text form)
+
+pub ran-again : AreReadings → (policy : Policy) (form : Form) (bytes events text : List ℕ) → OfDocuments (tasks.Run policy) (InMemory events) bytes form Done text → Accepts bytes (λ batch. IsReadAgain batch text)
+ran-again law policy form bytes events text = answers-done (OfTask (tasks.Run policy) bytes (InMemory events)) (λ batch. IsReadAgain batch text) bytes text form (runs-batch law policy events text form)

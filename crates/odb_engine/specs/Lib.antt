@@ -17,6 +17,7 @@ pub mod Rests
 pub mod Contents
 pub mod FullPlans
 pub mod Tasks
+pub mod Written
 pub mod Located
 pub mod Labels
 pub mod Live

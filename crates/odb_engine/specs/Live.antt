@@ -1,5 +1,5 @@
 -- A run that goes on after recorded events, and what is written of it.
-use Rattle.std.specs.Prelude.{◌≡◌, ◌⊎◌, ℕ, List, [], ◌∷◌, ◌++◌, Option, Some, None, true, false, slice_set, if◌then◌else◌}
+use Rattle.std.specs.Prelude.{◌≡◌, ◌⊎◌, ℕ, List, [], ◌∷◌, ◌++◌, length, Option, Some, None, true, false, slice_set, if◌then◌else◌}
 use Rattle.odb_check.specs.Texts.{newline}
 use Rattle.odb_doc.specs.declared.fault.TextFault.TheVariants.{NotWhole}
 use Rattle.odb_doc.specs.batch.Records.{Record}
@@ -52,10 +52,12 @@ pub data IsLeastAfter (policy : Policy) (batch : List Record) (bytes : List ℕ)
   OfIds : (named : List EventValue) → AreEventsIn bytes named → (at : ℕ) → IsFirstUnknown batch named at → resolve_row (UnknownEvent at) ≡ Some refusal → IsLeastAfter policy batch bytes refusal
   OfEvent : (named : List EventValue) → AreEventsIn bytes named → (events : List Event) (cause : RunRefusal) → AreResolved batch named events → StopsAt (first_state batch policy) events cause → run_row cause ≡ Some refusal → IsLeastAfter policy batch bytes refusal
 
--- the ids and groups are those of the batch, the run is that after the events in these bytes, and no body is a text
+-- the ids and groups are those of the batch, the run is that after the events in these bytes, and each request has a place for a
+-- text of its body, with none in it
 pub record IsOpened (policy : Policy) (batch : List Record) (bytes : List ℕ) (live : Live) : Type 0 where
   pub labels : live.labels ≡ labels_of batch
   pub texts : HasNoText live.texts
+  pub places : length live.texts ≡ length batch
   pub after : IsAfter policy batch bytes live.run
 
 -- the live run of the batch in a document, after the events in another

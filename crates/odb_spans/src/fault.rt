@@ -1,6 +1,6 @@
 //! Where a document that is not JSON goes wrong.
 
-ghost use Rattle.std.specs.Prelude.{◌≡◌, ◌≤◌, ◌<◌, ◌+◌, length, IfOk, OnErr};
+ghost use Rattle.std.specs.Prelude.{◌≤◌, ◌<◌, ◌+◌, length, IfOk, OnErr};
 
 use crate::byte::has_byte;
 use crate::extent::value_end;

@@ -21,15 +21,18 @@ type Row = (
 );
 
 /// `b` needs `a`, `c` nothing, and `d` both.
-const DIAMOND: &str = r#"{"requests":[{"id":"a","method":"get","url":"A"},{"id":"b","method":"get","url":"B","dependsOn":["a"]},
+const DIAMOND: &str =
+    r#"{"requests":[{"id":"a","method":"get","url":"A"},{"id":"b","method":"get","url":"B","dependsOn":["a"]},
     {"id":"c","method":"get","url":"C"},{"id":"d","method":"get","url":"D","dependsOn":["b","c"]}]}"#;
 
 /// A group of two after one request, and one request after it.
-const GROUP: &str = r#"{"requests":[{"id":"a","method":"get","url":"A"},{"id":"b","atomicityGroup":"g","method":"post","url":"B","body": 9.990},
+const GROUP: &str =
+    r#"{"requests":[{"id":"a","method":"get","url":"A"},{"id":"b","atomicityGroup":"g","method":"post","url":"B","body": 9.990},
     {"id":"c","atomicityGroup":"g","method":"get","url":"$b/C","dependsOn":["b"]},{"id":"d","method":"get","url":"D"}]}"#;
 
 /// `b` refers to `a`.
-const REFERENCE: &str = r#"{"requests":[{"id":"a","method":"post","url":"A","body":{}},{"id":"b","method":"get","url":"$a/B","dependsOn":["a"]}]}"#;
+const REFERENCE: &str =
+    r#"{"requests":[{"id":"a","method":"post","url":"A","body":{}},{"id":"b","method":"get","url":"$a/B","dependsOn":["a"]}]}"#;
 
 const ROWS: &[Row] = &[
     // As many as fit, in the order of the batch; then what is left, without what is done.

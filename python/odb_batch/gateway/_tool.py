@@ -8,19 +8,14 @@ import os
 import signal
 import socket
 import sys
-import threading
-import time
 from dataclasses import replace
 from typing import Optional, Sequence
 
-from ..journals import THREADS, is_database
+from ..journals import is_database
 from ._log import LINES, log_line, log_to_stderr
 from ._options import PROGRAM, Options, options_of
 from ._values import Address
 from ._workers import UNUSABLE, Worker, Workers
-
-# For how many seconds threads are waited for at the end.
-_THREAD_SECONDS = 2.0
 
 
 def main(words: Sequence[str]) -> int:
@@ -49,7 +44,6 @@ def _run(options: Options, worker: Optional[Worker] = None) -> int:
         asyncio.run(_serve(options, worker))
     except OSError as error:
         return _report(error)
-    _join_threads(0)
     return 0
 
 
@@ -65,17 +59,6 @@ def _with_free_port(options: Options) -> Options:
     host, port = options.listen
     with socket.create_server((host, port), family=socket.AF_INET6 if ":" in host else socket.AF_INET) as listening:
         return replace(options, listen=Address(host, listening.getsockname()[1]))
-
-
-def _join_threads(status: int) -> None:
-    """Ends the process if a thread does not end, as one that waits for a device that hangs."""
-    end = time.monotonic() + _THREAD_SECONDS
-    threads = [thread for thread in threading.enumerate() if thread.name.startswith(THREADS)]
-    for thread in threads:
-        thread.join(max(0.0, end - time.monotonic()))
-    if any(thread.is_alive() for thread in threads):
-        print("a journal is still written: the device may hang", file=sys.stderr, flush=True)
-        os._exit(status)
 
 
 async def _serve(options: Options, worker: Optional[Worker] = None) -> None:

@@ -14,10 +14,10 @@ from ._encoding import digest, identity
 from ._journal import StoreJournal
 from ._journals import Journals
 from ._sqlite import MOST_BYTES, SqliteStore
-from ._stores import NOBODY, THREADS, Hold, Late, Lease, Mark, Part, Store
+from ._stores import NOBODY, Hold, Late, Lease, Mark, Part, Store
 
 __all__ = [
-    "NOBODY", "THREADS", "Hold", "Journals", "Late", "Lease", "Mark", "Part", "SqliteStore", "Store", "StoreJournal",
+    "NOBODY", "Hold", "Journals", "Late", "Lease", "Mark", "Part", "SqliteStore", "Store", "StoreJournal",
     "digest", "identity", "store_of",
 ]  # fmt: skip
 

@@ -4,10 +4,10 @@ import asyncio
 import contextlib
 from typing import TYPE_CHECKING, List, Optional, Sequence, Set
 
-from ..documents.encoding import Report
-from ..driver.journal import JournalEvent, ReportUnit, StartUnit, Stop
+from ..documents.encoding import Start
+from ..driver.journal import JournalEvent, StartUnit
 from ..http.messages import Refusal
-from ._encoding import decode_events, encode_event
+from ._encoding import decode_events, encode_events, reports_of
 from ._stores import NOBODY, Late, Mark, Part, clock
 
 if TYPE_CHECKING:
@@ -15,6 +15,8 @@ if TYPE_CHECKING:
 
 # After how many seconds an answer is kept that comes while others of its batch are waited for.
 _SOON = 0.25
+# About how many bytes a report takes without its body.
+_HEAD = 100
 # How often a lease is looked at that is being renewed, in seconds.
 _LOOK = 0.05
 
@@ -31,55 +33,54 @@ class StoreJournal:
         batch: The name of the batch in the store.
         events: What has happened before.
         has_kept: Whether something was kept since it was opened. Before that nothing was sent but GETs.
-        size: How many bytes wait for a sync.
+        size: About how many bytes no part has yet.
         failure: Why nothing more is appended: another one has the batch, or it is not known what was kept.
         append: The end of the append that has begun, or is waited for; None if there is none.
     """
 
     def __init__(self, owner: "Journals", batch: bytes, first: bytes, parts: Sequence[Part]) -> None:
         self._owner, self.batch, self.events = owner, batch, _decode_events(first, parts)
-        self._number, self._after = len(parts), parts[-1].mark if parts else NOBODY
-        self._chunks: List[bytes] = [] if parts else [first]
-        self.size = sum(map(len, self._chunks))
+        # What no part has yet.
+        self._text, self._new = b"" if parts else first, []  # type: bytes, List[JournalEvent]
+        self.size = 0
+        # How many parts are kept, and how many have begun; and who has written the last one that is kept.
+        self._kept = self._begun = len(parts)
+        self._after = parts[-1].mark if parts else NOBODY
+        self._lease = self._next_lease = owner.store.lease
+        self._mark: Mark = (self._lease.holder, next(owner.writers))
+        # Which requests are out, and which were.
         self._out: Set[str] = set()
         for event in self.events:
             self._note(event)
         self._was_out = frozenset(self._out)
-        # How many events are written, kept, and in the append that has begun.
-        self._written = self._kept = self._appended = 0
-        self._lease = self._next_lease = owner.store.lease
-        self._mark: Mark = (self._lease.holder, next(owner.writers))
         self._is_open = self._is_left = self.has_kept = False
         self.failure: Optional[Exception] = None
         self._timer: Optional[asyncio.TimerHandle] = None
-        self.append: "Optional[asyncio.Future[None]]" = None
+        self.append: Optional[asyncio.Event] = None
 
     def write(self, event: JournalEvent) -> None:
         """Appends an event; raises what has failed before."""
         self._require()
-        chunks = encode_event(event)
-        self._chunks.extend(chunks)
-        self.size += sum(map(len, chunks))
-        self._written += 1
+        self._new.append(event)
         self._note(event)
-        if isinstance(event, Report):
-            self._owner.lost += event.id in self._was_out and event.status == 500 and b'"Lost"' in (event.body or b"")
-        if isinstance(event, (Report, ReportUnit)) and self._out and self._timer is None:
-            with contextlib.suppress(RuntimeError):  # what is lost is written by another thread, and synced at once
-                self._timer = asyncio.get_running_loop().call_later(_SOON, self._flush)
+        for report in reports_of(event):
+            self.size += _HEAD + len(report.body or b"")
+            if report.id in self._was_out:
+                self._owner.lost += report.status == 500 and b'"Lost"' in (report.body or b"")
+            if self._out and self._timer is None:
+                with contextlib.suppress(RuntimeError):  # what is lost is written by another thread, and synced at once
+                    self._timer = asyncio.get_running_loop().call_later(_SOON, self._flush)
 
     def _note(self, event: JournalEvent) -> None:
-        """Keeps which requests are out."""
-        if isinstance(event, (Report, ReportUnit)):
-            reports = event.reports if isinstance(event, ReportUnit) else (event,)
-            self._out.difference_update(report.id for report in reports)
-        elif not isinstance(event, Stop):
+        if isinstance(event, (Start, StartUnit)):
             self._out.update(event.ids if isinstance(event, StartUnit) else (event.id,))
+        else:
+            self._out.difference_update(report.id for report in reports_of(event))
 
     def _flush(self) -> None:
         """Keeps an answer that the process might else lose while the batch waits for another one."""
         self._timer = None
-        if self._chunks and self.failure is None:
+        if self._new and self.failure is None:
             self._owner.flush(self)
 
     async def sync(self) -> None:
@@ -89,27 +90,25 @@ class StoreJournal:
             Refusal: Another process has the batch: 409 ``InProgress``. Nothing more is to be sent.
             OSError: It is not known whether they are kept, or the lease cannot be renewed.
         """
-        wanted = self._written
-        await self._keep(wanted)
-        self._require()
+        await self._keep(self._begun + bool(self._new))
         if self._out:
             await self._wait_for_lease()
-        elif not wanted and self._number:
+        elif self._kept and not self.has_kept:
             await self._owner.store.confirm()
 
     async def _keep(self, count: int) -> None:
-        """Returns once so many events are kept."""
+        """Returns once so many parts are kept."""
         while self._kept < count:
             self._require()  # after a failure the same number must not have another text
-            await asyncio.shield(self._owner.flush(self))
+            await self._owner.flush(self).wait()
+        self._require()
 
     async def _wait_for_lease(self) -> None:
         """Returns once nobody else goes on with the batch before the lease ends under which its last part is kept."""
         end = clock() + self._lease.seconds
         while self._lease.is_over:
             if not self._owner.store.lease.is_over:  # another one than that of the last part
-                self._written += 1  # a part of no bytes
-                await self.sync()
+                await self._keep(self._begun + 1)
             elif clock() < end:
                 await asyncio.sleep(_LOOK)
             else:
@@ -127,24 +126,26 @@ class StoreJournal:
     # The append
 
     def next_part(self) -> Part:
-        """Returns what is written and not kept yet; `end_append` says what has become of it."""
-        text, self._chunks, self.size, self._appended = b"".join(self._chunks), [], 0, self._written
+        """Returns what no part has yet, maybe nothing; `end_append` says what has become of it."""
+        text = b"".join([self._text, *(encode_events(self._new) if self._new else ())])
+        self._text, self._new, self.size = b"", [], 0
         self._next_lease = self._owner.store.lease
         self._mark = (self._next_lease.holder, self._mark[1])
         self._is_open = bool(self._out) and not self._is_left
-        return Part(self.batch, self._number, self._mark, self._after, self._is_open, text)
+        self._begun += 1
+        return Part(self.batch, self._kept, self._mark, self._after, self._is_open, text)
 
     def end_append(self, error: Optional[Exception]) -> None:
         """Notes that the part is kept; or why all that comes is refused: another one has the batch, or it is not known
         whether the part is kept, and the next one would have its number."""
         self.failure = error
         if error is None:
-            self._number, self._after, self._kept = self._number + 1, self._mark, self._appended
+            self._kept, self._after = self._kept + 1, self._mark
             # Not before: what was started under another lease may have been taken over.
             self._lease, self.has_kept = self._next_lease, True
         append, self.append = self.append, None
-        if append is not None and not append.done():
-            append.set_result(None)
+        if append is not None:
+            append.set()
 
     # The end
 
@@ -155,12 +156,11 @@ class StoreJournal:
             self._timer.cancel()
         if self.failure is not None:
             return not isinstance(self.failure, Refusal)
-        return self._is_open or bool(self._chunks and self._written)
+        return self._is_open or bool(self._new)
 
     async def end(self) -> None:
         """Keeps what is written, and that nothing is out any more; raises what has failed."""
-        self._written += 1
-        await self._keep(self._written)
+        await self._keep(self._begun + 1)
 
     def has_written(self, part: Part) -> bool:
         """Returns whether a part is of this journal, also one that was not known to be kept."""

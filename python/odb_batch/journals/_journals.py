@@ -4,7 +4,7 @@ import asyncio
 import contextlib
 import itertools
 from collections import deque
-from typing import AsyncIterator, Awaitable, Callable, Coroutine, Deque, Iterator, List, Optional, Set, Tuple
+from typing import AsyncIterator, Awaitable, Callable, Coroutine, Deque, Iterator, List, Set, Tuple
 
 from ..http.messages import LOG, Refusal
 from ._journal import StoreJournal, in_progress
@@ -194,10 +194,10 @@ class Journals:
 
     # Appending
 
-    def flush(self, journal: StoreJournal) -> "asyncio.Future[None]":
-        """Returns what the next append of a journal ends with, or the one that is on its way."""
+    def flush(self, journal: StoreJournal) -> asyncio.Event:
+        """Returns what is set at the end of the next append of a journal, or of the one that is on its way."""
         if journal.append is None:
-            journal.append = asyncio.get_running_loop().create_future()
+            journal.append = asyncio.Event()
             (self._long if journal.size > _LONG else self._short).put_nowait(journal)
         return journal.append
 
@@ -213,20 +213,20 @@ class Journals:
             await self._append(journals)
 
     async def _append(self, journals: List[StoreJournal]) -> None:
-        parts, began = [journal.next_part() for journal in journals], clock()
-        ends: List[Optional[Exception]] = [OSError("it was broken off")] * len(parts)
+        began, kept = clock(), set()  # type: float, Set[bytes]
+        failure: Exception = OSError("it was broken off")
         try:
-            kept = await self.store.append(parts)
-            ends = [None if part.batch in kept else in_progress() for part in parts]
-            self.refused += len(parts) - len(kept)
-        except Exception as error:
-            ends = [error if isinstance(error, OSError) else OSError(f"{type(error).__name__}: {error}")] * len(parts)
-        finally:
+            parts = [journal.next_part() for journal in journals]
+            kept, failure = await self.store.append(parts), in_progress()
             self.appends, self.parts = self.appends + 1, self.parts + len(parts)
             self.bytes += sum(len(part.text) for part in parts)
+            self.refused += len(parts) - len(kept)
             self.seconds += clock() - began
-            for journal, end in zip(journals, ends):
-                journal.end_append(end)
+        except Exception as error:
+            failure = error if isinstance(error, OSError) else OSError(f"{type(error).__name__}: {error}")
+        finally:
+            for journal in journals:
+                journal.end_append(None if journal.batch in kept else failure)
 
     # Removing
 

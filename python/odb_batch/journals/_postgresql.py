@@ -12,7 +12,7 @@ from typing import Any, Callable, List, Optional, Sequence, Set
 import asyncpg
 
 from ..http.messages import LOG
-from ._stores import NOBODY, Hold, Lease, Part, clock
+from ._stores import Hold, Lease, Part, clock, parts_of
 
 _FORM = 1
 #: What docs/journal.sql has, for a role that may not make tables.
@@ -156,11 +156,7 @@ class PostgresqlStore:
             texts = [row[0] for row in await self._rows(_TEXTS, batch, len(rows), size=size)]
             if len(texts) < len(rows):
                 raise OSError("PostgreSQL: the batch was removed")
-        parts: List[Part] = []
-        for (number, holder, writer, is_open, *_), text in zip(rows, texts):
-            after = parts[-1].mark if parts else NOBODY
-            parts.append(Part(batch, number, (holder, writer), after, is_open, text))
-        return parts
+        return parts_of(batch, [(*row[:4], text) for row, text in zip(rows, texts)])
 
     async def append(self, parts: Sequence[Part]) -> Set[bytes]:
         parts = sorted(parts, key=lambda part: part.batch)  # two that wait for each other would be a deadlock
@@ -251,29 +247,26 @@ class _Connection:
         # A commit whose wait for a standby was cancelled is reported as done, with a warning.
         new.add_log_listener(self._note)
         self._connection, self._is_warned = new, False
-        if await self._run_in_time(lambda new: new.fetchval("SELECT pg_is_in_recovery()"), timeout):
+        if await new.fetchval("SELECT pg_is_in_recovery()", timeout=timeout):
             raise ConnectionError("it is a standby")
 
     def _note(self, *_: Any) -> None:
         self._is_warned = True
 
     async def _run_in_time(self, work: _Work, seconds: float) -> Any:
-        """Returns what a work over the connection returns; ends the connection where it takes too long.
+        """Returns what a work over the connection returns; ends the connection where it takes too long, and with it the
+        work.
 
-        Not `wait_for`, which would cancel the statement at the server, too.
+        Not `wait_for`, which would cancel the statement at the server, too; nor is it cancelled with the caller.
         """
-        task = asyncio.ensure_future(work(self._connection))
+        timer = asyncio.get_running_loop().call_later(seconds, self.drop)
         try:
-            await asyncio.wait({task}, timeout=seconds)
+            result = await asyncio.shield(work(self._connection))
         finally:
-            if not task.done():
-                self.drop()
-                task.add_done_callback(lambda ended: ended.cancelled() or ended.exception())
-        if not task.done():
-            raise asyncio.TimeoutError("no answer in time")
-        if self._is_warned and task.exception() is None:
+            timer.cancel()
+        if self._is_warned:
             raise ConnectionError("the commit was not confirmed by a standby")
-        return task.result()
+        return result
 
     def drop(self) -> None:
         """Ends the connection."""

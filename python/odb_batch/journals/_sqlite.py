@@ -6,14 +6,16 @@ import fcntl
 import glob
 import json
 import os
+import queue
 import re
 import sqlite3
 import stat
+import threading
 import time
-from concurrent.futures import ThreadPoolExecutor
 from typing import Any, Callable, Iterator, List, Optional, Sequence, Set, TypeVar
 
-from ._stores import NOBODY, THREADS, Hold, Lease, Part
+from ..http.messages import LOG
+from ._stores import Hold, Lease, Part, parts_of
 
 #: How many bytes the file may have, if nothing else is said.
 MOST_BYTES = 17_179_869_184
@@ -30,10 +32,11 @@ CREATE TABLE IF NOT EXISTS piece (
     place INTEGER NOT NULL, text BLOB NOT NULL, PRIMARY KEY (batch, number, holder, writer, place)
 );
 """
-_SIZE = "SELECT coalesce(sum(size), 0) FROM part WHERE batch = ?"
+_SIZE = "SELECT sum(size) FROM part WHERE batch = ?"
 _FIND = "SELECT number, holder, writer, open, pieces, text FROM part WHERE batch = ? ORDER BY number"
 _MARK = "SELECT holder, writer FROM part WHERE batch = ? AND number = ?"
-_INSERT = "INSERT OR IGNORE INTO part VALUES (?, ?, ?, ?, ?, ?, ?, ?, ?)"
+_INSERT = """INSERT OR IGNORE INTO part SELECT ?1, ?2, ?3, ?4, ?5, ?6, ?7, ?8, ?9 WHERE ?2 = 0 OR EXISTS
+    (SELECT 1 FROM part WHERE batch = ?1 AND number = ?2 - 1 AND holder = ?10 AND writer = ?11)"""
 _INSERT_PIECE = "INSERT OR IGNORE INTO piece VALUES (?, ?, ?, ?, ?, ?)"
 _PIECES = "FROM piece WHERE batch = ? AND number = ? AND holder = ? AND writer = ?"
 _OLD = """DELETE FROM part WHERE batch IN (SELECT batch FROM part AS a WHERE number = 0 AND at < ?1
@@ -67,29 +70,57 @@ class SqliteStore:
     def __init__(self, folder: str, most: int = MOST_BYTES) -> None:
         self._folder, self._path, self._most = folder, os.path.join(folder, "journal.sqlite"), most
         self.lease = Lease()
+        # What has not ended in time.
         self._hanging: "Optional[asyncio.Future[Any]]" = None
 
-    # A thread for what writes, and one for what reads
+    # A thread for what writes, and one for what reads: each takes its work from a queue, and an executor takes longer
 
-    async def _run(self, pool: ThreadPoolExecutor, work: Callable[..., _Result], *given: Any) -> _Result:
+    def _start_thread(self) -> "queue.SimpleQueue[Any]":
+        queued: "queue.SimpleQueue[Any]" = queue.SimpleQueue()
+        # A process that ends does not wait for it.
+        threading.Thread(target=self._work, args=(asyncio.get_running_loop(), queued), daemon=True).start()
+        return queued
+
+    def _work(self, loop: asyncio.AbstractEventLoop, queued: "queue.SimpleQueue[Any]") -> None:
+        while job := queued.get():
+            future, work, given = job
+            try:
+                end = future.set_result, work(*given)
+            except sqlite3.Error as error:
+                end = future.set_exception, OSError(f"SQLite: {error}")
+            except BaseException as error:
+                end = future.set_exception, error
+            with contextlib.suppress(RuntimeError):  # the loop has ended
+                loop.call_soon_threadsafe(self._end, future, *end)
+
+    def _end(self, future: "asyncio.Future[Any]", settle: Callable[[Any], None], value: Any) -> None:
+        if future is self._hanging:
+            self._hanging = None
+        if not future.done():
+            settle(value)
+
+    def _give_up(self, future: "asyncio.Future[Any]") -> None:
+        self._end(future, future.set_exception, OSError("SQLite: no answer in time"))
+        self._hanging = future
+
+    async def _run(self, queued: "queue.SimpleQueue[Any]", work: Callable[..., _Result], *given: Any) -> _Result:
         """Runs a function in a thread; raises OSError if that takes too long, also for what comes after it."""
-        if self._hanging is not None and not self._hanging.done():
+        if self._hanging is not None:
             raise OSError("SQLite: the device hangs, or a process that writes is stopped")
-        running = asyncio.wrap_future(pool.submit(work, *given))
+        loop = asyncio.get_running_loop()
+        future: "asyncio.Future[_Result]" = loop.create_future()
+        queued.put((future, work, given))
+        timer = loop.call_later(_SECONDS, self._give_up, future)
         try:
-            return await asyncio.wait_for(asyncio.shield(running), _SECONDS)
-        except asyncio.TimeoutError:
-            self._hanging = running
-            running.add_done_callback(lambda future: future.cancelled() or future.exception())
-            raise OSError("SQLite: no answer in time") from None
-        except sqlite3.Error as error:
-            raise OSError(f"SQLite: {error}") from None
+            return await future
+        finally:
+            timer.cancel()
 
     async def open(self) -> None:
         self._require_folder()
-        self._writer, self._reader = ThreadPoolExecutor(1, THREADS), ThreadPoolExecutor(1, THREADS)
         self._lock = self._lock_file(self._lock_path(self.lease.holder))
         self._turn = os.open(f"{self._path}-turn", _FLAGS | os.O_CREAT, 0o600)
+        self._writer, self._reader = self._start_thread(), self._start_thread()
         try:
             self._to_write = await self._run(self._writer, self._connect)
             self._to_read = await self._run(self._reader, self._connect)
@@ -136,12 +167,13 @@ class SqliteStore:
         return connection
 
     async def close(self) -> None:
-        for pool, name in ((self._writer, "_to_write"), (self._reader, "_to_read")):
-            connection = getattr(self, name, None)
-            if connection is not None:
-                closing = asyncio.wrap_future(pool.submit(connection.close))
-                await asyncio.wait({closing}, timeout=_CLOSE_SECONDS)
-            pool.shutdown(wait=False)
+        for queued, name in ((self._writer, "_to_write"), (self._reader, "_to_read")):
+            try:
+                if hasattr(self, name):
+                    await asyncio.wait_for(self._run(queued, getattr(self, name).close), _CLOSE_SECONDS)
+            except (OSError, asyncio.TimeoutError):
+                LOG.error("a journal is still written: the device may hang")
+            queued.put(None)
         with contextlib.suppress(FileNotFoundError):
             os.unlink(self._lock_path(self.lease.holder))
         os.close(self._lock)
@@ -157,19 +189,21 @@ class SqliteStore:
         return await self._run(self._reader, self._read, batch, hold)
 
     def _read(self, batch: bytes, hold: Hold) -> List[Part]:
-        execute, parts, after = self._to_read.execute, [], NOBODY
+        execute = self._to_read.execute
+        if execute(_SIZE, (batch,)).fetchone() == (None,):  # most batches are new
+            return []
         execute("BEGIN")
         try:
-            hold(execute(_SIZE, (batch,)).fetchone()[0])
-            for number, holder, writer, is_open, pieces, text in execute(_FIND, (batch,)).fetchall():
-                if pieces:
-                    given = (batch, number, holder, writer)
-                    text = b"".join(row[0] for row in execute(f"SELECT text {_PIECES} ORDER BY place", given)) + text
-                parts.append(Part(batch, number, (holder, writer), after, bool(is_open), text))
-                after = parts[-1].mark
-            return parts
+            hold(execute(_SIZE, (batch,)).fetchone()[0] or 0)
+            rows = execute(_FIND, (batch,)).fetchall()
+            return parts_of(batch, [(*row[:4], self._whole_text(batch, *row)) for row in rows])
         finally:
             execute("COMMIT")
+
+    def _whole_text(self, batch: bytes, number: int, holder: int, writer: int, _: int, pieces: int, rest: bytes) -> bytes:
+        given = (batch, number, holder, writer)
+        rows = self._to_read.execute(f"SELECT text {_PIECES} ORDER BY place", given) if pieces else ()
+        return b"".join([*(text for text, in rows), rest])
 
     async def is_over(self, holder: int) -> bool:
         try:
@@ -223,17 +257,13 @@ class SqliteStore:
 
     def _insert(self, execute: Callable[..., sqlite3.Cursor], part: Part) -> bool:
         """Appends a part; returns whether it is kept."""
-        before = execute(_MARK, (part.batch, part.number - 1)).fetchone()
-        if part.number and before != part.after:
-            return False
         pieces = len(part.text) // _PIECE
         if pieces:
             (count,) = execute(f"SELECT count(*) {_PIECES}", (part.batch, part.number, *part.mark)).fetchone()
             if count != pieces:
                 raise OSError("a piece of a long text was removed before it was kept")
-        rest = part.text[pieces * _PIECE :]
-        row = (part.batch, part.number, *part.mark, part.is_open, time.time(), len(part.text), pieces, rest)
-        if execute(_INSERT, row).rowcount:
+        row = (part.batch, part.number, *part.mark, part.is_open, time.time(), len(part.text), pieces)
+        if execute(_INSERT, (*row, part.text[pieces * _PIECE :], *part.after)).rowcount:
             return True
         return bool(execute(_MARK, (part.batch, part.number)).fetchone() == part.mark)
 

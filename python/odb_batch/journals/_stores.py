@@ -4,7 +4,7 @@ import math
 import secrets
 import time
 from dataclasses import dataclass
-from typing import Callable, List, Protocol, Sequence, Set, Tuple
+from typing import Any, Callable, Iterable, List, Protocol, Sequence, Set, Tuple
 
 #: Who has written a part: a holder, and a number of it for each time that it opens a batch.
 Mark = Tuple[int, int]
@@ -12,8 +12,6 @@ Mark = Tuple[int, int]
 NOBODY: Mark = (0, 0)
 #: Reserves memory for as many bytes, or raises an exception.
 Hold = Callable[[int], None]
-#: The name of the threads of stores begins with this.
-THREADS = "journal"
 
 
 def clock() -> float:
@@ -63,6 +61,14 @@ class Part:
     after: Mark
     is_open: bool
     text: bytes
+
+
+def parts_of(batch: bytes, rows: Iterable[Sequence[Any]]) -> List[Part]:
+    """Returns the parts of a batch, in order: the number, the holder, the writer, whether it is open, and the text."""
+    parts: List[Part] = []
+    for number, holder, writer, is_open, text in rows:
+        parts.append(Part(batch, number, (holder, writer), parts[-1].mark if parts else NOBODY, bool(is_open), text))
+    return parts
 
 
 class Store(Protocol):

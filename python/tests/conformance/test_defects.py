@@ -8,7 +8,7 @@ import pytest
 
 from common import rows
 from odb_batch import check
-from tool import ABOUT, service, tool
+from tool import ABOUT, judgement, service
 
 
 class Defect(NamedTuple):
@@ -251,7 +251,7 @@ def judged(name, cases):
         before = rows(database)
         breaks = os.path.join(folder, "breaks")
         words = [it for glob in cases.split() for it in ("--case", glob)]
-        done = tool(running.url, *ABOUT, *words, "--json", "--breaks", breaks)
+        done = judgement(folder, running.url, *ABOUT, *words, "--json", "--breaks", breaks)
         assert (rows(database), done.error) == (before, "")
         return done.status, json.loads(done.out), files_of(breaks)
 

@@ -10,6 +10,7 @@ from typing import NamedTuple
 from common import SECONDS, Process
 from support.commands import with_package
 from support.program import ROOT
+from support.starts import Started, ended
 
 HERE = os.path.join(ROOT, "python", "tests", "conformance")
 TOOL = (sys.executable, "-m", "odb_batch", "conformance")
@@ -28,6 +29,12 @@ class Defective(Process):
     def __init__(self, name, database):
         self.name = name
         super().__init__(database, **({} if name is None else {"workers": 1, "width": 8}))
+
+    def started(self, command, folder, variables, out, listening):
+        return Started(command, folder, variables, [out.name, out.name], listening)
+
+    def __exit__(self, *_):
+        self.kill()  # a worker of gunicorn takes a second to see that it is to end
 
     def app(self, database, width):
         if self.name is None:
@@ -51,6 +58,11 @@ def tool(*words, **options):
         env=with_package(), **options,
     )  # fmt: skip
     return Done(done.returncode, done.stdout, done.stderr)
+
+
+def judgement(folder, *words):
+    """Runs the tool in a folder as `tool` does, in a process that begins at once."""
+    return Done(*ended(["odb_batch", "conformance", *words], folder, with_package(), 5 * SECONDS))
 
 
 @contextmanager

@@ -1,4 +1,4 @@
-//! The rest of a batch: which requests it has, and what its text is read as.
+//! The rest and the parts of a batch: which requests a rest has, and what the texts are read as.
 
 ghost use Rattle.std.specs.Prelude.{◌≡◌, ◌≤◌, ◌<◌, ◌↔◌, List, false, length, IsTrue};
 ghost use Rattle.serde_json.specs.View.{view};
@@ -19,8 +19,9 @@ ghost use Rattle.odb_send.specs.Parts.{IsBatchIn};
 use odb_check::{CheckFault, Plan, check};
 use odb_doc::{Batch, DocFault, parse};
 use odb_reply::{Responses, Table};
-use odb_send::laws::{every_rest, every_text, every_unit};
-use odb_send::{Rest, rest_of, rest_text};
+use odb_sched::RequestState;
+use odb_send::laws::{every_part, every_rest, every_text, every_unit};
+use odb_send::{Rest, part_of, rest_of, rest_text};
 use serde_json::Value;
 use std::alloc::Global;
 
@@ -109,6 +110,37 @@ fn refuses_rest(
         return false;
     };
     let Ok(text) = rest_text(alloc, document, plan, &rest) else {
+        return false;
+    };
+    if text.len() > 16_777_216 {
+        return false;
+    }
+    refuses_text(alloc, text.as_str())
+}
+
+/// Returns whether the text of a part of a batch is refused, unless it is too long or memory runs out: it never is.
+fn refuses_part(
+    alloc: Global,
+    document: &[u8],
+    value: &Value,
+    plan: &Plan<'_>,
+    states: &[RequestState],
+    limit: u32,
+    locations: &[Option<&str>],
+) -> bool
+    requires document { IsBatchIn document.now (view value.now) (plan_records plan.now) }
+    requires shaped { IsWellShaped (view value.now) }
+    requires states { length states.now ≡ length (plan_records plan.now) }
+    requires locations { length locations.now ≡ length (plan_records plan.now) }
+    ensures { result ≡ false }
+{
+    odb_check::laws::every_plan(plan);
+    every_part();
+    let _value = value;
+    let Ok(part) = part_of(alloc, plan, states, limit, locations) else {
+        return false;
+    };
+    let Ok(text) = rest_text(alloc, document, plan, &part) else {
         return false;
     };
     if text.len() > 16_777_216 {

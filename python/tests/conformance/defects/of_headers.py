@@ -6,7 +6,7 @@ from dataclasses import replace
 import odb_batch.wsgi
 from odb_batch import Refusal
 from of_responses import without
-from patching import Execution, change_answers, change_requests
+from patching import Execution, change_answers, change_document, change_requests
 
 
 def drop(*names):
@@ -70,14 +70,16 @@ def no_max_version():
 
 
 def accept_sticks():
-    """A request without Accept has that of the request before it."""
-    last = {}
+    """A request without Accept has that of the request before it in the batch."""
 
-    def change(request):
-        last.update({name: it for name, it in request.headers.items() if name == "accept"})
-        return request._replace(headers={**last, **request.headers})
+    def change(requests):
+        last = {}
+        for it in requests:
+            headers = it.get("headers") or {}
+            last = {name: value for name, value in headers.items() if name.lower() == "accept"} or last
+            it["headers"] = {**last, **headers}
 
-    change_requests(change)
+    change_document(change)
 
 
 def answered_207():

@@ -26,5 +26,6 @@ pub returns-clause-run : goal.returns-clause-run
 returns-clause-run c = record {
   labels = c.in_ok-labels.ensures;
   texts = subst HasNoText (sym c.in_ok-texts.ensures) (no-text c.len.result);
+  places = ap (λ (texts : List (Option (List ℕ))). length texts) c.in_ok-texts.ensures ∙ length-replicate c.len.result None ∙ c.len.ensures.count;
   after = c.in_ok-run.ensures.run;
 }
