@@ -40,7 +40,7 @@ def faults_of(program, words, documents):
     ]
 
 
-@share(1)
+@share(4)
 @given(document=strategies.batches(90))
 def test_each_fault_of_a_batch(program, document):
     found = faults_of(program, ["check", "--all"], [document])

@@ -2,8 +2,7 @@
 
 // Why a call does not do what it is asked for.
 
-const { describeFault } = require('./findings.js')
-const explanations = require('./explanations.json')
+const { Findings } = require('./findings.js')
 const library = require('../library/index.js')
 
 const NUMBERS = 3 // of an odb_position
@@ -13,18 +12,32 @@ const DONE = 0
 const REFUSED = 1
 const OUT_OF_MEMORY = 4
 
+// What the library says of codes, once that was asked for.
+const explained = new Map()
+
+/** What a code means, and the name of the fault or the cause; nothing of one that is no code. */
+function explain(code) {
+  if (!explained.has(code)) {
+    const [status, text] = library.explain(Buffer.from(String(code)))
+    const [, name, meaning] = /^\S+ (\S+).*\n([^]*)\nrefused: /.exec(status === DONE ? text.toString() : '') ?? []
+    explained.set(code, { name, meaning: meaning ?? '' })
+  }
+  return explained.get(code)
+}
+
 class Fault extends Error {
-  // The bytes of the document, if there is one, and where the place is in it, once that is known.
-  #document
+  // What the document says, if there is one, and where the place is in it, once that is known.
+  #findings
   #position
 
+  /** `document` is its bytes, or what it says, which all its faults share. */
   constructor(code, faultName, place, document, position) {
     super(`${code} ${faultName} ${place}`)
     this.name = 'Fault'
     this.code = code
     this.faultName = faultName
     this.place = place
-    this.#document = document
+    this.#findings = document === undefined || document instanceof Findings ? document : new Findings(document)
     this.#position = position
   }
 
@@ -41,16 +54,16 @@ class Fault extends Error {
   }
 
   get explanation() {
-    return explanations[this.code] ?? ''
+    return explain(this.code).meaning
   }
 
   get details() {
-    const begin = this.#document === undefined ? '' : describeFault(this.code, this.#document, this.place)
+    const begin = this.#findings?.describe(this.code, this.place) ?? ''
     return `${begin}${this.faultName}: ${this.explanation.replace(/\s+/g, ' ').trim()}`
   }
 
   get #numbers() {
-    this.#position ??= this.#document === undefined ? [] : findPlace(this.#document, this.place)
+    this.#position ??= this.#findings === undefined ? [] : findPlace(this.#findings.document, this.place)
     return this.#position
   }
 }
@@ -73,8 +86,19 @@ class Refused extends Error {
   }
 
   get explanation() {
-    return explanations[this.code] ?? ''
+    return explain(this.code).meaning
   }
+}
+
+// The letters of the codes of causes, by the tens of their statuses: 11 is S1, and 21 is P1.
+const OF_CAUSES = { 1: 'S', 2: 'P' }
+
+/** What a start or a report throws that is refused; undefined for another status. */
+function refusedError(status, id) {
+  const letter = OF_CAUSES[Math.floor(status / 10)]
+  if (letter === undefined) return undefined
+  const code = `${letter}${status % 10}`
+  return new Refused(code, explain(code).name, id)
 }
 
 function errorWithCode(code, message, Kind = Error) {
@@ -90,10 +114,11 @@ function readFault(line, documents) {
 
 /** The faults whose words lie in a text of ASCII, by the numbers of each: all faults of a batch. */
 function listedFaults(batch, text, numbers) {
+  const findings = new Findings(batch)
   return Array.from({ length: numbers.length / OF_FAULT }, (_, i) => {
     const own = numbers.subarray(OF_FAULT * i, OF_FAULT * (i + 1))
     const words = [0, 2, 4].map((at) => text.slice(own[at], own[at] + own[at + 1]))
-    return new Fault(...words, batch, [...own.subarray(6)])
+    return new Fault(...words, findings, [...own.subarray(6)])
   })
 }
 
@@ -104,4 +129,4 @@ function callError(name, status, text, ...documents) {
   return errorWithCode('ERR_ODB_STATUS', `${name} returned the status ${status}`)
 }
 
-module.exports = { DONE, Fault, REFUSED, Refused, callError, errorWithCode, listedFaults, readFault }
+module.exports = { DONE, Fault, REFUSED, Refused, callError, errorWithCode, explain, listedFaults, readFault, refusedError }

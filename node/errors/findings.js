@@ -35,10 +35,15 @@ class Names {
 
   constructor(requests) {
     this.#requests = requests
-    requests.forEach(({ id, atomicityGroup: group }, at) => {
-      if (!this.#positions.has(id)) this.#positions.set(id, at)
+    requests.forEach((request, at) => {
+      const { id, atomicityGroup: group } = request ?? {}
+      if (typeof id === 'string' && !this.#positions.has(id)) this.#positions.set(id, at)
       if (typeof group === 'string' && !this.#groups.has(group)) this.#groups.set(group, at)
     })
+  }
+
+  request(at) {
+    return this.#requests[at]
   }
 
   isUnknown(at, name) {
@@ -53,11 +58,11 @@ class Names {
     return name === this.#requests[at].atomicityGroup
   }
 
-  /** Whether a name is of a request in a group that is not listed. */
-  isUncovered(at, name) {
+  /** The first listed name that is of a request in a group that is not listed. */
+  findUncovered(at) {
     const { atomicityGroup: own, dependsOn } = this.#requests[at]
-    const group = this.group(name)
-    return typeof group === 'string' && group !== own && !dependsOn.includes(group)
+    const listed = new Set([own, ...dependsOn])
+    return dependsOn.map((name) => [name, this.group(name)]).find(([, group]) => typeof group === 'string' && !listed.has(group))
   }
 
   group(name) {
@@ -74,15 +79,14 @@ const IN_LISTS = {
 const IN_URLS = { F44: 'in the URL is unknown', F45: 'in the URL does not come before it', F46: 'is not listed in dependsOn' }
 
 /** What is wrong in the request at a position; empty if it is not a name. */
-function describeName(code, requests, at) {
-  const request = requests[at]
-  const names = new Names(requests)
+function describeName(code, names, at) {
+  const request = names.request(at)
   const findListed = (test) => request.dependsOn.find((name) => names[test](at, name))
   if (code in IN_LISTS) return `${quote(findListed(IN_LISTS[code][0]))} in dependsOn ${IN_LISTS[code][1]}`
   if (code in IN_URLS) return `${quote(firstSegment(request.url).slice(1))} ${IN_URLS[code]}`
   if (code === 'F43') {
-    const name = findListed('isUncovered')
-    return `${quote(names.group(name))}, the group of ${quote(name)}, is not listed in dependsOn`
+    const [name, group] = names.findUncovered(at)
+    return `${quote(group)}, the group of ${quote(name)}, is not listed in dependsOn`
   }
   if (code === 'F12') {
     return `the member ${quote(Object.keys(request).find((name) => !MEMBERS.has(name) && !name.includes('@')))} is unknown`
@@ -92,21 +96,36 @@ function describeName(code, requests, at) {
   return { F30: 'an earlier request has this id', F31: 'a group has this name, too' }[code] ?? ''
 }
 
-/**
- * How a message about a fault begins, as `order: "lines" is not listed in dependsOn. `: with the id of the request, and the name
- * that is wrong. Only with the id if it is not about a name; empty without an id.
- */
-function describeFault(code, document, place) {
-  try {
-    const { requests } = JSON.parse(Buffer.from(document).toString())
-    const at = Number(/^\/requests\/([0-9]+)$/.exec(place)[1])
-    const { id } = requests[at]
-    if (typeof id !== 'string') return ''
-    const wrong = describeName(code, requests, at)
-    return wrong === '' ? `${cut(id)}: ` : `${cut(id)}: ${wrong}. `
-  } catch {
-    return '' // the document is not one in which an id can be found
+/** What is wrong in the requests of a document, which is read once for all its faults. */
+class Findings {
+  #document
+  #names
+
+  constructor(document) {
+    this.#document = document
+  }
+
+  /** The bytes of the document. */
+  get document() {
+    return this.#document
+  }
+
+  /**
+   * How a message about a fault begins, as `order: "lines" is not listed in dependsOn. `: with the id of the request, and the name
+   * that is wrong. Only with the id if it is not about a name; empty without an id.
+   */
+  describe(code, place) {
+    try {
+      this.#names ??= new Names(JSON.parse(Buffer.from(this.#document).toString()).requests)
+      const at = Number(/^\/requests\/([0-9]+)$/.exec(place)[1])
+      const { id } = this.#names.request(at)
+      if (typeof id !== 'string') return ''
+      const wrong = describeName(code, this.#names, at)
+      return wrong === '' ? `${cut(id)}: ` : `${cut(id)}: ${wrong}. `
+    } catch {
+      return '' // the document is not one in which an id can be found
+    }
   }
 }
 
-module.exports = { describeFault }
+module.exports = { Findings }

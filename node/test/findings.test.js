@@ -70,3 +70,16 @@ test('begins with the id of each request that has a fault of names', () => {
     }
   }
 })
+
+test('reads the document once for all its faults', (context) => {
+  const parse = context.mock.method(JSON, 'parse')
+  const requests = Array.from({ length: 50 }, (_, at) => after(`b${at}`, ['nope']))
+  const begins = faults({ requests }).map(({ details }) => details.split(':')[0])
+  assert.deepEqual(begins, requests.map(({ id }) => id))
+  assert.equal(parse.mock.callCount(), 1)
+})
+
+test('names the request of a fault beside one without an id', () => {
+  const begins = faults({ requests: [7, get('b', 'A', { dependson: [] })] }).map(({ details }) => details.split(': ')[0])
+  assert.deepEqual(begins, ['NotRequestObject', 'b'])
+})

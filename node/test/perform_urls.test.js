@@ -95,10 +95,10 @@ test('answers a reference to an ETag that there is not, and passes on what is no
 })
 
 const INSIDE = [
-  'Books', '/odata/Books', 'http://h/odata/Books', 'HTTP://H:80/odata/Books', '//h/odata/Books', './Books',
+  'Books', '/odata/Books', 'http://h/odata/Books', 'HTTP://H:80/odata/Books', '//h/odata/Books', './Books', '/%6fdata/Books',
 ]
 const OUTSIDE = [
-  '/admin', '../admin', '/%6fdata/Books', '%2e%2e/admin', '..%2fadmin', 'a/..%5c..%5cadmin', '..;/admin', '/odata',
+  '/admin', '../admin', '%2e%2e/admin', '..%2fadmin', 'a/..%5c..%5cadmin', '..;/admin', '/odata',
   '//169.254.169.254/odata/', 'http://169.254.169.254/', 'https://h/odata/Books', 'http://h:81/odata/Books', '\\\\other\\odata\\',
   'file:///odata/Books', 'http://h@other/odata/', 'http://u:p@h/odata/Books', 'http://u@h/odata/Books', 'Books%00', 'Books%0d%0aX',
 ]

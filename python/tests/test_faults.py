@@ -9,6 +9,7 @@ from hypothesis import strategies as st
 
 from odb_batch import Fault, Report, Run, Start, check, faults, match, plan, replay, requests, rest, run
 from odb_batch._native import library
+from support.profiles import share
 from support.strategies import batches
 
 # So many faults that the call is repeated with more room.
@@ -57,6 +58,7 @@ class TestFaults:
     def test_they_are_no_exceptions_of_a_call(self):
         assert all(it.__traceback__ is None for it in faults(b"{}"))
 
+    @share(4)
     @given(batches(60))
     def test_the_first_is_that_of_a_check(self, batch):
         found = faults(batch)
@@ -125,6 +127,7 @@ class TestPositions:
         with pytest.raises(AttributeError):
             the_fault(check, b"[").line = 7
 
+    @share(4)
     @given(batches(60))
     def test_they_are_in_the_document(self, batch):
         for fault in faults(batch):
@@ -136,6 +139,7 @@ class TestPositions:
                 value = element_at(json.loads(batch), fault.place)
                 assert json.JSONDecoder().raw_decode(batch[fault.offset :].decode())[0] == value
 
+    @share(4)
     @given(st.lists(st.sampled_from(["7", "{}", '"\u00e4"', "[1,\n2]", '{"start":"b"}']), min_size=1))
     def test_those_of_events_are_in_them(self, elements):
         events = ('{"events":[%s]}' % ",\n ".join(elements)).encode()

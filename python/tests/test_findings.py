@@ -6,7 +6,8 @@ import pytest
 from hypothesis import given
 
 from odb_batch import Fault, check, faults
-from odb_batch.errors.findings import describe
+from odb_batch.errors.findings import Findings
+from support.profiles import share
 from support.strategies import batches
 
 
@@ -56,12 +57,33 @@ def test_the_line_of_a_fault_stays():
     assert str(raised.value) == "F40 UnknownName /requests/0"
 
 
+@share(4)
 @given(batches(60))
 def test_of_each_fault_of_a_random_batch(batch):
     """It begins with the id, and names only what is in the request."""
     for fault in faults(batch):
-        begins = describe(fault.code, batch, fault.place)
+        begins = Findings(batch).describe(fault.code, fault.place)
         assert fault.message == f"{begins}{fault.name}: {' '.join(fault.explanation.split())}"
         if fault.code in ("F30", "F31", "F32", "F40", "F41", "F42", "F43", "F44", "F45", "F46"):
             request = json.loads(batch)["requests"][int(fault.place.rpartition("/")[2])]
             assert begins.startswith(request["id"][:100]) and begins.endswith(". ")
+
+
+def test_the_document_is_read_once_for_all_its_faults(monkeypatch):
+    reads = []
+    loads = json.loads
+
+    def counted(document, *given, **options):
+        reads.append(len(document))
+        return loads(document, *given, **options)
+
+    batch = json.dumps({"requests": [get(f"b{at}", dependsOn=["nope"]) for at in range(50)]}).encode()
+    monkeypatch.setattr(json, "loads", counted)
+    messages = [fault.message for fault in faults(batch)]
+    assert reads.count(len(batch)) == 1
+    assert [message.partition(":")[0] for message in messages] == [f"b{at}" for at in range(50)]
+
+
+def test_a_request_without_an_id_does_not_take_the_others_theirs():
+    found = faults({"requests": [7, get("b", dependson=[])]})
+    assert [fault.message.partition(": ")[0] for fault in found] == ["NotRequestObject", "b"]

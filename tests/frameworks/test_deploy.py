@@ -237,6 +237,7 @@ def packages_of_image():
     return [word for word in install if not word.startswith("--")]
 
 
+@pytest.mark.slow
 @pytest.mark.needs("apt-cache")
 def test_debian_has_the_packages_of_the_image():
     is_known = lambda name: subprocess.run(["apt-cache", "show", name], capture_output=True).returncode == 0

@@ -149,6 +149,7 @@ TCPConnector.connect = late
 UNHELD = "from odb_batch.journals import StoreJournal; StoreJournal.require_held = lambda journal: None"
 
 
+@pytest.mark.slow
 @pytest.mark.parametrize("mutant", ["", UNHELD], ids=["as is", "mutant"])
 def test_a_gateway_that_wakes_up_sends_nothing_that_is_lost(upstream, running, schema, tmp_path, mutant):
     """It was paused after it had kept the start, before it had a connection. Without the check it sends."""
@@ -261,6 +262,7 @@ def fill(folder):
     return path
 
 
+@pytest.mark.slow
 @pytest.mark.parametrize("kind", ["sqlite", "postgresql"])
 def test_a_disk_that_is_full(upstream, running, small, kind, request):
     """Refused before anything is sent; once there is room the same gateway goes on. Nothing is damaged."""

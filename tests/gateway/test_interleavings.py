@@ -5,6 +5,7 @@ import pytest
 from support.interleavings import MUTANTS, Search
 
 
+@pytest.mark.slow
 @pytest.mark.parametrize("bounds", [
     {"crashes": 1}, {"no_replies": 1}, {"requests": 2, "no_replies": 1}, {"requests": 2, "crashes": 1},
     {"requests": 2, "asks": 3},

@@ -13,7 +13,7 @@ import pytest
 
 from odb_batch.gateway._repeatability import http_date_seconds
 from odb_batch.journals import _encoding
-from support.journals import count_at, plant, text_at
+from support.journals import count_at, plant, stop_renewing, text_at
 from support.servers import CONTINUE, FIRST_SENT, JSON, SECONDS, repeatable, until
 
 REQUESTS = [
@@ -274,8 +274,7 @@ def late(upstream, front, schema):
     journals = it.gateway._journals
 
     async def stop():
-        for task in journals._tasks:
-            task.cancel()
+        stop_renewing(journals)
 
     yield service, it, journals, stop
 

@@ -44,6 +44,7 @@ def test_without_prometheus_client():
     assert refused(["--metrics", "9100"], "sys.modules['prometheus_client'] = None") == (3, wanted)
 
 
+@pytest.mark.slow
 def test_where_it_cannot_start(running, tmp_path):
     port = running("--upstream", "http://127.0.0.1:1/").port
     status, message = refused(["--listen", f"127.0.0.1:{port}"])

@@ -63,9 +63,7 @@ def test_nothing_outside_of_the_routes_is_sent(upstream, front):
     service = upstream()
     it = front("--upstream", service.url + "/odata/")
     users = it.url.replace("//", "//user@") + "x"
-    # A route has its prefix however that is escaped.
-    others = [url for url in urls.plain(False) if not url.startswith("/%6F")]
-    *found, last = it.statuses(*({"url": url} for url in [*URLS, *others, users]), {"url": "Books"})
+    *found, last = it.statuses(*({"url": url} for url in [*URLS, *urls.plain(False), users]), {"url": "Books"})
     assert (set(found), last, service.paths) == ({404}, 200, ["/odata/Books"])
 
 
@@ -209,6 +207,23 @@ def test_no_request_is_sent_twice_by_a_library(upstream, loop, method):
     with pytest.raises(aiohttp.ClientConnectionError):
         loop.run(send())
     assert service.paths == ["/x"]
+
+
+@pytest.mark.parametrize("name", ["send", "write_bytes"])
+def test_a_library_that_sends_in_another_way_is_refused(loop, monkeypatch, name):
+    """Else nothing would see to it that a request is sent once."""
+    import aiohttp
+
+    from odb_batch.gateway._metrics import Counts
+    from odb_batch.gateway._options import options_of
+    from odb_batch.gateway._upstream import UpstreamClient
+
+    async def start():
+        await UpstreamClient(options_of(["--upstream", "http://a/"]), Counts()).open()
+
+    monkeypatch.delattr(aiohttp.ClientRequest, name)
+    with pytest.raises(OSError, match="aiohttp .* in a way that is not known here"):
+        loop.run(start())
 
 
 @pytest.mark.parametrize("method, path, body, headers, status, code", [

@@ -102,6 +102,7 @@ def test_a_second_signal_breaks_off_what_runs(upstream, several):
     assert it.stop(0)[0] == 0
 
 
+@pytest.mark.slow
 def test_a_worker_that_was_killed_is_started_again(upstream, several, tmp_path):
     """Another one answers meanwhile, also what the first one has performed: they share the journal."""
     service = upstream()

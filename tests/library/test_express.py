@@ -85,6 +85,7 @@ def batch_of(client, number):
     return {"requests": requests}, [f"{key}-alone", *(f"{key}-good{k}" for k in range(3))]
 
 
+@pytest.mark.slow
 @pytest.mark.parametrize("width", WIDTHS)
 def test_groups_of_many_clients(width, environment_of_node):
     """Each group is whole or not there, and undoes no write of another client."""

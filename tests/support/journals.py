@@ -101,4 +101,5 @@ async def soon(condition):
 def stop_renewing(journals):
     """Lets the lease of a process end, as if it were paused."""
     for task in journals._tasks:
-        task.cancel()
+        if task.get_coro().__name__ == "_repeat":
+            task.cancel()

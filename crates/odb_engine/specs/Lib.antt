@@ -21,7 +21,9 @@ pub mod Written
 pub mod Located
 pub mod Labels
 pub mod Live
+pub mod LiveParts
 pub mod Requests
+pub mod ServiceResponses
 pub mod lines
 -- For invariants and private clauses.
 pub mod Answered

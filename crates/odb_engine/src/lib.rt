@@ -14,7 +14,7 @@
 //! is. Another command is a relation in specs/, a variant of [`Task`], and a function in a file of its own that
 //! returns its text. [`answer_in_memory`] returns what a task writes of documents in memory, and [`answer_lines`]
 //! does an [`EachLine`] on each line of an input. `live` opens a run that its caller drives, and
-//! [`requests_in`] returns what is to be sent of each request.
+//! [`requests_in`] returns what is to be sent of each request, and [`responses_in`] the parts of each response.
 #![tactic(auto)]
 
 mod disposal;
@@ -33,7 +33,7 @@ pub use ending::{Ended, EngineFault};
 pub use form::Form;
 pub use halt::Halt;
 pub use lines::{EachLine, LineCommand, LineInput, answer_lines};
-pub use live::{LiveRun, open_run, requests_in};
+pub use live::{LiveRun, Opened, open_run, open_with_requests, requests_in, responses_in};
 pub use setup::{Faults, Setup};
 pub use tasks::{
     Answer, Command, Document, Names, Slice, Source, Task, answer_documents, answer_in_memory,

@@ -17,7 +17,10 @@ ghost use Rattle.odb_engine.specs.Labels.{id_lines, position_of};
 ghost use Rattle.odb_engine.specs.Live as live;
 
 mod labels;
+mod opened;
+mod parts;
 mod requests;
+mod responses;
 mod units;
 
 use crate::form::Form;
@@ -33,7 +36,9 @@ use odb_dense::none_for_each;
 use odb_doc::{Batch, Events, Outcome, Place};
 use odb_reply::{JsonText, response_of};
 use odb_sched::{OwnedRun, Policy, ReportRefusal, StartRefusal, resolve, run};
+pub use opened::{Opened, open_with_requests};
 pub use requests::requests_in;
+pub use responses::responses_in;
 use std::alloc::{AllocError, Global};
 use std::marker::Model;
 
@@ -87,7 +92,7 @@ fn run_after(
 }
 
 /// Returns the live run of a plan, which was made with this seed, after the recorded events in a document.
-fn open_on(
+pub(crate) fn open_on(
     alloc: Global,
     plan: &Plan<'_>,
     _seed: Seed,

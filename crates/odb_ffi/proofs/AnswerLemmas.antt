@@ -1,5 +1,6 @@
 -- What is given to the caller is what an engine has found.
 use Rattle.std.proofs.Common.{◌≡◌, ℕ, List, IfOk, Result, Ok, Err, Some, String, string_bytes, sym, subst}
+use Rattle.std.proofs.lemmas.Str.{IsUtf8-string_bytes}
 use Rattle.serde_json.specs.Read.{read}
 use Rattle.odb_sched.specs.run.Answers.{answer}
 use Rattle.odb_reply.specs.BodyTexts.{value_with}
@@ -45,7 +46,7 @@ answer-reported Is halt (Ok a) is so = reported Is halt a.ended a.text.items is 
 -- what is shown of a live run is its response
 pub responds : (live : Live) (form : Form) (found : Result (String Global) Halt) → Found (Shows live) form found
     → IfOk found (λ text. HasShallowValues live.texts live.run → read (string_bytes text) ≡ Some (value_with live.labels live.texts (answer live.run))) → Found (Responds live) form found
-responds live form (Ok text) so reads = record { shows = so; reads_back = λ done. reads }
-responds live form (Err (halts.Refused refusal)) so reads = record { shows = so; reads_back = λ done. absurd (cc done) }
+responds live form (Ok text) so reads = record { shows = so; utf8 = λ done. IsUtf8-string_bytes text; reads_back = λ done. reads }
+responds live form (Err (halts.Refused refusal)) so reads = record { shows = so; utf8 = λ done. absurd (cc done); reads_back = λ done. absurd (cc done) }
 responds live form (Err halts.Read) so reads = tt
 responds live form (Err halts.OutOfMemory) so reads = tt

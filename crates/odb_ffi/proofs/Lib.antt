@@ -3,7 +3,9 @@ mod AnswerLemmas
 mod FaultLemmas
 mod OutcomeLemmas
 mod PositionLemmas
+mod ReportedLemmas
 mod RequestLemmas
+mod ResponseLemmas
 mod ReturnLemmas
 mod SessionLemmas
 mod TargetLemmas

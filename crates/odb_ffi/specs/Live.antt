@@ -1,5 +1,5 @@
 -- What a call on a live run returns, and how the run changes.
-use Rattle.std.specs.Prelude.{◌≡◌, ◌≢◌, ◌<◌, ◌≤◌, ◌+◌, ℕ, List, [], Option, Some, None, min, true, false}
+use Rattle.std.specs.Prelude.{◌≡◌, ◌≢◌, ◌<◌, ◌≤◌, ◌+◌, ℕ, List, [], Option, Some, None, IsUtf8, min, true, false}
 use Rattle.serde_json.specs.Data.{Data}
 use Rattle.serde_json.specs.Read.{read}
 use Rattle.odb_doc.specs.declared.fault.DocFault.{DocFault}
@@ -45,10 +45,11 @@ pub data GivesPosition (live : LiveRun) (id : List ℕ) (status old new : ℕ) :
   Found : position_of live.labels id ≡ Some new → status ≡ 0 → GivesPosition live id status old new
   NoRequest : position_of live.labels id ≡ None → status ≡ 2 → new ≡ old → GivesPosition live id status old new
 
--- What the response of a live run is: what is shown of it. Of a finished run it is read as the value of the response, if no body
--- that is a value nests more than 124 deep.
+-- What the response of a live run is: what is shown of it. Of a finished run it is UTF-8, and is read as the value of the
+-- response, if no body that is a value nests more than 124 deep.
 pub record Responds (live : LiveRun) (form : Form) (ended : Ended) (text : List ℕ) : Type 0 where
   pub shows : Shows live form ended text
+  pub utf8 : ended ≡ Done → IsUtf8 text
   pub reads_back : ended ≡ Done → HasShallowValues live.texts live.run → read text ≡ Some (value_with live.labels live.texts (answer live.run))
 
 -- What the start of a request returns: 0 if it may come, and the run has gone on; the first cause against it, or that there

@@ -1,9 +1,11 @@
 -- What a caller makes of a handle by its calls, one after another (OData JSON Format 4.01, sections 19.1, 19.4 and 19.5; OData
 -- Protocol 4.01, section 11.7).
-use Rattle.std.specs.Prelude.{◌≡◌, ◌≢◌, ℕ, List, [], ◌∷◌, ◌++◌, map}
+use Rattle.std.specs.Prelude.{◌≡◌, ◌≢◌, ◌<◌, ◌⊎◌, ℕ, List, [], ◌∷◌, ◌++◌, length, map, Contains, Option, Some}
+use Rattle.std.specs.Prelude.{None as Absent}
 use Rattle.odb_doc.specs.batch.Records.{Record}
 use Rattle.odb_doc.specs.declared.recorded.outcome.Outcome.{Outcome}
 use Rattle.odb_check.specs.Units.{unit_at}
+use Rattle.odb_sched.specs.declared.event.Event.{Event}
 use Rattle.odb_sched.specs.declared.event.Event.TheVariants as single
 use Rattle.odb_sched.specs.declared.policy.Policy.{Policy}
 use Rattle.odb_sched.specs.run.State.{stopped}
@@ -11,11 +13,14 @@ use Rattle.odb_sched.specs.run.Answers.{answer}
 use Rattle.odb_sched.specs.run.LiveEvents.{LiveEvent, Single, live_state}
 use Rattle.odb_sched.specs.run.LiveEvents as live_event
 use Rattle.odb_sched.specs.run.LiveLaws.{KeepsPromises}
-use Rattle.odb_reply.specs.BodyTexts.{value_with}
+use Rattle.odb_reply.specs.BodyTexts.{text_at, value_with}
 use Rattle.odb_reply.specs.Fits.{ListsFit}
 use Rattle.odb_reply.specs.OnePerId.{HasOnePerId}
+use Rattle.odb_reply.specs.Readable.{HasShallowValues}
+use Rattle.odb_reply.specs.ResponseDocuments.{IsResponseDocument}
+use Rattle.odb_reply.specs.Responses.{labels_of}
 use Rattle.odb_engine.specs.Live.{IsAfter, Live, with_run}
-use Rattle.odb_ffi.specs.Live.{IsReported, Reports, Starts}
+use Rattle.odb_ffi.specs.Live.{IsReported, IsReportedBody, Reports, Starts}
 use Rattle.odb_ffi.specs.Units.{StartsUnit}
 
 -- A call on a handle that was opened: what it is passed, and what it returns. `Ask` is each call that asks something of the run, as
@@ -62,8 +67,22 @@ pub data AreTaken (requests : List Record) : List Call → List LiveEvent → Ty
   Taken : (call : Call) (event : LiveEvent) (calls : List Call) (events : List LiveEvent) → IsTakenAs requests call event → AreTaken requests calls events → AreTaken requests (call ∷ calls) (event ∷ events)
   Passed : (call : Call) (calls : List Call) (events : List LiveEvent) → IsNoEvent call → AreTaken requests calls events → AreTaken requests (call ∷ calls) events
 
+-- a report of the request was taken, with the status and the headers of this outcome, and with this text as its body, byte for byte
+pub record IsOfCall (calls : List Call) (i : ℕ) (outcome : Outcome) (text : Option (List ℕ)) : Type 0 where
+  pub status : ℕ
+  pub headers : List ℕ
+  pub body : List ℕ
+  pub taken : Contains calls (Report i status headers body 0)
+  pub reported : IsReported status headers outcome
+  pub body_is : IsReportedBody body text
+
+-- the outcome of a request is that of a report that was taken, or of one of these events, which has its body as a value
+abbrev pub IsReportedBy : List Call → List Event → ℕ → Outcome → Option (List ℕ) → Type 0
+IsReportedBy calls events i outcome text = IsOfCall calls i outcome text ⊎ (Contains events (single.Report i outcome) × (text ≡ Absent))
+
 -- What calls keep on a handle that was opened after the events in a document: the run is that of these events and of those that
 -- were taken since, which keeps what is promised of every live run, and so has a response with one element per id, which fits.
+-- A request is answered as it was reported, or as a failed dependency.
 pub record KeepsSession (policy : Policy) (requests : List Record) (bytes : List ℕ) (first : Live) (calls : List Call) (last : Live) : Type 0 where
   pub opened : IsAfter policy requests bytes first.run
   pub events : List LiveEvent
@@ -72,3 +91,7 @@ pub record KeepsSession (policy : Policy) (requests : List Record) (bytes : List
   pub promises : KeepsPromises requests policy (map Single opened.events ++ events)
   pub one_per_id : HasOnePerId requests (value_with last.labels last.texts (answer last.run))
   pub fits : ListsFit requests (value_with last.labels last.texts (answer last.run))
+  pub document : IsResponseDocument (value_with last.labels last.texts (answer last.run))
+  pub labels : last.labels ≡ labels_of requests
+  pub answers : (i : ℕ) (outcome : Outcome) → i < length requests → answer last.run i ≡ Some outcome → IsReportedBy calls opened.events i outcome (text_at last.texts i)
+  pub shallow : HasShallowValues last.texts last.run

@@ -1,10 +1,9 @@
 -- What is allowed begins with a root, and stays below it.
-use Rattle.std.proofs.Common.{◌≡◌, ℕ, suc, Bool, true, false, cond, ◌&&◌, List, [], ◌∷◌, ◌++◌, length, take, drop, Option, Some, None, option_map, ok_or, find, Result, Ok, Err, All, Contains, refl, sym, ap, subst, ◌∙◌, inl, inr, arith}
+use Rattle.std.proofs.Common.{◌≡◌, ℕ, suc, Bool, true, false, cond, ◌&&◌, List, [], ◌∷◌, ◌++◌, Option, Some, None, is_some, option_and_then, ok_or, find, Result, Ok, Err, All, Contains, refl, sym, subst, inl, inr, arith}
 use Rattle.std.specs.Borrow.{Bor}
 use Rattle.std.proofs.lemmas.Bool.{cases_Bool, and_parts}
-use Rattle.std.proofs.lemmas.List.{take-append-drop}
-use Rattle.std.proofs.lemmas.List.Elements.{All-append, All-drop}
-use Rattle.std.proofs.lemmas.Slice.Eq.{bytes_eq-Decides}
+use Rattle.std.proofs.lemmas.List.Elements.{All-append}
+use Rattle.percent_encoding.specs.Percent.{percent_decode}
 use Rattle.odb_resolve.specs.declared.request.Answer.{Answer}
 use Rattle.odb_resolve.specs.declared.request.Known.{Known}
 use Rattle.odb_resolve.specs.declared.request.Service.{Service}
@@ -13,10 +12,11 @@ use Rattle.odb_resolve.specs.declared.refusal.Refusal.TheVariants.{Unreadable, O
 use Rattle.odb_resolve.specs.Urls.{Url, read_url}
 use Rattle.odb_resolve.specs.Joins.{join, extended}
 use Rattle.odb_resolve.specs.Safety.{is_safe}
-use Rattle.odb_resolve.specs.Roots.{encode, is_in_url, is_root, is_same_origin, begins_with, is_below, sent_below, within}
+use Rattle.odb_resolve.specs.Roots.{encode, is_in_url, is_root, is_same_origin, is_below, below, sent_with, sent_below, within}
 use Rattle.odb_resolve.specs.Resolutions.{allowed, is_unreadable, continues, place_by, below_place, below_answer, answer_of, url_by}
 use Rattle.odb_resolve.specs.Below.{IsSentBelow}
 use Rattle.odb_resolve.proofs.EncodedLemmas.{encoded_in_url}
+use Rattle.odb_resolve.proofs.FolderLemmas.{folder_passes}
 
 -- what is found is in the list, and passes the test
 found : {X : Type 0} (test : X → Bool) (xs : List X) (x : X) → find test xs ≡ Some x → Contains xs x × (test x ≡ true)
@@ -31,43 +31,44 @@ found {X} test (y ∷ ys) x e =
           ((suc later.0.0, omega (arith, later.0.1), later.0.2), later.1)
     ]
 
-mapped : {A B : Type 0} (f : A → B) (o : Option A) (b : B) → option_map f o ≡ Some b → (a : A) × (o ≡ Some a) × (f a ≡ b)
-mapped f None b e = absurd (cc)
-mapped f (Some a) b e = (a, refl, cc)
+bound : {A B : Type 0} (o : Option A) (f : A → Option B) (b : B) → option_and_then f o ≡ Some b → (a : A) × (o ≡ Some a) × (f a ≡ Some b)
+bound None f b e = absurd (cc)
+bound (Some a) f b e = (a, refl, e)
 
 -- a root and what is sent below it
-sent_from_root : (roots : List (Bor (List ℕ))) (url : Url) (root : Bor (List ℕ)) → Contains roots root → is_below url (encode url.path) root.now ≡ true → is_safe (encode url.path) ≡ true → IsSentBelow roots (sent_below (encode url.path) url.query root.now)
+sent_from_root : (roots : List (Bor (List ℕ))) (url : Url) (root : Bor (List ℕ)) (text : List ℕ) → Contains roots root → is_below url (encode url.path) root.now ≡ true → sent_below (encode url.path) url.query root.now ≡ Some text → IsSentBelow roots text
 unfolding is_below sent_below
-sent_from_root roots url root listed below safe =
+sent_from_root roots url root text listed fits sent =
     let path = encode url.path in
-    let prefix = (read_url root.now).path in
-    let parts = and_parts (is_root root.now && is_same_origin url (read_url root.now)) (begins_with prefix path) below in
-    let is_root_ = (and_parts (is_root root.now) (is_same_origin url (read_url root.now)) parts.0).0 in
-    let begins : prefix ≡ take (length prefix) path = (bytes_eq-Decides prefix (take (length prefix) path)).0 parts.1 in
-    let whole : prefix ++ drop (length prefix) path ≡ path = ap (λ (front : List ℕ). front ++ drop (length prefix) path) begins ∙ take-append-drop (length prefix) path in
+    let parts = and_parts (is_root root.now && is_same_origin url (read_url root.now)) (is_some (below path root.now)) fits in
+    let root_is = (and_parts (is_root root.now) (is_same_origin url (read_url root.now)) parts.0).0 in
     let Passes : ℕ → Type 0 = λ byte. is_in_url byte ≡ true in
-    let written_rest : All Passes (drop (length prefix) path) = All-drop Passes (length prefix) path (encoded_in_url url.path) in
-    record {
-      root = root;
-      rest = drop (length prefix) path;
-      query = encode url.query;
-      listed = listed;
-      root_read = is_root_;
-      whole = refl;
-      safe = subst (λ (text : List ℕ). is_safe text ≡ true) (sym whole) safe;
-      written = All-append Passes (drop (length prefix) path) (encode url.query) written_rest (encoded_in_url url.query);
-    }
+    let after = bound (below path root.now) (λ (more : List ℕ). sent_with url.query root.now more) text sent in
+    let more = after.0 in
+    let written_more : All Passes more = folder_passes Passes (percent_decode (read_url root.now).path) path more (encoded_in_url url.path) after.1 in
+    let whole_if = after.2 in
+    elim (cases_Bool (is_safe ((read_url root.now).path ++ more))) [
+      | inl safe ↦
+          let whole : root.now ++ more ++ encode url.query ≡ text = cc (rw safe at whole_if) in
+          record {
+            root = root;
+            rest = more;
+            query = encode url.query;
+            listed = listed;
+            root_read = root_is;
+            whole = sym whole;
+            safe = safe;
+            written = All-append Passes more (encode url.query) written_more (encoded_in_url url.query);
+          }
+      | inr other ↦ absurd (cc (rw other at whole_if))
+    ]
 
 within_below : (roots : List (Bor (List ℕ))) (url : Url) (text : List ℕ) → within roots url ≡ Some text → IsSentBelow roots text
 unfolding within
 within_below roots url text e =
-    elim (cases_Bool (is_safe (encode url.path))) [
-      | inl safe ↦
-          let first = mapped (λ (root : Bor (List ℕ)). sent_below (encode url.path) url.query root.now) (find (λ (root : Bor (List ℕ)). is_below url (encode url.path) root.now) roots) text (rw safe at e) in
-          let fits = found (λ (root : Bor (List ℕ)). is_below url (encode url.path) root.now) roots first.0 first.1 in
-          subst (λ (sent : List ℕ). IsSentBelow roots sent) first.2 (sent_from_root roots url first.0 fits.0 fits.1 safe)
-      | inr other ↦ absurd (cc (rw other at e))
-    ]
+    let first = bound (find (λ (root : Bor (List ℕ)). is_below url (encode url.path) root.now) roots) (λ (root : Bor (List ℕ)). sent_below (encode url.path) url.query root.now) text e in
+    let fits = found (λ (root : Bor (List ℕ)). is_below url (encode url.path) root.now) roots first.0 first.1 in
+    sent_from_root roots url first.0 text fits.0 fits.1 first.2
 
 some_from_ok : (o : Option (List ℕ)) (text : List ℕ) → ok_or o Outside ≡ Ok text → o ≡ Some text
 some_from_ok None text e = absurd (cc)

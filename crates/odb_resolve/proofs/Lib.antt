@@ -1,4 +1,5 @@
 pub mod BelowLemmas
 pub mod EncodedLemmas
+pub mod FolderLemmas
 pub mod PathLemmas
 pub mod TextLemmas

@@ -1,12 +1,12 @@
 -- Where requests may be sent: below a root.
-use Rattle.std.specs.Prelude.{ℕ, ◌-◌, ◌==◌, Bool, cond, not, ◌&&◌, ◌||◌, List, [], ◌++◌, length, map, take, drop, codes, bytes_eq, nat_lt, Option, None, option_map, find}
+use Rattle.std.specs.Prelude.{ℕ, ◌-◌, ◌==◌, Bool, cond, not, ◌&&◌, ◌||◌, List, [], ◌∷◌, ◌++◌, length, map, take, drop, codes, bytes_eq, nat_lt, Option, None, Some, is_some, option_and_then, find}
 use Rattle.std.specs.Borrow.{Bor}
-use Rattle.std.specs.Char.{to_ascii_lowercase}
+use Rattle.std.specs.Char.{to_ascii_lowercase, is_ascii_hexdigit}
 use Rattle.std.specs.List.{list_any, list_all}
-use Rattle.percent_encoding.specs.Percent.{percent_encode}
+use Rattle.percent_encoding.specs.Percent.{percent_encode, percent_decode}
 use Rattle.percent_encoding.specs.AsciiSet.{should_percent_encode}
 use Rattle.odb_resolve.specs.declared.text.TheConstants.{ESCAPED}
-use Rattle.odb_resolve.specs.Texts.{folder_len}
+use Rattle.odb_resolve.specs.Texts.{begins, folder_len}
 use Rattle.odb_resolve.specs.Urls.{Url, read_url}
 use Rattle.odb_resolve.specs.Joins.{is_empty}
 use Rattle.odb_resolve.specs.Safety.{is_safe}
@@ -57,21 +57,43 @@ has_parts_of_root root =
 abbrev pub is_root : List ℕ → Bool
 is_root text = list_all is_in_root text && has_parts_of_root (read_url text)
 
--- the text begins with the prefix
-abbrev pub begins_with : List ℕ → List ℕ → Bool
-begins_with prefix text = bytes_eq prefix (take (length prefix) text)
+-- `%` and two hexadecimal digits (section 2.1)
+abbrev pub is_escape : ℕ → ℕ → ℕ → Bool
+is_escape sign high low = (sign == 37) && is_ascii_hexdigit high && is_ascii_hexdigit low
+
+-- what follows the first byte of a text, or the escape of it
+abbrev pub past_first : List ℕ → List ℕ
+past_first [] = []
+past_first (first ∷ []) = []
+past_first (first ∷ second ∷ []) = second ∷ []
+past_first (first ∷ high ∷ low ∷ more) = cond (is_escape first high low) more (high ∷ low ∷ more)
+
+-- the first byte of a text once it is decoded is this one
+abbrev pub begins_with : ℕ → List ℕ → Bool
+begins_with byte text = begins (λ first. first == byte) (percent_decode text)
+
+-- what follows a decoded folder in a path that begins with it, maybe with other escapes (section 6.2.2)
+abbrev pub after_folder : List ℕ → List ℕ → Option (List ℕ)
+after_folder [] path = Some path
+after_folder (first ∷ more) path = cond (begins_with first path) (after_folder more (past_first path)) None
+
+-- what follows the root's path
+abbrev pub below : List ℕ → List ℕ → Option (List ℕ)
+below path root = after_folder (percent_decode (read_url root).path) path
 
 -- a URL with this encoded path is below the root
 unfoldable pub is_below : Url → List ℕ → List ℕ → Bool
-is_below url path root = is_root root && is_same_origin url (read_url root) && begins_with (read_url root).path path
+is_below url path root = is_root root && is_same_origin url (read_url root) && is_some (below path root)
 
--- the text that is sent: the root, what its path is followed by, and the query
-unfoldable pub sent_below : List ℕ → List ℕ → List ℕ → List ℕ
-sent_below path query root = root ++ drop (length (read_url root).path) path ++ encode query
+-- the root as it is written, and what follows, if that path is safe
+abbrev pub sent_with : List ℕ → List ℕ → List ℕ → Option (List ℕ)
+sent_with query root more = cond (is_safe ((read_url root).path ++ more)) (Some (root ++ more ++ encode query)) None
 
--- the URL as it is sent, below the first root that it is below, if its path is safe
+-- the URL that is sent below the root
+unfoldable pub sent_below : List ℕ → List ℕ → List ℕ → Option (List ℕ)
+sent_below path query root = option_and_then (λ more. sent_with query root more) (below path root)
+
+-- the URL as it is sent, below the first root that it is below
 unfoldable pub within : List (Bor (List ℕ)) → Url → Option (List ℕ)
 within roots url =
-    cond (is_safe (encode url.path))
-    (option_map (λ root. sent_below (encode url.path) url.query root.now) (find (λ root. is_below url (encode url.path) root.now) roots))
-    None
+    option_and_then (λ root. sent_below (encode url.path) url.query root.now) (find (λ root. is_below url (encode url.path) root.now) roots)

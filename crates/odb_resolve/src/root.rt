@@ -3,14 +3,15 @@
 ghost use Rattle.std.specs.Prelude.{◌≡◌, ◌≤◌, ◌++◌, drop, find, length, option_copied, option_map, string_bytes, IfOk, IsAscii};
 ghost use Rattle.std.specs.List.{list_all};
 ghost use Rattle.odb_resolve.specs.Classes.{url_of_parts, url_of_target};
-ghost use Rattle.odb_resolve.specs.Roots.{default_port, has_parts_of_root, is_below, is_folder, is_in_root, is_same_origin, same_letters, sent_below, without_port, without_suffix, within};
+ghost use Rattle.percent_encoding.specs.Percent.{percent_decode};
+ghost use Rattle.odb_resolve.specs.Roots.{after_folder, begins_with, default_port, has_parts_of_root, is_below, is_escape, is_folder, is_in_root, is_same_origin, past_first, same_letters, sent_below, sent_with, without_port, without_suffix, within};
 ghost use Rattle.odb_resolve.specs.Urls.{Url, read_url};
 
 use crate::parts::Parts;
 use crate::safety::is_safe;
 use crate::target::Target;
 use crate::text::{ESCAPED, folder_len, same_letters};
-use percent_encoding::{ascii_str, percent_encode};
+use percent_encoding::{ascii_str, percent_decode, percent_encode};
 use std::alloc::{AllocError, Global};
 
 /// Returns the text without the suffix, if it ends with it.
@@ -79,6 +80,49 @@ fn is_same_origin(target: &Target<'_>, root: &Parts<'_>) -> bool
         )
 }
 
+/// Returns whether these bytes are `%` and two hexadecimal digits (RFC 3986, section 2.1).
+fn is_escape(sign: u8, high: u8, low: u8) -> bool
+    ensures { result ≡ is_escape sign high low }
+{
+    sign == b'%' && high.is_ascii_hexdigit() && low.is_ascii_hexdigit()
+}
+
+/// Returns what follows the first byte of a text, or the escape of it.
+fn past_first(text: &[u8]) -> &[u8]
+    ensures { result.now ≡ past_first text.now }
+{
+    match text {
+        [sign, high, low, more @ ..] if is_escape(*sign, *high, *low) => more,
+        [_, more @ ..] => more,
+        [] => &[],
+    }
+}
+
+/// Returns whether the first byte of a text is this one, once it is decoded.
+fn begins_with(byte: u8, text: &[u8]) -> bool
+    ensures { result ≡ begins_with byte text.now }
+{
+    match percent_decode(text).next() {
+        Some(first) => first == byte,
+        None => false,
+    }
+}
+
+/// Returns what follows a folder in a path that begins with it, maybe with other escapes (RFC 3986, section 6.2.2).
+fn after_folder<'a>(folder: &[u8], path: &'a [u8]) -> Option<&'a [u8]>
+    ensures { option_map (λ more. more.now) result ≡ after_folder (percent_decode folder.now) path.now }
+{
+    let mut left = percent_decode(folder);
+    let mut rest = path;
+    'bytes: while let Some(byte) = left.next() {
+        if !begins_with(byte, rest) {
+            return None;
+        }
+        rest = past_first(rest);
+    }
+    Some(rest)
+}
+
 /// Returns whether a URL with this encoded path is below the root.
 #[tactic(auto, unfolding(crate::specs::Roots::is_below))]
 fn is_below(target: &Target<'_>, path: &[u8], root: &[u8]) -> bool
@@ -88,7 +132,7 @@ fn is_below(target: &Target<'_>, path: &[u8], root: &[u8]) -> bool
     is_in_root(root)
         && has_parts_of_root(&parts)
         && is_same_origin(target, &parts)
-        && path.starts_with(parts.path)
+        && after_folder(parts.path, path).is_some()
 }
 
 /// Returns the first root that a URL with this encoded path is below.
@@ -101,18 +145,42 @@ fn first_root<'a>(target: &Target<'_>, path: &[u8], roots: &[&'a str]) -> Option
         .find(|root| is_below(target, path, root.as_bytes()))
 }
 
-/// Appends what follows the root's path, and the query, to the root.
-#[tactic(auto, unfolding(crate::specs::Roots::sent_below))]
-fn sent_below(alloc: Global, root: &str, path: &str, query: &[u8]) -> Result<String, AllocError>
-    requires { IsAscii path.now }
-    ensures { IfOk result (λ url. string_bytes url ≡ sent_below path.now query.now root.now) }
+/// Appends what follows the root's path, and the query, to the root, if the path is safe then.
+fn sent_with(
+    alloc: Global,
+    root: &str,
+    more: &[u8],
+    query: &[u8],
+) -> Result<Option<String>, AllocError>
+    requires { IsAscii more.now }
+    ensures { IfOk result (λ url. option_map (λ text. string_bytes text) url ≡ sent_with query.now root.now more.now) }
 {
-    let bytes = path.as_bytes();
-    let prefix = Parts::read(root.as_bytes()).path.len().min(bytes.len());
+    let mut path = Vec::from_slice(alloc, Parts::read(root.as_bytes()).path)?;
+    path.extend_from_slice(more)?;
+    if !is_safe(alloc, path.as_slice())? {
+        return Ok(None);
+    }
     let mut url = String::from_str(alloc, root)?;
-    url.push_str(ascii_str(&bytes[prefix..]))?;
+    url.push_str(ascii_str(more))?;
     percent_encode(query, ESCAPED).append_to(&mut url)?;
-    Ok(url)
+    Ok(Some(url))
+}
+
+/// Returns the URL with this encoded path as it is sent below the root.
+#[tactic(auto, unfolding(crate::specs::Roots::sent_below))]
+fn sent_below(
+    alloc: Global,
+    root: &str,
+    path: &[u8],
+    query: &[u8],
+) -> Result<Option<String>, AllocError>
+    requires { IsAscii path.now }
+    ensures { IfOk result (λ url. option_map (λ text. string_bytes text) url ≡ sent_below path.now query.now root.now) }
+{
+    match after_folder(Parts::read(root.as_bytes()).path, path) {
+        Some(more) => sent_with(alloc, root, more, query),
+        None => Ok(None),
+    }
 }
 
 /// Returns the URL as it is sent, if it leads below one of the roots and its path is safe.
@@ -125,11 +193,8 @@ pub(crate) fn within(
     ensures { IfOk result (λ url. option_map (λ text. string_bytes text) url ≡ within roots.now (url_of_target target.now)) }
 {
     let path = percent_encode(target.path.as_slice(), ESCAPED).into_cow(alloc)?;
-    let Some(root) = first_root(target, path.as_bytes(), roots) else {
-        return Ok(None);
-    };
-    if !is_safe(alloc, path.as_bytes())? {
-        return Ok(None);
+    match first_root(target, path.as_bytes(), roots) {
+        Some(root) => sent_below(alloc, root, path.as_bytes(), target.query),
+        None => Ok(None),
     }
-    Ok(Some(sent_below(alloc, root, path.as_str(), target.query)?))
 }

@@ -1,4 +1,5 @@
 mod PartLemmas
+mod ResponseLemmas
 pub mod MarkLemmas
 pub mod SelectLemmas
 pub mod PositionLemmas

@@ -1,5 +1,6 @@
 -- What public clauses cite, and has to be believed.
 pub mod Parts
+pub mod ResponseParts
 pub mod Repeats
 pub mod Units
 pub mod Locations

@@ -4,6 +4,8 @@
 //! request of a planned batch: the body as bytes of the document, which stay as the client wrote them, and
 //! all else in one text.
 //!
+//! Of the responses of a service [`responses_of`] returns the same: headers and bodies as bytes of the document.
+//!
 //! A service may leave requests unperformed: after a failed dependency, or because it had no capacity. They are the
 //! rest of the batch, by the responses that the service gave. [`rest_of`] returns which requests these are, and
 //! [`rest_text`] the batch that a client may send of them, with the bytes of their bodies. What holds of every rest
@@ -20,6 +22,7 @@ mod piece;
 mod progress;
 mod repeat;
 mod requests;
+mod responses;
 mod rest;
 mod text;
 mod units;
@@ -30,5 +33,6 @@ pub use locations::location_in;
 pub use next_part::part_of;
 pub use parts::RequestParts;
 pub use requests::{Requests, requests_of};
+pub use responses::{ResponseList, ResponseParts, responses_of};
 pub use rest::{Rest, rest_of};
 pub use text::rest_text;

@@ -1,5 +1,5 @@
--- The elements and the bodies in the tree of a document are those of its data.
-use Rattle.std.proofs.Common.{◌≡◌, ◌∙◌, ℕ, ◌≤◌, max, List, [], ◌∷◌, Bool, true, false, cond, Option, Some, None, option_map, option_and_then, unwrap_or, codes, bytes_eq, refl, sym, ap, subst, arith}
+-- The elements in the tree of a document, and a member of each, are those of its data.
+use Rattle.std.proofs.Common.{◌≡◌, ◌∙◌, ℕ, ◌≤◌, max, List, [], ◌∷◌, Bool, true, false, cond, Option, Some, None, option_map, option_and_then, unwrap_or, bytes_eq, refl, sym, ap, subst, arith}
 use Rattle.std.specs.Prelude.{⊤}
 use Rattle.std.specs.List.{AllZip}
 use Rattle.json.specs.Json as json
@@ -11,10 +11,8 @@ use Rattle.serde_json.specs.Find.{get_member, as_array}
 use Rattle.serde_json.specs.Read.{number_of, of_json, of_items, of_members, max_depth}
 use Rattle.odb_doc.specs.Members.{elements_at, given}
 use Rattle.odb_doc.specs.Members as doc
-use Rattle.odb_doc.specs.batch.Bodies.{body_of}
-use Rattle.odb_doc.specs.batch.Shapes.{elements}
-use Rattle.odb_spans.specs.Spans.{HasBodyAt}
-use Rattle.odb_spans.specs.Parts.{HasBodyText, HaveBodiesIn, HaveBodyTexts, IsTextOf, IsValueSpan, given_json, items_in, list_of}
+use Rattle.odb_spans.specs.Spans.{HasMemberAt, member_of}
+use Rattle.odb_spans.specs.Parts.{HasMemberText, HaveMembersIn, HaveMemberTexts, IsTextOf, IsValueSpan, given_json, items_in, list_of}
 use Rattle.odb_spans.specs.declared.span.Span.{Span}
 use Rattle.odb_spans.proofs.LookupLemmas.{Corresponds, get-read}
 use Rattle.odb_spans.proofs.ReadLemmas.{nests-tokens, read-tokens}
@@ -53,11 +51,11 @@ member-within name json.no_members = tt
 member-within name (json.member k j ms) =
     later-within (max (depth j) (members_depth ms)) (members_depth ms) (tree.get_member name ms) (cond (bytes_eq k name) (Some j) None) (member-within name ms) (omega arith) (if-within _ (bytes_eq k name) j (omega arith))
 
--- ---- the body of one request
+-- ---- a member of one element
 
-given-body : (text : List ℕ) (j : json.Json) (d : Data) (span : Span) (o : Option Data) → depth j ≤ 124 → of_json j ≡ Some d → o ≡ Some d → given (Some d) ≡ Some d → IsTextOf text span j → (request : Data) → body_of request ≡ given o → HasBodyAt text request (Some span)
-given-body text j d span o shallow reads is kept part request body =
-    (d, body ∙ ap given is ∙ kept, record { order = part.order; within = part.within; reads = (part.utf8, read-tokens _ j part.spelled (omega (arith, shallow)) ∙ reads); nests = nests-tokens _ j part.spelled 124 shallow })
+given-member : (name text : List ℕ) (j : json.Json) (d : Data) (span : Span) (o : Option Data) → depth j ≤ 124 → of_json j ≡ Some d → o ≡ Some d → given (Some d) ≡ Some d → IsTextOf text span j → (element : Data) → member_of name element ≡ given o → HasMemberAt name text element (Some span)
+given-member name text j d span o shallow reads is kept part element member =
+    (d, member ∙ ap given is ∙ kept, record { order = part.order; within = part.within; reads = (part.utf8, read-tokens _ j part.spelled (omega (arith, shallow)) ∙ reads); nests = nests-tokens _ j part.spelled 124 shallow })
 
 -- what was read of a value other than null is not null
 kept : (j i : json.Json) (d : Data) → given_json (Some j) ≡ Some i → of_json j ≡ Some d → (given (Some d) ≡ Some d) × (j ≡ i)
@@ -77,30 +75,30 @@ absent (json.string s) d e reads = absurd (cc (e))
 absent (json.array js) d e reads = absurd (cc (e))
 absent (json.object ms) d e reads = absurd (cc (e))
 
-body-found : (text : List ℕ) (o : Option json.Json) (p : Option Data) (span : Option Span) (request : Data) → body_of request ≡ given p → Corresponds o p None → Within 124 o → IsValueSpan text span (given_json o) → HasBodyAt text request span
-body-found text None p None request body same shallow is = body ∙ ap given same
-body-found text None p (Some s) request body same shallow is = absurd (cc (is.1))
-body-found text (Some j) p None request body same shallow is = body ∙ ap given same.is ∙ absent j same.value is same.read
-body-found text (Some j) p (Some s) request body same shallow is =
+member-found : (name text : List ℕ) (o : Option json.Json) (p : Option Data) (span : Option Span) (element : Data) → member_of name element ≡ given p → Corresponds o p None → Within 124 o → IsValueSpan text span (given_json o) → HasMemberAt name text element span
+member-found name text None p None element member same shallow is = member ∙ ap given same
+member-found name text None p (Some s) element member same shallow is = absurd (cc (is.1))
+member-found name text (Some j) p None element member same shallow is = member ∙ ap given same.is ∙ absent j same.value is same.read
+member-found name text (Some j) p (Some s) element member same shallow is =
     let h = kept j is.0 same.value is.1 same.read in
-    given-body text j same.value s p shallow same.read same.is h.0 (subst (IsTextOf text s) (sym h.1) is.2) request body
+    given-member name text j same.value s p shallow same.read same.is h.0 (subst (IsTextOf text s) (sym h.1) is.2) element member
 
-no-body : (text : List ℕ) (span : Option Span) (request : Data) → body_of request ≡ None → IsValueSpan text span None → HasBodyAt text request span
-no-body text None request body is = body
-no-body text (Some s) request body is = absurd (cc (is.1))
+no-member : (name text : List ℕ) (span : Option Span) (element : Data) → member_of name element ≡ None → IsValueSpan text span None → HasMemberAt name text element span
+no-member name text None element member is = member
+no-member name text (Some s) element member is = absurd (cc (is.1))
 
-body-data : (text : List ℕ) (j : json.Json) (d : Data) (span : Option Span) → depth j ≤ 125 → of_json j ≡ Some d → HasBodyText text j span → HasBodyAt text d span
-body-data text json.null d span shallow reads is = let same : null ≡ d = cc (reads) in no-body text span d (ap body_of (sym same)) is
-body-data text (json.boolean b) d span shallow reads is = let same : boolean b ≡ d = cc (reads) in no-body text span d (ap body_of (sym same)) is
-body-data text (json.number s) d span shallow reads is = let h = maps-to number (number_of s) d reads in no-body text span d (ap body_of h.is) is
-body-data text (json.string s) d span shallow reads is = let same : string s ≡ d = cc (reads) in no-body text span d (ap body_of (sym same)) is
-body-data text (json.array js) d span shallow reads is = let h = maps-to array (of_items js) d reads in no-body text span d (ap body_of h.is) is
-body-data text (json.object ms) d span shallow reads is =
+member-data : (name text : List ℕ) (j : json.Json) (d : Data) (span : Option Span) → depth j ≤ 125 → of_json j ≡ Some d → HasMemberText name text j span → HasMemberAt name text d span
+member-data name text json.null d span shallow reads is = let same : null ≡ d = cc (reads) in no-member name text span d (ap (member_of name) (sym same)) is
+member-data name text (json.boolean b) d span shallow reads is = let same : boolean b ≡ d = cc (reads) in no-member name text span d (ap (member_of name) (sym same)) is
+member-data name text (json.number s) d span shallow reads is = let h = maps-to number (number_of s) d reads in no-member name text span d (ap (member_of name) h.is) is
+member-data name text (json.string s) d span shallow reads is = let same : string s ≡ d = cc (reads) in no-member name text span d (ap (member_of name) (sym same)) is
+member-data name text (json.array js) d span shallow reads is = let h = maps-to array (of_items js) d reads in no-member name text span d (ap (member_of name) h.is) is
+member-data name text (json.object ms) d span shallow reads is =
     let h = maps-to object (of_members ms no_members) d reads in
-    let found = get-read (codes "body") ms h.value h.some in
-    body-found text (tree.get_member (codes "body") ms) (get_member (codes "body") h.value) span d (ap body_of h.is) found (less (members_depth ms) 124 (tree.get_member (codes "body") ms) (omega (arith, shallow)) (member-within (codes "body") ms)) is
+    let found = get-read name ms h.value h.some in
+    member-found name text (tree.get_member name ms) (get_member name h.value) span d (ap (member_of name) h.is) found (less (members_depth ms) 124 (tree.get_member name ms) (omega (arith, shallow)) (member-within name ms)) is
 
--- ---- the bodies of all requests
+-- ---- a member of each element
 
 pub record ItemsRead (j : json.Json) (js : json.Items) (ds : Items) : Type 0 where
   pub first : Data
@@ -160,13 +158,13 @@ elements-read name (json.object ms) d shallow reads =
     let within = less (members_depth ms) 126 (tree.get_member name ms) (omega (arith, shallow)) (member-within name ms) in
     subst (λ x. AllZip IsReadItem (items_in (tree.get_member name ms)) (elements_at name x)) (sym h.is) (found-listed (tree.get_member name ms) (get_member name h.value) within found)
 
-zip-bodies : (text : List ℕ) (js : List json.Json) (ds : List Data) (spans : List (Option Span)) → AllZip IsReadItem js ds → HaveBodyTexts text js spans → AllZip (HasBodyAt text) ds spans
-zip-bodies text [] [] [] reads have = tt
-zip-bodies text [] [] (s ∷ spans) reads have = absurd have
-zip-bodies text [] (d ∷ ds) spans reads have = absurd reads
-zip-bodies text (j ∷ js) [] spans reads have = absurd reads
-zip-bodies text (j ∷ js) (d ∷ ds) [] reads have = absurd have
-zip-bodies text (j ∷ js) (d ∷ ds) (s ∷ spans) reads have = (body-data text j d s reads.0.1 reads.0.0 have.0, zip-bodies text js ds spans reads.1 have.1)
+zip-members : (name text : List ℕ) (js : List json.Json) (ds : List Data) (spans : List (Option Span)) → AllZip IsReadItem js ds → HaveMemberTexts name text js spans → AllZip (HasMemberAt name text) ds spans
+zip-members name text [] [] [] reads have = tt
+zip-members name text [] [] (s ∷ spans) reads have = absurd have
+zip-members name text [] (d ∷ ds) spans reads have = absurd reads
+zip-members name text (j ∷ js) [] spans reads have = absurd reads
+zip-members name text (j ∷ js) (d ∷ ds) [] reads have = absurd have
+zip-members name text (j ∷ js) (d ∷ ds) (s ∷ spans) reads have = (member-data name text j d s reads.0.1 reads.0.0 have.0, zip-members name text js ds spans reads.1 have.1)
 
-pub bodies-data : (text : List ℕ) (j : json.Json) (d : Data) (spans : List (Option Span)) → depth j ≤ max_depth → of_json j ≡ Some d → HaveBodiesIn text spans (tree.get (codes "requests") j) → AllZip (HasBodyAt text) (elements d) spans
-bodies-data text j d spans shallow reads have = zip-bodies text (items_in (tree.get (codes "requests") j)) (elements d) spans (elements-read (codes "requests") j d shallow reads) have
+pub members-data : (list name text : List ℕ) (j : json.Json) (d : Data) (spans : List (Option Span)) → depth j ≤ max_depth → of_json j ≡ Some d → HaveMembersIn name text spans (tree.get list j) → AllZip (HasMemberAt name text) (elements_at list d) spans
+members-data list name text j d spans shallow reads have = zip-members name text (items_in (tree.get list j)) (elements_at list d) spans (elements-read list j d shallow reads) have

@@ -9,7 +9,7 @@ use Rattle.json.specs.Tree.{json_tokens, items_tokens, members_tokens}
 use Rattle.odb_spans.specs.Cuts.{IsClear}
 use Rattle.odb_spans.specs.Spans.{EachSpan, bytes_of}
 use Rattle.odb_spans.specs.Walks.{Faces, Steps}
-use Rattle.odb_spans.specs.Parts.{HasEnded, HasItems, HasMembers, HasValue, IsMemberAt, IsNameIn, MembersLeft, ItemsLeft, HasBodyText, HaveBodyTexts, IsSomeMemberOf, LieInItems, LiesInItems, LiesInRequestSome, append_items, append_members, count_items, list_of}
+use Rattle.odb_spans.specs.Parts.{HasEnded, HasItems, HasMembers, HasValue, IsMemberAt, IsNameIn, MembersLeft, ItemsLeft, HasMemberText, HaveMemberTexts, IsSomeMemberOf, LieInItems, LiesInItems, LiesInElementSome, append_items, append_members, count_items, list_of}
 use Rattle.odb_spans.specs.declared.member.Member.{Member}
 use Rattle.odb_spans.specs.declared.span.Span.{Span}
 use Rattle.odb_spans.specs.declared.walk.Step.TheVariants.{Element, End}
@@ -196,11 +196,11 @@ no-item text from end (json.item j js) ts has steps =
     let whole : (json_tokens j ++ items_tokens js) ++ ts ≡ b.first ∷ (b.others ++ (items_tokens js ++ ts)) = append_assoc (json_tokens j) (items_tokens js) ts ∙ ap (λ l. l ++ (items_tokens js ++ ts)) b.is in
     absurd (b.inner (steps.3 has.place b.first (b.others ++ (items_tokens js ++ ts)) has.inside b.good (has.spelled ∙ whole)).closing)
 
-append-have : (text : List ℕ) (js : List json.Json) (spans : List (Option Span)) (j : json.Json) (span : Option Span) → HaveBodyTexts text js spans → HasBodyText text j span → HaveBodyTexts text (js ++ j ∷ []) (spans ++ span ∷ [])
-append-have text [] [] j span have one = (one, tt)
-append-have text [] (s ∷ spans) j span have one = absurd have
-append-have text (i ∷ js) [] j span have one = absurd have
-append-have text (i ∷ js) (s ∷ spans) j span have one = (have.0, append-have text js spans j span have.1 one)
+append-have : (name text : List ℕ) (js : List json.Json) (spans : List (Option Span)) (j : json.Json) (span : Option Span) → HaveMemberTexts name text js spans → HasMemberText name text j span → HaveMemberTexts name text (js ++ j ∷ []) (spans ++ span ∷ [])
+append-have name text [] [] j span have one = (one, tt)
+append-have name text [] (s ∷ spans) j span have one = absurd have
+append-have name text (i ∷ js) [] j span have one = absurd have
+append-have name text (i ∷ js) (s ∷ spans) j span have one = (have.0, append-have name text js spans j span have.1 one)
 
 -- the others come after an item
 pub rest-items : (text : List ℕ) (end : ℕ) (others : json.Items) (ts : List Token) → IsUtf8 text → HasEnded text end (items_tokens others ++ ts) → HasItems text end others ts
@@ -227,20 +227,20 @@ pub count-item : (js : json.Items) (j : json.Json) → count_items (append_items
 count-item json.no_items j = refl
 count-item (json.item i js) j = ap suc (count-item js j)
 
-lies-in-items : (text : List ℕ) (at : ℕ) (span : Option Span) (before others js : json.Items) (j : json.Json) (ts : List Token) → js ≡ append_items before (json.item j others) → count_items before ≡ at
-    → LiesInRequestSome text span j (items_tokens others ++ ts) → EachSpan (λ at span. LiesInItems text at span js ts) at (span ∷ [])
-lies-in-items text at None before others js j ts is count lies = tt
-lies-in-items text at (Some span) before others js j ts is count lies = (record { earlier = before; item = j; later = others; is = is; count = count; holds = lies }, tt)
+lies-in-items : (name text : List ℕ) (at : ℕ) (span : Option Span) (before others js : json.Items) (j : json.Json) (ts : List Token) → js ≡ append_items before (json.item j others) → count_items before ≡ at
+    → LiesInElementSome name text span j (items_tokens others ++ ts) → EachSpan (λ at span. LiesInItems name text at span js ts) at (span ∷ [])
+lies-in-items name text at None before others js j ts is count lies = tt
+lies-in-items name text at (Some span) before others js j ts is count lies = (record { earlier = before; item = j; later = others; is = is; count = count; holds = lies }, tt)
 
 length-one : (spans : List (Option Span)) (span : Option Span) → length (spans ++ span ∷ []) ≡ suc (length spans)
 length-one spans span = omega (arith, length-append spans (span ∷ []))
 
-pub begin-items : (text : List ℕ) (start : ℕ) (js : json.Items) (ts : List Token) → HasItems text start js ts → ItemsLeft text start [] js ts
-begin-items text start js ts has = record { done = []; others = js; has = has; holds = tt; same = refl; before = json.no_items; whole = refl; count = refl; lie = tt }
+pub begin-items : (name text : List ℕ) (start : ℕ) (js : json.Items) (ts : List Token) → HasItems text start js ts → ItemsLeft name text start [] js ts
+begin-items name text start js ts has = record { done = []; others = js; has = has; holds = tt; same = refl; before = json.no_items; whole = refl; count = refl; lie = tt }
 
-pub passed-item : (text : List ℕ) (from at end : ℕ) (spans : List (Option Span)) (span : Option Span) (js : json.Items) (ts : List Token) → ItemsLeft text from spans js ts → Steps text from (Element at)
-    → ((j : json.Json) (us : List Token) → HasValue text at j us → HasBodyText text j span × HasEnded text end us × LiesInRequestSome text span j us) → ItemsLeft text end (spans ++ span ∷ []) js ts
-passed-item text from at end spans span js ts left steps gives =
+pub passed-item : (name text : List ℕ) (from at end : ℕ) (spans : List (Option Span)) (span : Option Span) (js : json.Items) (ts : List Token) → ItemsLeft name text from spans js ts → Steps text from (Element at)
+    → ((j : json.Json) (us : List Token) → HasValue text at j us → HasMemberText name text j span × HasEnded text end us × LiesInElementSome name text span j us) → ItemsLeft name text end (spans ++ span ∷ []) js ts
+passed-item name text from at end spans span js ts left steps gives =
     let first = first-item text from at left.others ts left.has steps in
     let one = gives first.value (items_tokens first.others ++ ts) first.has in
     let whole = left.whole ∙ ap (append_items left.before) first.is in
@@ -249,29 +249,29 @@ passed-item text from at end spans span js ts left steps gives =
       done = left.done ++ first.value ∷ [];
       others = first.others;
       has = rest-items text end first.others ts left.has.utf8 one.1;
-      holds = append-have text left.done spans first.value span left.holds one.0;
+      holds = append-have name text left.done spans first.value span left.holds one.0;
       same = left.same ∙ ap (λ o. left.done ++ list_of o) first.is ∙ sym (append_assoc left.done (first.value ∷ []) (list_of first.others));
       before = append_items left.before (json.item first.value json.no_items);
       whole = whole ∙ sym (append-item left.before first.value first.others);
       count = count-item left.before first.value ∙ ap suc left.count ∙ sym (length-one spans span);
-      lie = each-push (λ at span. LiesInItems text at span js ts) 0 spans span left.lie
-          (lies-in-items text (length spans + 0) span left.before first.others js first.value ts whole (left.count ∙ sym sum) one.2);
+      lie = each-push (λ at span. LiesInItems name text at span js ts) 0 spans span left.lie
+          (lies-in-items name text (length spans + 0) span left.before first.others js first.value ts whole (left.count ∙ sym sum) one.2);
     }
 
 append-none : (js : List json.Json) → js ++ [] ≡ js
 append-none [] = refl
 append-none (j ∷ js) = ap (λ l. j ∷ l) (append-none js)
 
-pub record EndedItems (text : List ℕ) (end : ℕ) (spans : List (Option Span)) (js : json.Items) (ts : List Token) : Type 0 where
-  pub holds : HaveBodyTexts text (list_of js) spans
+pub record EndedItems (name text : List ℕ) (end : ℕ) (spans : List (Option Span)) (js : json.Items) (ts : List Token) : Type 0 where
+  pub holds : HaveMemberTexts name text (list_of js) spans
   pub ended : HasEnded text end ts
-  pub lie : LieInItems text spans js ts
+  pub lie : LieInItems name text spans js ts
 
-pub end-items : (text : List ℕ) (from end : ℕ) (spans : List (Option Span)) (js : json.Items) (ts : List Token) → ItemsLeft text from spans js ts → Steps text from (End end) → EndedItems text end spans js ts
-end-items text from end spans js ts left steps =
+pub end-items : (name text : List ℕ) (from end : ℕ) (spans : List (Option Span)) (js : json.Items) (ts : List Token) → ItemsLeft name text from spans js ts → Steps text from (End end) → EndedItems name text end spans js ts
+end-items name text from end spans js ts left steps =
     let last = no-item text from end left.others ts left.has steps in
     record {
-      holds = subst (λ l. HaveBodyTexts text l spans) (sym (left.same ∙ ap (λ o. left.done ++ list_of o) last.none ∙ append-none left.done)) left.holds;
+      holds = subst (λ l. HaveMemberTexts name text l spans) (sym (left.same ∙ ap (λ o. left.done ++ list_of o) last.none ∙ append-none left.done)) left.holds;
       ended = last.ended;
       lie = left.lie;
     }

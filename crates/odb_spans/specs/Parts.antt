@@ -116,16 +116,16 @@ items_in (Some (json.string s)) = []
 items_in (Some (json.array js)) = list_of js
 items_in (Some (json.object ms)) = []
 
--- the span is that of the body of the request, or there is neither
-abbrev pub HasBodyText : List ℕ → json.Json → Option Span → Type 0
-HasBodyText text request span = IsValueSpan text span (given_json (get (codes "body") request))
+-- the span is that of the value of the member of this name, which is not null, or there is neither
+abbrev pub HasMemberText : List ℕ → List ℕ → json.Json → Option Span → Type 0
+HasMemberText name text element span = IsValueSpan text span (given_json (get name element))
 
-abbrev pub HaveBodyTexts : List ℕ → List json.Json → List (Option Span) → Type 0
-HaveBodyTexts text requests spans = AllZip (HasBodyText text) requests spans
+abbrev pub HaveMemberTexts : List ℕ → List ℕ → List json.Json → List (Option Span) → Type 0
+HaveMemberTexts name text elements spans = AllZip (HasMemberText name text) elements spans
 
--- the spans are those of the bodies of the requests in the value
-abbrev pub HaveBodiesIn : List ℕ → List (Option Span) → Option json.Json → Type 0
-HaveBodiesIn text spans o = HaveBodyTexts text (items_in o) spans
+-- the spans are those of the members of this name of the elements in the value
+abbrev pub HaveMembersIn : List ℕ → List ℕ → List (Option Span) → Option json.Json → Type 0
+HaveMembersIn name text spans o = HaveMemberTexts name text (items_in o) spans
 
 -- ---- the place of a value
 
@@ -167,16 +167,16 @@ abbrev pub IsSomeMemberOf : List ℕ → json.Members → Option json.Json → O
 IsSomeMemberOf name ms None o ts R = ⊤
 IsSomeMemberOf name ms (Some value) o ts R = IsMemberOf name ms value o ts R
 
--- the span is where the body of the request lies
-pub record LiesInRequest (text : List ℕ) (span : Span) (request : json.Json) (ts : List Token) : Type 0 where
+-- the span is where the member of this name of the element lies
+pub record LiesInElement (name text : List ℕ) (span : Span) (element : json.Json) (ts : List Token) : Type 0 where
   pub members : json.Members
-  pub object : request ≡ json.object members
-  pub body : json.Json
-  pub member : IsMemberOf (codes "body") members body None ts (LiesAt text span)
+  pub object : element ≡ json.object members
+  pub value : json.Json
+  pub member : IsMemberOf name members value None ts (LiesAt text span)
 
-abbrev pub LiesInRequestSome : List ℕ → Option Span → json.Json → List Token → Type 0
-LiesInRequestSome text None request ts = ⊤
-LiesInRequestSome text (Some span) request ts = LiesInRequest text span request ts
+abbrev pub LiesInElementSome : List ℕ → List ℕ → Option Span → json.Json → List Token → Type 0
+LiesInElementSome name text None element ts = ⊤
+LiesInElementSome name text (Some span) element ts = LiesInElement name text span element ts
 
 -- R holds of the item at this position, and of what comes after it
 pub record HoldsOfItem (R : json.Json → List Token → Type 0) (at : ℕ) (js : json.Items) (ts : List Token) : Type 0 where
@@ -193,18 +193,18 @@ pub record HoldsInArray (R : json.Json → List Token → Type 0) (at : ℕ) (j 
   pub array : j ≡ json.array items
   pub holds : HoldsOfItem R at items ts
 
--- the span is where the body of the request at this position lies
-abbrev pub LiesInItems : List ℕ → ℕ → Span → json.Items → List Token → Type 0
-LiesInItems text at span js ts = HoldsOfItem (LiesInRequest text span) at js ts
+-- the span is where the member of this name of the element at this position lies
+abbrev pub LiesInItems : List ℕ → List ℕ → ℕ → Span → json.Items → List Token → Type 0
+LiesInItems name text at span js ts = HoldsOfItem (LiesInElement name text span) at js ts
 
-abbrev pub LiesInArray : List ℕ → ℕ → Span → json.Json → List Token → Type 0
-LiesInArray text at span j ts = HoldsInArray (LiesInRequest text span) at j ts
+abbrev pub LiesInArray : List ℕ → List ℕ → ℕ → Span → json.Json → List Token → Type 0
+LiesInArray name text at span j ts = HoldsInArray (LiesInElement name text span) at j ts
 
-abbrev pub LieInItems : List ℕ → List (Option Span) → json.Items → List Token → Type 0
-LieInItems text spans js ts = EachSpan (λ at span. LiesInItems text at span js ts) 0 spans
+abbrev pub LieInItems : List ℕ → List ℕ → List (Option Span) → json.Items → List Token → Type 0
+LieInItems name text spans js ts = EachSpan (λ at span. LiesInItems name text at span js ts) 0 spans
 
-abbrev pub LieInArray : List ℕ → List (Option Span) → json.Json → List Token → Type 0
-LieInArray text spans j ts = EachSpan (λ at span. LiesInArray text at span j ts) 0 spans
+abbrev pub LieInArray : List ℕ → List ℕ → List (Option Span) → json.Json → List Token → Type 0
+LieInArray name text spans j ts = EachSpan (λ at span. LiesInArray name text at span j ts) 0 spans
 
 -- ---- what is still to come
 
@@ -219,17 +219,17 @@ pub record MembersLeft (name text : List ℕ) (at : ℕ) (R : Option json.Json �
   pub whole : ms ≡ append_members done others
   pub place : IsSomeMemberOf name ms found (get_member name others) ts Q
 
--- The others of the items js are still to come, and the spans are those of the bodies before them.
-pub record ItemsLeft (text : List ℕ) (at : ℕ) (spans : List (Option Span)) (js : json.Items) (ts : List Token) : Type 0 where
+-- The others of the items js are still to come, and the spans are those of the members of this name before them.
+pub record ItemsLeft (name text : List ℕ) (at : ℕ) (spans : List (Option Span)) (js : json.Items) (ts : List Token) : Type 0 where
   pub done : List json.Json
   pub others : json.Items
   pub has : HasItems text at others ts
-  pub holds : HaveBodyTexts text done spans
+  pub holds : HaveMemberTexts name text done spans
   pub same : list_of js ≡ done ++ list_of others
   pub before : json.Items
   pub whole : js ≡ append_items before others
   pub count : count_items before ≡ length spans
-  pub lie : LieInItems text spans js ts
+  pub lie : LieInItems name text spans js ts
 
 -- the value of the last member of this name, and where the object ends
 pub record FindsMember (name text : List ℕ) (start : ℕ) (span : Option Span) (end : ℕ) : Type 0 where
@@ -238,32 +238,32 @@ pub record FindsMember (name text : List ℕ) (start : ℕ) (span : Option Span)
   pub bounds : IsWithin (length text) span
   pub finds : (ms : json.Members) (ts : List Token) → HasMembers text start ms ts → IsValueSpan text span (get_member name ms) × HasEnded text end ts × IsSomeMemberOf name ms (get_member name ms) None ts (LiesAtSome text span)
 
--- the body of the request there, and where the request ends
-pub record GivesBody (text : List ℕ) (at : ℕ) (span : Option Span) (end : ℕ) : Type 0 where
+-- the member of this name of the element there, and where the element ends
+pub record GivesMember (name text : List ℕ) (at : ℕ) (span : Option Span) (end : ℕ) : Type 0 where
   pub order : at < end
   pub within : end ≤ length text
   pub bounds : IsWithin (length text) span
-  pub gives : (j : json.Json) (ts : List Token) → HasValue text at j ts → HasBodyText text j span × HasEnded text end ts × LiesInRequestSome text span j ts
+  pub gives : (j : json.Json) (ts : List Token) → HasValue text at j ts → HasMemberText name text j span × HasEnded text end ts × LiesInElementSome name text span j ts
 
--- the bodies of the requests of an array, and where it ends
-pub record GivesItems (text : List ℕ) (start : ℕ) (spans : List (Option Span)) (end : ℕ) : Type 0 where
+-- the members of this name of the elements of an array, and where it ends
+pub record GivesItems (name text : List ℕ) (start : ℕ) (spans : List (Option Span)) (end : ℕ) : Type 0 where
   pub order : start ≤ end
   pub within : end ≤ length text
   pub bounds : All (IsWithin (length text)) spans
-  pub gives : (js : json.Items) (ts : List Token) → HasItems text start js ts → HaveBodyTexts text (list_of js) spans × HasEnded text end ts × LieInItems text spans js ts
+  pub gives : (js : json.Items) (ts : List Token) → HasItems text start js ts → HaveMemberTexts name text (list_of js) spans × HasEnded text end ts × LieInItems name text spans js ts
 
--- the bodies of the requests in the value there, and where it ends
-pub record GivesBodies (text : List ℕ) (at : ℕ) (spans : List (Option Span)) (end : ℕ) : Type 0 where
+-- the members of this name of the elements in the value there, and where it ends
+pub record GivesMembers (name text : List ℕ) (at : ℕ) (spans : List (Option Span)) (end : ℕ) : Type 0 where
   pub order : at ≤ end
   pub within : end ≤ length text
   pub bounds : All (IsWithin (length text)) spans
-  pub gives : (j : json.Json) (ts : List Token) → HasValue text at j ts → HaveBodiesIn text spans (Some j) × HasEnded text end ts × LieInArray text spans j ts
+  pub gives : (j : json.Json) (ts : List Token) → HasValue text at j ts → HaveMembersIn name text spans (Some j) × HasEnded text end ts × LieInArray name text spans j ts
 
--- the bodies of the requests in the last member `requests`
-pub record FindsBodies (text : List ℕ) (start : ℕ) (spans : List (Option Span)) : Type 0 where
+-- the members of this name of the elements of the last member that has the list's name
+pub record FindsMembers (list name text : List ℕ) (start : ℕ) (spans : List (Option Span)) : Type 0 where
   pub bounds : All (IsWithin (length text)) spans
-  pub finds : (ms : json.Members) (ts : List Token) → HasMembers text start ms ts → HaveBodiesIn text spans (get_member (codes "requests") ms)
-      × IsSomeMemberOf (codes "requests") ms (get_member (codes "requests") ms) None ts (LieInArray text spans)
+  pub finds : (ms : json.Members) (ts : List Token) → HasMembers text start ms ts → HaveMembersIn name text spans (get_member list ms)
+      × IsSomeMemberOf list ms (get_member list ms) None ts (LieInArray name text spans)
 
 -- ---- one element
 

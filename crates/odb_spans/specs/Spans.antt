@@ -1,11 +1,11 @@
--- Where the bodies of a batch lie in its document: what the public clauses cite.
+-- Where the members of the elements of a document lie, as the bodies of a batch: what the public clauses cite.
 use Rattle.std.specs.Prelude.{◌≡◌, ◌≤◌, ◌-◌, ℕ, suc, List, [], ◌∷◌, ◌++◌, length, take, drop, get_or, set, map, false, Option, Some, None, ⊤, codes}
 use Rattle.json.specs.Word.{is_space}
 use Rattle.serde_json.specs.Data.{Data}
+use Rattle.serde_json.specs.Find.{get}
 use Rattle.odb_doc.specs.Documents.{IsJson}
 use Rattle.odb_doc.specs.Nesting.{NestsWithin}
-use Rattle.odb_doc.specs.batch.Bodies.{body_of}
-use Rattle.odb_doc.specs.batch.Shapes.{elements}
+use Rattle.odb_doc.specs.Members.{elements_at, given}
 use Rattle.odb_spans.specs.declared.span.Span.{Span}
 
 -- the bytes of the span
@@ -24,14 +24,18 @@ pub record IsSpanOf (document : List ℕ) (span : Span) (d : Data) : Type 0 wher
   pub reads : IsJson (bytes_of document span) d
   pub nests : NestsWithin 124 (bytes_of document span)
 
--- the span is that of the body of the request, or there is neither
-abbrev pub HasBodyAt : List ℕ → Data → Option Span → Type 0
-HasBodyAt document request None = body_of request ≡ None
-HasBodyAt document request (Some span) = (body : Data) × (body_of request ≡ Some body) × IsSpanOf document span body
+-- the value of an element's member of this name; null is treated as absent
+abbrev pub member_of : List ℕ → Data → Option Data
+member_of name element = given (get name element)
 
--- the bodies of the requests, in order
-abbrev pub bodies_of : Data → List (Option Data)
-bodies_of d = map body_of (elements d)
+-- the span is that of the element's member of this name, or there is neither
+abbrev pub HasMemberAt : List ℕ → List ℕ → Data → Option Span → Type 0
+HasMemberAt name document element None = member_of name element ≡ None
+HasMemberAt name document element (Some span) = (value : Data) × (member_of name element ≡ Some value) × IsSpanOf document span value
+
+-- the members of this name of the elements of the array at a member of the document, in order
+abbrev pub members_of : List ℕ → List ℕ → Data → List (Option Data)
+members_of list name d = map (member_of name) (elements_at list d)
 
 -- the document with this text in the place of the span
 abbrev pub replaced : List ℕ → Span → List ℕ → List ℕ
@@ -41,13 +45,21 @@ replaced document span text = take span.start document ++ (text ++ drop span.end
 abbrev pub without : List ℕ → Span → List ℕ
 without document span = replaced document span (codes "null")
 
--- The span is where the body of the request at this position lies: without it, that request has no body, and the others have theirs. It begins and ends with no blank (RFC 8259, section 2).
-pub record IsPlaceOfBody (document : List ℕ) (d : Data) (at : ℕ) (span : Span) : Type 0 where
+-- The span is where this member of the element at this position lies: without it, that element has no such member, and the others have theirs. It begins and ends with no blank (RFC 8259, section 2).
+pub record IsPlaceOfMember (list name document : List ℕ) (d : Data) (at : ℕ) (span : Span) : Type 0 where
   pub changed : Data
   pub reads : IsJson (without document span) changed
-  pub bodies : bodies_of changed ≡ set (bodies_of d) at None
+  pub members : members_of list name changed ≡ set (members_of list name d) at None
   pub first : is_space (get_or document span.start 0) ≡ false
   pub last : is_space (get_or document (span.end - 1) 0) ≡ false
+
+-- the span is that of the body of the request, or there is neither
+abbrev pub HasBodyAt : List ℕ → Data → Option Span → Type 0
+HasBodyAt document request span = HasMemberAt (codes "body") document request span
+
+-- the span is where the body of the request at this position lies
+abbrev pub IsPlaceOfBody : List ℕ → Data → ℕ → Span → Type 0
+IsPlaceOfBody document d at span = IsPlaceOfMember (codes "requests") (codes "body") document d at span
 
 -- P holds of each span that there is, with its position, from `at` on
 abbrev pub EachSpan : (ℕ → Span → Type 0) → ℕ → List (Option Span) → Type 0

@@ -1,10 +1,6 @@
 //! What is open before a position in a text, as a short text after which a parser expects the same.
 
-<<<<<<< HEAD
-ghost use Rattle.std.specs.Prelude.{◌≡◌, ◌≤◌, length, IfOk, IfSome};
-=======
 ghost use Rattle.std.specs.Prelude.{◌≡◌, ◌≤◌, length, IfSome};
->>>>>>> origin/engine
 
 use memchr::memchr2;
 use std::alloc::{AllocError, Global};

@@ -2,7 +2,8 @@
 //!
 //! A value that [`odb_doc::parse`] made has lost how the client wrote it: `9.990`, 23 digits, blanks. A
 //! gateway has to send each body as it was written, and so does a service that stores it.
-//! [`bodies_in`] returns for each request the [`Span`] of its body, by one scan of the document.
+//! [`bodies_in`] returns for each request the [`Span`] of its body, by one scan of the document, and [`members_in`] that of
+//! another member of each element of an array, as of the body of each response.
 //!
 //! A fault names an element by its [`Place`](odb_doc::Place). [`position_of`] returns the [`Position`] at
 //! which the element begins, with its line and column, [`positions_of`] those of many faults, and
@@ -11,14 +12,15 @@
 #![tactic(auto)]
 
 mod bodies;
-mod body;
 mod byte;
 mod extent;
 mod fault;
 mod front;
+mod given;
 mod item;
 mod locate;
 mod member;
+mod members;
 mod parsing;
 mod position;
 mod positions;
@@ -29,6 +31,7 @@ pub use bodies::bodies_in;
 pub use locate::{
     documents_in, is_in_batch, position_by, position_in_pair, position_in_pair_by, position_of,
 };
+pub use members::members_in;
 pub use parsing::{ParseError, parse};
 pub use position::Position;
 pub use positions::{positions_by, positions_of};

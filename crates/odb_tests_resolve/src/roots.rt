@@ -45,6 +45,13 @@ fn allows_nothing_below_what_is_not_a_root(rt: HostRuntime) {
 
 #[test]
 fn takes_the_first_root_that_fits(rt: HostRuntime) {
+    assert!(rt;
+        sends(
+            rt.alloc(),
+            &["http://host/o%64ata/"],
+            "http://host/o%64ata/Books"
+        )
+    );
     let roots = ["http://other/", "http://HOST/", "http://host/odata/"];
     assert!(rt; sends(rt.alloc(), &roots, "http://HOST/odata/Books"));
     assert!(rt;

@@ -86,6 +86,16 @@ const FROM_HOST: &[(&str, Lead)] = &[
     ("a/../Books", Ok("http://host/odata/Books")),
     ("a/b/..", Ok("http://host/odata/a/")),
     ("../odata/Books", Ok("http://host/odata/Books")),
+    // The root, written with other escapes.
+    ("/%6Fdata/Books", Ok("http://host/odata/Books")),
+    ("/%6f%64ata/B%6foks", Ok("http://host/odata/B%6foks")),
+    ("/odata%2FBooks", Ok("http://host/odata/Books")),
+    ("/%6Fdata%2f", Ok("http://host/odata/")),
+    ("/%6Fdata", OUTSIDE),
+    ("/%6Gdata/Books", OUTSIDE),
+    ("/%256Fdata/Books", OUTSIDE),
+    ("/odata%2F..%2Fadmin", OUTSIDE),
+    ("/%6Fdata/%2e%2e/admin", OUTSIDE),
     ("a//b", Ok("http://host/odata/a//b")),
     // Control characters.
     ("Books('\n')", UNREADABLE),

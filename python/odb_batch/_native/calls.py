@@ -3,7 +3,8 @@
 from functools import partial
 from typing import Any, Literal, Optional, get_args
 
-from ..errors.faults import Fault, Position
+from ..errors.faults import Fault, Position, Refused, explain
+from ..errors.findings import Findings
 from . import library
 
 #: Whether a run goes on after an error; the position of a mode is its number.
@@ -15,7 +16,9 @@ MAX_WIDTH = 10_000
 MORE = 256
 #: How many requests a batch may have.
 MAX_REQUESTS = 10_000
-# How short a request may be in a document.
+# The letters of the codes of causes, by the tens of their statuses: 11 is S1, and 21 is P1.
+_FIRST_CAUSES = {1: "S", 2: "P"}
+# How short a request or a response may be in a document.
 _SHORTEST = 32
 
 
@@ -55,6 +58,15 @@ def read_text(name: str, *documents: bytes, options: tuple[Any, ...] = (), more:
     raise status_error(name, status)
 
 
+def refused_error(status: int, request_id: str) -> Optional[Refused]:
+    """Returns the exception for a status by which a start or a report is refused; None for another status."""
+    first = _FIRST_CAUSES.get(status // 10)
+    if first is None or status % 10 == 0:
+        return None
+    code = f"{first}{status % 10}"
+    return Refused(code, explain(code).name, request_id)
+
+
 def read_fault(line: bytes, *documents: bytes) -> Fault:
     """Returns the fault of a line ``fault CODE NAME PLACE``, in one of the documents: the batch, and maybe a second."""
     _, code, name, place = line.decode().rstrip("\n").split(" ", 3)
@@ -74,15 +86,15 @@ def read_faults(batch: bytes) -> tuple[Fault, ...]:
     status, text, found = library.call_faults(batch, len(batch) + MORE, likely_count(batch))
     if status not in (library.DONE, library.REFUSED):
         raise status_error("odb_faults", status)
-    words = text.decode()
-    return tuple(_listed_fault(batch, words, numbers) for numbers in found)
+    words, findings = text.decode(), Findings(batch)
+    return tuple(_listed_fault(findings, words, numbers) for numbers in found)
 
 
-def _listed_fault(batch: bytes, text: str, numbers: tuple[int, ...]) -> Fault:
+def _listed_fault(findings: Findings, text: str, numbers: tuple[int, ...]) -> Fault:
     """Returns the fault whose words lie there in a text of ASCII."""
     code, code_length, name, name_length, place, place_length, line, column, offset = numbers
     fault = Fault(text[code : code + code_length], text[name : name + name_length], text[place : place + place_length])
-    return fault.at(batch, Position(line, column, offset))
+    return fault.at(findings, Position(line, column, offset))
 
 
 def _position(document: bytes, place: str) -> Optional[Position]:

@@ -1,18 +1,30 @@
 """Why a document is refused, or a start or a report of a live run."""
 
-import json
-import pkgutil
 from functools import cache
 from typing import Callable, NamedTuple, Optional
 
-from .findings import describe
+from .._native import library
+from .findings import Findings
+
+# A guess of how long the explanation of a fault is.
+_LONG = 2048
+
+
+class Explanation(NamedTuple):
+    """What the library says of a code: the name of the fault or the cause, and what it means."""
+
+    name: str
+    meaning: str
 
 
 @cache
-def explanations() -> dict[str, str]:
-    """Returns what each fault and each cause means, by its code: tools/explanations.py makes the file of docs/faults.md."""
-    found: dict[str, str] = json.loads(pkgutil.get_data(__package__, "explanations.json") or b"{}")
-    return found
+def explain(code: str) -> Explanation:
+    """Returns what a code means; nothing of one that is not the code of a fault or a cause."""
+    status, text = library.call("odb_explain", (code.encode("utf-8", "replace"),), (), _LONG)
+    if status != library.DONE:
+        return Explanation("", "")
+    heading, _, rest = text.decode().partition("\n")
+    return Explanation(heading.split(" ")[1], rest.rpartition("\nrefused: ")[0])
 
 
 class Position(NamedTuple):
@@ -47,7 +59,7 @@ class OdbError(Exception):
 
     @property
     def explanation(self) -> str:
-        return explanations().get(self.code, "")
+        return explain(self.code).meaning
 
 
 class Fault(OdbError, ValueError):
@@ -65,7 +77,8 @@ class Fault(OdbError, ValueError):
     """
 
     place: str
-    _document: Optional[bytes] = None
+    # What its document says for people; the faults of a document share it.
+    _findings: Optional[Findings] = None
     # Where it is, or until that is asked for what looks it up.
     _found: Optional[Position] = None
     _locate: Optional[Callable[[], Optional[Position]]] = None
@@ -78,12 +91,12 @@ class Fault(OdbError, ValueError):
 
     def in_document(self, document: bytes, locate: Callable[[], Optional[Position]]) -> "Fault":
         """Notes the document that has the fault, and what looks up where; returns the fault itself."""
-        self._document, self._locate = document, locate
+        self._findings, self._locate = Findings(document), locate
         return self
 
-    def at(self, document: bytes, position: Position) -> "Fault":
-        """Notes the document that has the fault, and where; returns the fault itself."""
-        self._document, self._found = document, position
+    def at(self, findings: Findings, position: Position) -> "Fault":
+        """Notes what the document says that has the fault, and where it is; returns the fault itself."""
+        self._findings, self._found = findings, position
         return self
 
     def of_builder(self) -> "Fault":
@@ -106,7 +119,7 @@ class Fault(OdbError, ValueError):
         ...     print(fault.message[:54])
         a: "b" in dependsOn is unknown. UnknownName: A name in
         """
-        found = "" if self._document is None else describe(self.code, self._document, self.place)
+        found = "" if self._findings is None else self._findings.describe(self.code, self.place)
         return f"{found}{self.name}: {' '.join(self.explanation.split())}"
 
     def _position(self) -> Optional[Position]:

@@ -1,7 +1,8 @@
 """What is wrong in a batch that is refused, in words: the id of the request, and the name that is wrong."""
 
 import json
-from typing import Any, Iterable, Optional
+from functools import cached_property
+from typing import Any, Callable, Iterable, Optional
 from urllib.parse import unquote
 
 _MEMBERS = frozenset({"id", "method", "url", "atomicityGroup", "dependsOn", "headers", "body"})
@@ -9,30 +10,44 @@ _MEMBERS = frozenset({"id", "method", "url", "atomicityGroup", "dependsOn", "hea
 _MAX_LENGTH = 100
 
 
-def describe(code: str, document: bytes, place: str) -> str:
-    """Returns how a message about a fault begins, such as ``order: "lines" is not listed in dependsOn. ``: with the id of
-    the request, and the name that is wrong. Only with the id if it is not about a name; empty without an id."""
-    try:
-        requests = json.loads(document)["requests"]
-        at = int(place.rpartition("/")[2])
-        request_id = requests[at]["id"]
-        if not isinstance(request_id, str):
+class Findings:
+    """What is wrong in the requests of a document, which is read once for all its faults."""
+
+    def __init__(self, document: bytes) -> None:
+        self._document = document
+
+    @cached_property
+    def _batch(self) -> Optional["_Names"]:
+        """The requests of the document, or None if it is not one in which they can be found."""
+        try:
+            return _Names(json.loads(self._document)["requests"])
+        except (ValueError, TypeError, LookupError, RecursionError):
+            return None
+
+    def describe(self, code: str, place: str) -> str:
+        """Returns how a message about a fault begins, such as ``order: "lines" is not listed in dependsOn. ``: with the id
+        of the request, and the name that is wrong. Only with the id if it is not about a name; empty without an id."""
+        position = place.rpartition("/")[2]
+        if self._batch is None or not position.isdecimal():
             return ""
-        wrong = _find_wrong(code, requests, at)
-    except (ValueError, TypeError, LookupError, AttributeError, RecursionError):
-        return ""
-    return f"{_shorten(request_id)}: {wrong}. " if wrong else f"{_shorten(request_id)}: "
+        try:
+            request_id = self._batch.requests[int(position)]["id"]
+            if not isinstance(request_id, str):
+                return ""
+            wrong = _find_wrong(code, self._batch, int(position))
+        except (TypeError, LookupError, AttributeError, StopIteration):
+            return ""
+        return f"{_shorten(request_id)}: {wrong}. " if wrong else f"{_shorten(request_id)}: "
 
 
-def _find_wrong(code: str, requests: list[dict[str, Any]], at: int) -> str:
-    request = requests[at]
-    batch = _Names(requests)
+def _find_wrong(code: str, batch: "_Names", at: int) -> str:
+    request = batch.requests[at]
     listed = list(request.get("dependsOn") or [])
     if code in ("F40", "F41", "F42", "F43"):
-        tests = {"F40": batch.is_unknown, "F41": batch.is_later, "F42": batch.is_own_group, "F43": batch.is_uncovered}
+        tests = {"F40": batch.is_unknown, "F41": batch.is_later, "F42": batch.is_own_group, "F43": batch.uncovered(at)}
         name = next(name for name in listed if tests[code](at, name))
         if code == "F43":
-            group = requests[batch.positions[name]]["atomicityGroup"]
+            group = batch.requests[batch.positions[name]]["atomicityGroup"]
             return f"{_quote(group)}, the group of {_quote(name)}, is not listed in dependsOn"
         says = {"F40": "is unknown", "F41": "does not come before it", "F42": "is its own group"}
         return f"{_quote(name)} in dependsOn {says[code]}"
@@ -53,13 +68,14 @@ class _Names:
     """The ids and the groups of a batch, each with the position of the first request that has it."""
 
     def __init__(self, requests: list[dict[str, Any]]) -> None:
-        self._requests = requests
+        self.requests = requests
         self.positions: dict[str, int] = {}
         self.groups: dict[str, int] = {}
         for at, request in enumerate(requests):
-            self.positions.setdefault(request["id"], at)
-            if request.get("atomicityGroup") is not None:
-                self.groups.setdefault(request["atomicityGroup"], at)
+            members = request if isinstance(request, dict) else {}
+            for name, found in (("id", self.positions), ("atomicityGroup", self.groups)):
+                if isinstance(members.get(name), str):
+                    found.setdefault(members[name], at)
 
     def is_unknown(self, _: int, name: str) -> bool:
         return name not in self.positions and name not in self.groups
@@ -68,14 +84,17 @@ class _Names:
         return self.positions.get(name, -1) >= at or self.groups.get(name, -1) > at
 
     def is_own_group(self, at: int, name: str) -> bool:
-        own: Optional[str] = self._requests[at].get("atomicityGroup")
+        own: Optional[str] = self.requests[at].get("atomicityGroup")
         return name == own
 
-    def is_uncovered(self, at: int, name: str) -> bool:
-        if name not in self.positions:
-            return False
-        request, group = self._requests[at], self._requests[self.positions[name]].get("atomicityGroup")
-        return group not in (None, request.get("atomicityGroup"), *request["dependsOn"])
+    def uncovered(self, at: int) -> Callable[[int, str], bool]:
+        """Returns whether a name is of a request in a group that the request does not list."""
+        listed = {None, self.requests[at].get("atomicityGroup"), *(self.requests[at].get("dependsOn") or [])}
+        return lambda _, name: name in self.positions and self._group(name) not in listed
+
+    def _group(self, name: str) -> Optional[str]:
+        group: Optional[str] = self.requests[self.positions[name]].get("atomicityGroup")
+        return group
 
 
 def _reference(url: str) -> str:

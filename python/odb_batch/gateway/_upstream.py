@@ -32,49 +32,43 @@ _SINGLE = URL_HEADERS | {"etag"}
 _UNSENT = ("Stopping", "Unreachable", "NoJournal", "InProgress")
 
 
-class _Permit:
-    """Lets a request be sent once, and only while its batch is held: it may have waited for its connection.
-
-    Newer versions of aiohttp send a PUT or a DELETE again if a connection breaks.
-    """
-
-    def __init__(self, journal: Optional[StoreJournal]) -> None:
-        self._journal, self._is_sent = journal, False
-
-    def require_held(self) -> None:
-        if self._journal is not None:
-            self._journal.require_held()
-
-    def begin(self) -> None:
-        self.require_held()
-        if self._is_sent:
-            raise aiohttp.ClientConnectionError("the request was sent before")
-        self._is_sent = True
-
-
-# Of the request that the running task sends; None for a GET.
-_PERMIT: ContextVar[Optional[_Permit]] = ContextVar("permit", default=None)
+# Of the request that the running task sends: a list with the journal that it has, or None; empty once it was sent. None
+# for a GET, which may be sent again.
+_TO_SEND: ContextVar[Optional[list[Optional[StoreJournal]]]] = ContextVar("to_send", default=None)
 
 
 class _Request(aiohttp.ClientRequest):
-    """A request that asks for its permit. A hook of aiohttp could, but takes a fourth of the time of a request."""
+    """A request that is sent once, though newer versions of aiohttp send a PUT or a DELETE again if a connection breaks; and
+    only while its batch is held, as it may have waited for its connection.
+
+    Hooks of aiohttp could do that, but take a fourth of the time of a request.
+    """
+
+    journal: Optional[StoreJournal] = None
 
     async def send(self, conn: Any) -> aiohttp.ClientResponse:
-        permit = _PERMIT.get()
-        if permit is not None:
-            permit.begin()
+        to_send = _TO_SEND.get()
+        if to_send is not None:
+            if not to_send:
+                raise aiohttp.ClientConnectionError("the request was sent before")
+            self.journal = to_send[0]
+            self._require_held()
+            to_send.clear()
         return await super().send(conn)
 
     async def write_bytes(self, writer: Any, conn: Any, *more: Any) -> None:
         """Writes the body, unless another gateway goes on meanwhile: a service does not perform a head alone."""
-        permit = _PERMIT.get()
         try:
-            if permit is not None:
-                permit.require_held()
+            if self.body:
+                self._require_held()
         except Late:
             conn.protocol.set_exception(aiohttp.ClientConnectionError("the gateway was paused while it sent the request"))
         else:
             await super().write_bytes(writer, conn, *more)
+
+    def _require_held(self) -> None:
+        if self.journal is not None:
+            self.journal.require_held()
 
 
 class _ServicePlaces(Places):
@@ -121,7 +115,9 @@ class UpstreamClient:
         self.is_stopping = self._is_broken_off = False
 
     async def open(self) -> None:
-        """Makes what belongs to the running loop; raises OSError if the files of a route cannot be used."""
+        """Makes what belongs to the running loop; raises OSError if the files of a route, or this aiohttp, cannot be used."""
+        if not (hasattr(aiohttp.ClientRequest, "send") and hasattr(aiohttp.ClientRequest, "write_bytes")):
+            raise OSError(f"aiohttp {aiohttp.__version__} sends requests in a way that is not known here")
         self._route_options = {route.prefix: _route_options(route) for route in self._options.routes}
         self._connector = aiohttp.TCPConnector(limit=0, keepalive_timeout=self._options.keep_alive)
         self._session = aiohttp.ClientSession(
@@ -137,7 +133,7 @@ class UpstreamClient:
     def request(self, method: str, url: str, journal: Optional[StoreJournal] = None, **options: Any) -> Any:
         """Returns the exchange of a request, as aiohttp has it. It is sent once, unless it is a GET, and with a journal
         only while no other gateway goes on with its batch."""
-        _PERMIT.set(None if method == "GET" else _Permit(journal))
+        _TO_SEND.set(None if method == "GET" else [journal])
         return self._session.request(method, URL(url, encoded=True), **options)
 
     async def close(self) -> None:

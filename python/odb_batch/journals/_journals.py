@@ -52,7 +52,6 @@ class Journals:
         self.writers = itertools.count(1)
         self._active: Set[bytes] = set()
         self._tasks: "Set[asyncio.Task[None]]" = set()
-        self._appends: "Set[asyncio.Task[None]]" = set()
         self._releases: "Set[asyncio.Task[None]]" = set()
         # What the clocks have shown: that nobody sets, and that of the store.
         self._shown: Deque[Tuple[float, float]] = deque()
@@ -91,7 +90,7 @@ class Journals:
         self._short: "asyncio.Queue[StoreJournal]" = asyncio.Queue()
         self._long: "asyncio.Queue[StoreJournal]" = asyncio.Queue()
         for waiting in [self._long, *[self._short] * self.store.width]:
-            self._spawn(self._append_waiting(waiting), self._appends)
+            self._spawn(self._append_waiting(waiting), self._tasks)
         often = min(max(_PRUNE_SECONDS, self._keep / _PRUNED_WHILE_KEPT), self._keep)
         self._spawn(self._repeat(often, self.prune, "old journals cannot be removed"), self._tasks)
         lease = self.store.lease.seconds
@@ -111,7 +110,7 @@ class Journals:
         """Lets others go on with what is left, and closes the store."""
         if self._releases:
             await asyncio.wait(self._releases, timeout=_END)
-        rest = [*self._tasks, *self._appends, *self._releases]
+        rest = [*self._tasks, *self._releases]
         for task in rest:
             task.cancel()
         await asyncio.gather(*rest, return_exceptions=True)

@@ -219,21 +219,17 @@ class _Connection:
                     if self._connection is None or self._connection.is_closed():
                         await self._connect()
                     return await self._run_in_time(work, self._store.timeout + size / _RATE)
-                except _Unusable:
+                except BaseException as error:  # also if it is cancelled: the connection must not be used again
                     self.drop()
-                    raise
-                except _AGAIN as error:
-                    self.drop()
+                    text = f"PostgreSQL: {type(error).__name__} {error}".rstrip()
+                    if isinstance(error, _Unusable) or not isinstance(error, (asyncpg.PostgresError, *_AGAIN)):
+                        raise
+                    if not isinstance(error, _AGAIN):
+                        raise _Unusable(text) from None
                     self._store.breaks += 1
                     if clock() >= end:
-                        raise ConnectionError(f"PostgreSQL: {_describe(error)}") from None
-                    await asyncio.sleep(_BREAK)
-                except asyncpg.PostgresError as error:
-                    self.drop()
-                    raise _Unusable(f"PostgreSQL: {_describe(error)}") from None
-                except BaseException:  # cancelled: the connection must not be used again
-                    self.drop()
-                    raise
+                        raise ConnectionError(text) from None
+                await asyncio.sleep(_BREAK)
 
     async def _connect(self) -> None:
         """Makes a connection to the primary."""
@@ -273,7 +269,3 @@ class _Connection:
         connection, self._connection = self._connection, None
         if connection is not None and not connection.is_closed():
             connection.terminate()
-
-
-def _describe(error: BaseException) -> str:
-    return f"{type(error).__name__} {error}".rstrip()

@@ -55,6 +55,7 @@ _SECONDS, _CLOSE_SECONDS = 10.0, 0.5
 _FLAGS = os.O_RDWR | os.O_CLOEXEC | os.O_NOFOLLOW
 _OF_FILES = re.compile("[0-9a-f]{64}").fullmatch
 _Result = TypeVar("_Result")
+_Queue = queue.SimpleQueue[Any]
 
 
 class SqliteStore:
@@ -75,13 +76,7 @@ class SqliteStore:
 
     # A thread for what writes, and one for what reads: each takes its work from a queue, and an executor takes longer
 
-    def _start_thread(self) -> "queue.SimpleQueue[Any]":
-        queued: "queue.SimpleQueue[Any]" = queue.SimpleQueue()
-        # A process that ends does not wait for it.
-        threading.Thread(target=self._work, args=(asyncio.get_running_loop(), queued), daemon=True).start()
-        return queued
-
-    def _work(self, loop: asyncio.AbstractEventLoop, queued: "queue.SimpleQueue[Any]") -> None:
+    def _work(self, loop: asyncio.AbstractEventLoop, queued: _Queue) -> None:
         while job := queued.get():
             future, work, given = job
             try:
@@ -103,7 +98,7 @@ class SqliteStore:
         self._end(future, future.set_exception, OSError("SQLite: no answer in time"))
         self._hanging = future
 
-    async def _run(self, queued: "queue.SimpleQueue[Any]", work: Callable[..., _Result], *given: Any) -> _Result:
+    async def _run(self, queued: _Queue, work: Callable[..., _Result], *given: Any) -> _Result:
         """Runs a function in a thread; raises OSError if that takes too long, also for what comes after it."""
         if self._hanging is not None:
             raise OSError("SQLite: the device hangs, or a process that writes is stopped")
@@ -120,7 +115,9 @@ class SqliteStore:
         self._require_folder()
         self._lock = self._lock_file(self._lock_path(self.lease.holder))
         self._turn = os.open(f"{self._path}-turn", _FLAGS | os.O_CREAT, 0o600)
-        self._writer, self._reader = self._start_thread(), self._start_thread()
+        self._writer, self._reader = queue.SimpleQueue(), queue.SimpleQueue()  # type: _Queue, _Queue
+        for queued in (self._writer, self._reader):  # a process that ends does not wait for them
+            threading.Thread(target=self._work, args=(asyncio.get_running_loop(), queued), daemon=True).start()
         try:
             self._to_write = await self._run(self._writer, self._connect)
             self._to_read = await self._run(self._reader, self._connect)
@@ -263,9 +260,8 @@ class SqliteStore:
             if count != pieces:
                 raise OSError("a piece of a long text was removed before it was kept")
         row = (part.batch, part.number, *part.mark, part.is_open, time.time(), len(part.text), pieces)
-        if execute(_INSERT, (*row, part.text[pieces * _PIECE :], *part.after)).rowcount:
-            return True
-        return bool(execute(_MARK, (part.batch, part.number)).fetchone() == part.mark)
+        is_new = execute(_INSERT, (*row, part.text[pieces * _PIECE :], *part.after)).rowcount > 0
+        return is_new or bool(execute(_MARK, (part.batch, part.number)).fetchone() == part.mark)
 
     async def confirm(self) -> None:
         await self._run(self._reader, self._sync)

@@ -1,6 +1,7 @@
 """What the tests share: the tool as a process, and the example service with a defect."""
 
 import os
+import signal
 import subprocess
 import sys
 import tempfile
@@ -34,7 +35,7 @@ class Defective(Process):
         return Started(command, folder, variables, [out.name, out.name], listening)
 
     def __exit__(self, *_):
-        self.kill()  # a worker of gunicorn takes a second to see that it is to end
+        self.stop(signal.SIGQUIT)  # by SIGTERM a worker of gunicorn takes a second to see that it is to end
 
     def app(self, database, width):
         if self.name is None:

@@ -1,6 +1,6 @@
 //! The ids and the groups of the requests of a batch, once nothing of its document is held.
 
-ghost use Rattle.std.specs.Prelude.{◌≡◌, ◌<◌, ℕ, None, All, Contains, IfOk, IfSome, OnOk, string_bytes};
+ghost use Rattle.std.specs.Prelude.{◌≡◌, ◌<◌, ◌↔◌, ℕ, None, All, Contains, IfOk, IfSome, IsTrue, OnOk, string_bytes};
 ghost use Rattle.std.specs.List.Sorted.{IsPermutation};
 ghost use Rattle.odb_doc.specs.batch.Records.{record_of};
 ghost use Rattle.odb_check.specs.Plans.{plan_records};
@@ -92,6 +92,13 @@ impl OwnedLabel {
         })
     }
 
+    /// Returns whether it is the id and the group of a request.
+    fn is_of(&self, request: &Request<'_>) -> bool
+        ensures { IsTrue result ↔ (owned_value self.now ≡ label_of (record_of request.now)) }
+    {
+        self.id.as_str() == request.id && self.lent().group == request.group
+    }
+
     /// Returns the same, borrowed.
     fn lent(&self) -> Label<'_>
         ensures { label_value result ≡ owned_value self.now }
@@ -119,6 +126,21 @@ fn labels_in(alloc: Global, plan: &Plan<'_>) -> Result<Vec<OwnedLabel>, AllocErr
     Ok(labels)
 }
 
+/// Returns whether these are the ids and the groups of the requests of a plan.
+fn are_labels_of(labels: &[OwnedLabel], plan: &Plan<'_>) -> bool
+    ensures { IsTrue result ↔ (values_of labels.now ≡ labels_of (plan_records plan.now)) }
+{
+    if labels.len() != plan.len() as usize {
+        return false;
+    }
+    for i in 0..plan.len() {
+        if !labels[i as usize].is_of(plan.request(i)) {
+            return false;
+        }
+    }
+    true
+}
+
 /// Returns the positions below a number.
 fn positions_below(alloc: Global, count: u32) -> Result<Vec<u32>, AllocError>
     ensures all { IfOk result (λ positions. (i : ℕ) → i < count → Contains positions.items i) }
@@ -143,6 +165,13 @@ impl OwnedLabels {
         let mut by_id = positions_below(alloc, plan.len())?;
         sort_by_id(&labels, &mut by_id)?;
         Ok(OwnedLabels { labels, by_id })
+    }
+
+    /// Returns whether these are the ids and the groups of the requests of a plan.
+    pub(crate) fn are_of(&self, plan: &Plan<'_>) -> bool
+        ensures { IsTrue result ↔ (self.now ≡ labels_of (plan_records plan.now)) }
+    {
+        are_labels_of(&self.labels, plan)
     }
 
     /// Returns the position of the request with this id, or `None` if there is none.

@@ -1,27 +1,37 @@
 -- The calls that are taken are a live run after the events of the document.
-use Rattle.std.proofs.Common.{◌≡◌, ◌∙◌, ℕ, ap, subst, sym, map, ◌++◌, List}
+use Rattle.std.proofs.Common.{◌≡◌, ◌≤◌, ◌∙◌, ℕ, All, Some, ap, refl, subst, sym, map, ◌++◌, List}
+use Rattle.serde_json.specs.Data.{Data, depth}
+use Rattle.serde_json.specs.Read.{read}
+use Rattle.odb_doc.specs.canonical.HeldValues.{IsHeld}
+use Rattle.odb_doc.specs.recorded.Events.{AreEventsOf, EventValue, IsRecordableEvent}
 use Rattle.odb_doc.specs.batch.Records.{Record}
 use Rattle.odb_check.specs.Laws.{HasPositions}
 use Rattle.odb_check.specs.PlanGraph.{IsPlan, IsPlanGraphOf}
 use Rattle.odb_check.specs.Plans.{batch_plan_graph}
 use Rattle.odb_sched.specs.declared.event.Event.{Event}
 use Rattle.odb_sched.specs.declared.policy.Policy.{Policy}
-use Rattle.odb_sched.specs.run.Answers.{answer}
+use Rattle.odb_sched.specs.run.Answers.{HasStatuses, answer}
 use Rattle.odb_sched.specs.run.Laws.{RestsOnSuccesses}
 use Rattle.odb_sched.specs.run.LiveEvents.{LiveEvent, Single, IsLiveRun, IsLiveRunFrom, after_all_live, first_live, live_state}
 use Rattle.odb_sched.specs.run.LiveLaws.{KeepsPromises}
 use Rattle.odb_sched.specs.run.Runs.{IsRunFrom, after_all}
-use Rattle.odb_sched.specs.run.State.{State, first_state, with_requests, without_requests}
+use Rattle.odb_sched.specs.run.State.{State, first_state, phase_at, with_requests, without_requests}
 use Rattle.odb_sched.proofs.LiveLemmas.{plan_graph-after_all_live}
-use Rattle.odb_reply.specs.BodyTexts.{value_with, values_of}
+use Rattle.odb_reply.specs.BodyTexts.{text_at, value_with, values_of}
 use Rattle.odb_reply.specs.Fits.{ListsFit}
 use Rattle.odb_reply.specs.OnePerId.{HasOnePerId}
 use Rattle.odb_reply.specs.Responses.{LabelValue}
-use Rattle.odb_reply.proofs.AnsweredLemmas.{ListsFit-texted}
+use Rattle.odb_reply.proofs.AnsweredLemmas.{IsResponseDocument-answered, ListsFit-texted, texted-statuses}
 use Rattle.odb_reply.proofs.IdLemmas.{one_position}
 use Rattle.odb_reply.proofs.OneLemmas.{one_per_id}
-use Rattle.odb_engine.specs.Live.{IsOpened, Live}
+use Rattle.odb_engine.specs.declared.ending.Ended.TheVariants.{Done}
+use Rattle.odb_engine.specs.declared.form.Form.TheVariants.{Lines}
+use Rattle.odb_engine.specs.Cascade.{Accepts}
+use Rattle.odb_engine.specs.Live.{IsOpened, Live, Opens}
+use Rattle.odb_engine.specs.ReadAgain.{IsReadAgain}
+use Rattle.odb_ffi.specs.Live.{Responds}
 use Rattle.odb_ffi.specs.Sessions.{Call, IsSession, KeepsSession}
+use Rattle.odb_ffi.proofs.ReportedLemmas.{answer-statuses, answered-as, shallow-answer}
 use Rattle.odb_ffi.proofs.SessionLemmas.{driven}
 use Rattle.odb_ffi.proofs.laws.every_session.Goals as goal
 
@@ -34,6 +44,9 @@ record AreLaws (requests : List Record) (policy : Policy) : Type 0 where
   goes_on : (events more : List LiveEvent) → IsLiveRun requests policy events → IsLiveRunFrom (live_state requests policy events) more
       → IsLiveRun requests policy (events ++ more) × (live_state requests policy (events ++ more) ≡ after_all_live (live_state requests policy events) more)
   recorded : (events : List Event) → IsRunFrom (first_state requests policy) events → IsLiveRun requests policy (map Single events) × (live_state requests policy (map Single events) ≡ without_requests (after_all (first_state requests policy) events))
+  held : (text : List ℕ) (value : Data) → read text ≡ Some value → IsHeld value
+  nests : (text : List ℕ) (value : Data) → read text ≡ Some value → depth value ≤ 127
+  recordable : (value : Data) (events : List EventValue) → IsHeld value → depth value ≤ 127 → AreEventsOf value events → All IsRecordableEvent events
 
 keeps : (requests : List Record) (policy : Policy) → AreLaws requests policy → (bytes : List ℕ) (first last : Live) (calls : List Call) → IsOpened policy requests bytes first → IsSession first calls last → KeepsSession policy requests bytes first calls last
 keeps requests policy laws bytes first last calls opened session =
@@ -42,7 +55,8 @@ keeps requests policy laws bytes first last calls opened session =
     let recorded = laws.recorded after.events after.may_come in
     let start : first.run ≡ live_state requests policy before = after.state ∙ sym recorded.1 in
     let graph : first.run.plan_graph ≡ (first_live requests policy).plan_graph = ap (λ (s : State). s.plan_graph) start ∙ plan_graph-after_all_live (first_live requests policy) before in
-    let all = driven requests first calls last (subst IsPlan (sym graph) laws.order) (subst (IsPlanGraphOf requests) (sym graph) laws.graph) session in
+    let first_shaped : IsPlanGraphOf requests first.run.plan_graph = subst (IsPlanGraphOf requests) (sym graph) laws.graph in
+    let all = driven requests first calls last (subst IsPlan (sym graph) laws.order) first_shaped (opened.places ∙ sym first_shaped.size) session in
     let goes = laws.goes_on before all.events recorded.0 (subst (λ (s : State). IsLiveRunFrom s all.events) start all.live) in
     let state : last.run ≡ live_state requests policy (before ++ all.events) = all.run ∙ ap (λ (s : State). after_all_live s all.events) start ∙ sym goes.1 in
     let promises = laws.kept (before ++ all.events) goes.0 in
@@ -50,6 +64,12 @@ keeps requests policy laws bytes first last calls opened session =
     let labels = all.labels ∙ opened.labels in
     let same : last.run.plan_graph ≡ (first_live requests policy).plan_graph = ap (λ (s : State). s.plan_graph) state ∙ plan_graph-after_all_live (first_live requests policy) (before ++ all.events) in
     let shaped : IsPlanGraphOf requests last.run.plan_graph = subst (IsPlanGraphOf requests) (sym same) laws.graph in
+    let statuses = answer-statuses last.run (subst HasStatuses (sym state) promises.statuses) in
+    let answers = answered-as after.events all.events calls first last
+    (λ i outcome is. (promises.reported i outcome).0 (ap (λ (s : State). phase_at s i) (sym state) ∙ is))
+    (λ i outcome has. ap (λ (s : State). phase_at s i) state ∙ (promises.reported i outcome).1 has) opened.texts all.texts in
+    let bytes_read = after.named_in.document.1.1 in
+    let can = laws.recordable after.named_in.value after.named (laws.held bytes after.named_in.value bytes_read) (laws.nests bytes after.named_in.value bytes_read) after.named_in.holds.1 in
     record {
       opened = after;
       events = all.events;
@@ -59,15 +79,25 @@ keeps requests policy laws bytes first last calls opened session =
       one_per_id = subst (λ (l : List LabelValue). HasOnePerId requests (value_with l last.texts (answer last.run))) (sym labels) (one_per_id requests (values_of last.texts (answer last.run)) named);
       fits = subst (λ (l : List LabelValue). ListsFit requests (value_with l last.texts (answer last.run))) (sym labels)
           (ListsFit-texted last.texts (with_requests requests last.run) named (subst RestsOnSuccesses (sym state) promises.rests_on_successes) shaped shaped.size);
+      document = IsResponseDocument-answered last.labels (values_of last.texts (answer last.run)) (texted-statuses last.texts (answer last.run) statuses);
+      labels = labels;
+      answers = λ i outcome within is. answers i outcome is;
+      shallow = λ i within. shallow-answer requests after.named after.events calls i (answer last.run i) (text_at last.texts i) after.resolved can (answers i);
     }
 
+-- what is written of the run is read again as responses that fit
+again : (requests : List Record) (policy : Policy) (bytes text : List ℕ) (first last : Live) (calls : List Call) → KeepsSession policy requests bytes first calls last → Responds last Lines Done text → IsReadAgain requests text
+again requests policy bytes text first last calls keeps responds =
+    record { value = value_with last.labels last.texts (answer last.run); reads = responds.reads_back refl keeps.shallow; document = keeps.document; fits = keeps.fits }
+
 pub returns : goal.returns
-returns c policy batch events first last calls opens session =
+returns c =
+    let lives = c.every_live_run.ensures in
+    let checked = c.every_batch.ensures in
+    let kept = λ (policy : Policy) (batch events : List ℕ) (first last : Live) (calls : List Call) (opens : Opens policy batch events first) (session : IsSession first calls last).
     let accepted = opens.holds in
     let requests = accepted.batch in
     let good = accepted.holds.0 in
-    let lives = c.every_live_run.ensures in
-    let checked = c.every_batch.ensures in
     let order = checked.order opens.value requests accepted.shaped accepted.is_batch good in
     let laws : AreLaws requests policy = record {
       positions = checked.positions requests good;
@@ -76,9 +106,29 @@ returns c policy batch events first last calls opens session =
       kept = λ taken. lives.kept requests policy taken order (checked.names requests good);
       goes_on = lives.goes_on requests policy;
       recorded = lives.recorded requests policy;
+      held = c.every_value.ensures.held;
+      nests = c.every_value.ensures.nests;
+      recordable = c.one_history.ensures.recordable;
     } in
-    record {
+    let keeps : Accepts batch (λ (rs : List Record). KeepsSession policy rs events first calls last) = record {
       value = opens.value;
       document = opens.document;
       holds = record { batch = requests; shaped = accepted.shaped; is_batch = accepted.is_batch; holds = (good, keeps requests policy laws events first last calls accepted.holds.1 session) };
+    } in
+    keeps in
+    record {
+      kept = kept;
+      matched = λ policy mode batch events text first last calls opens session responds short.
+          let keeps = kept policy batch events first last calls opens session in
+          let accepted : Accepts batch (λ (rs : List Record). IsReadAgain rs text) = record {
+            value = keeps.value;
+            document = keeps.document;
+            holds = record {
+              batch = keeps.holds.batch;
+              shaped = keeps.holds.shaped;
+              is_batch = keeps.holds.is_batch;
+              holds = (keeps.holds.holds.0, again keeps.holds.batch policy events text first last calls keeps.holds.holds.1 responds);
+            };
+          } in
+          c.every_match.ensures.fits mode batch text accepted (record { short = short; utf8 = responds.utf8 refl });
     }
