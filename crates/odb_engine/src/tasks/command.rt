@@ -207,8 +207,6 @@ pub fn text_of<R: Document, S: Source, C: Command>(
 ///
 /// The sources must be new, and the output must not have failed. The text is held in memory and written whole.
 ///
-/// Example: `called_plainly` in crates/odb_tests_tasks/src/engines.rt.
-///
 /// # Errors
 ///
 /// - `Read` if and only if a read of one of the sources failed; nothing was written.
