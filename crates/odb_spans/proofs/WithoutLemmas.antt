@@ -140,10 +140,10 @@ module _ (list name text : List ℕ) (d : Data) (at : ℕ) (span : Span) (R : js
   pub is-place : IsPlaceOfMember list name text d at span
   is-place = record {
     changed = object null-members.0;
-     reads = (is-utf8 text d span found after part next utf8 null_literal, read-tokens (without text span) (filled json.null) (literal-tree text d span found after part next utf8 (λ i. filled i) around top in-document null_literal) shallow ∙ ap (option_map object) null-members.1);
-     members = values-after ∙ null-values ∙ sym (ap₂ (λ l n. set l n None) values-before (sym lies.holds.count));
-     first = solid-byte (get_or text span.start 0) (begins-solid text d span found after part next utf8);
-     last = ends-solid text span.start span.end (begins-solid text d span found after part next utf8) part.extent part.some (ends-within text d span found after part next utf8);
+    reads = (is-utf8 text d span found after part next utf8 null_literal, read-tokens (without text span) (filled json.null) (literal-tree text d span found after part next utf8 (λ i. filled i) around top in-document null_literal) shallow ∙ ap (option_map object) null-members.1);
+    members = values-after ∙ null-values ∙ sym (ap₂ (λ l n. set l n None) values-before (sym lies.holds.count));
+    first = solid-byte (get_or text span.start 0) (begins-solid text d span found after part next utf8);
+    last = ends-solid text span.start span.end (begins-solid text d span found after part next utf8) part.extent part.some (ends-within text d span found after part next utf8);
   }
 
 -- each span is where such a member lies
