@@ -88,6 +88,14 @@ def changes_are_kept():
     keep_answers(lambda request: request.method in ("PATCH", "PUT"))
 
 
+def properties_are_kept():
+    """A property that is read again in a batch is answered as before."""
+    from variants import properties
+
+    properties()
+    keep_answers(lambda request: ")/" in request.url)
+
+
 def keep_answers(is_kept):
     """Has some requests of a batch answered as the same request before."""
     answer = Execution.answer
