@@ -61,7 +61,6 @@ COMPARISONS = [
     ("options in docs and in cases", ["tools/options.py"]),
     ("examples of calls", ["tools/call_examples.py"]),
     ("docs/faults.md", ["tools/faults.py"]),
-    ("explanations of faults", ["tools/explanations.py"]),
 ]
 
 # What is run side by side over all of that: a title, what follows `python3`, and when what it prints is shown.

@@ -12,6 +12,6 @@ func Check(batch []byte, seed uint64) (uint32, []byte) {
 	var length C.size_t
 	text := make([]byte, 128)
 	from, to := (*C.uint8_t)(unsafe.SliceData(batch)), (*C.uint8_t)(unsafe.SliceData(text))
-	status := C.odb_check(from, C.size_t(len(batch)), to, C.size_t(len(text)), &length, C.uint64_t(seed))
+	status := C.odb_check_as(from, C.size_t(len(batch)), C.ODB_LINES, to, C.size_t(len(text)), &length, C.uint64_t(seed))
 	return uint32(status), text[:length]
 }

@@ -99,7 +99,7 @@ enum {
 
 /* `form`: how a text is written. A canonical text, a response and a trace are the same in both. */
 enum {
-    ODB_LINES = 0, /* lines of words, as the calls without a form write */
+    ODB_LINES = 0, /* lines of words */
     ODB_JSON = 1   /* one line of JSON, as `--json` of the command writes */
 };
 
@@ -110,71 +110,46 @@ enum {
  * `odb_version() / 100 == ODB_VERSION / 100`. */
 uint32_t odb_version(void);
 
-/* Checks a batch. The result is the line `ok N requests M groups`.
- * Returns ODB_DONE, ODB_REFUSED, ODB_OUT_OF_MEMORY or ODB_SMALL_BUFFER. */
-uint32_t odb_check(const uint8_t *batch, size_t batch_size,
-                   uint8_t *text, size_t text_size, size_t *text_length, uint64_t seed);
-
-/* Checks a batch as `odb_check` does. If it is refused, the text has a line for each fault of the first phase that has any:
- * the document, the form of its requests, ids and groups, names and references. Returns what `odb_check` does. */
-uint32_t odb_check_all(const uint8_t *batch, size_t batch_size,
-                       uint8_t *text, size_t text_size, size_t *text_length, uint64_t seed);
-
-/* Plans a batch. The result has a line per request: position, id, level, group and dependencies.
- * Returns what `odb_check` does. */
-uint32_t odb_plan(const uint8_t *batch, size_t batch_size,
-                  uint8_t *text, size_t text_size, size_t *text_length, uint64_t seed);
-
-/* Makes the canonical text of a batch, which is one text for all documents of the same batch. The result
- * is this text and a newline. Returns what `odb_check` does. */
-uint32_t odb_canon(const uint8_t *batch, size_t batch_size,
-                   uint8_t *text, size_t text_size, size_t *text_length, uint64_t seed);
-
-/* Matches the response document of a service against a batch. The result is the line `ok N responses`,
- * and a line per request with its id and status. Returns what `odb_check` does. */
-uint32_t odb_match(const uint8_t *batch, size_t batch_size,
-                   const uint8_t *responses, size_t responses_size,
-                   uint8_t *text, size_t text_size, size_t *text_length, uint64_t seed);
-
-/* Runs a batch by recorded events. The result is the response of the finished run and a newline.
- * `mode` is ODB_CONTINUE or ODB_STOP, and `width` is from 1 to ODB_MAX_WIDTH: else returns
- * ODB_WRONG_OPTION. Otherwise returns what `odb_check` does. */
-uint32_t odb_run(const uint8_t *batch, size_t batch_size,
-                 const uint8_t *events, size_t events_size,
-                 uint32_t mode, uint32_t width,
-                 uint8_t *text, size_t text_size, size_t *text_length, uint64_t seed);
-
-/* Replays a batch by recorded outcomes. The result is the response and a newline, after the lines of
- * the trace if `trace` is 1. `order` is ODB_FIRST, ODB_LAST or ODB_WIDE, and `trace` is 0 or 1: else
- * returns ODB_WRONG_OPTION. `mode`, `width` and the other statuses are those of `odb_run`. */
-uint32_t odb_replay(const uint8_t *batch, size_t batch_size,
-                    const uint8_t *outcomes, size_t outcomes_size,
-                    uint32_t mode, uint32_t width, uint32_t order, uint32_t trace,
-                    uint8_t *text, size_t text_size, size_t *text_length, uint64_t seed);
-
-/* The same calls with the text in a form, ODB_LINES or ODB_JSON: else they return ODB_WRONG_OPTION. Otherwise each
- * returns what the call without a form does. */
+/* Checks a batch. The result is the line `ok N requests M groups`, and `form` is ODB_LINES or ODB_JSON: else returns
+ * ODB_WRONG_OPTION. Otherwise returns ODB_DONE, ODB_REFUSED, ODB_OUT_OF_MEMORY or ODB_SMALL_BUFFER. So does each command; the end
+ * of this header has the same calls without a form, as `odb_check`, by which the text is lines. */
 uint32_t odb_check_as(const uint8_t *batch, size_t batch_size, uint32_t form,
                       uint8_t *text, size_t text_size, size_t *text_length, uint64_t seed);
+
+/* Checks a batch as `odb_check_as` does. If it is refused, the text has a line for each fault of the first phase that has any:
+ * the document, the form of its requests, ids and groups, names and references. Returns what `odb_check_as` does. */
 uint32_t odb_check_all_as(const uint8_t *batch, size_t batch_size, uint32_t form,
                           uint8_t *text, size_t text_size, size_t *text_length, uint64_t seed);
+
+/* Plans a batch. The result has a line per request: position, id, level, group and dependencies.
+ * Returns what `odb_check_as` does. */
 uint32_t odb_plan_as(const uint8_t *batch, size_t batch_size, uint32_t form,
                      uint8_t *text, size_t text_size, size_t *text_length, uint64_t seed);
+
+/* Makes the canonical text of a batch, which is one text for all documents of the same batch. The result
+ * is this text and a newline, in each form. Returns what `odb_check_as` does. */
 uint32_t odb_canon_as(const uint8_t *batch, size_t batch_size, uint32_t form,
                       uint8_t *text, size_t text_size, size_t *text_length, uint64_t seed);
-uint32_t odb_match_as(const uint8_t *batch, size_t batch_size, const uint8_t *responses, size_t responses_size,
-                      uint32_t form, uint8_t *text, size_t text_size, size_t *text_length, uint64_t seed);
+
+/* Runs a batch by recorded events. The result is the response of the finished run and a newline, in each form.
+ * `mode` is ODB_CONTINUE or ODB_STOP, and `width` is from 1 to ODB_MAX_WIDTH: else returns
+ * ODB_WRONG_OPTION. Otherwise returns what `odb_check_as` does. */
 uint32_t odb_run_as(const uint8_t *batch, size_t batch_size, const uint8_t *events, size_t events_size,
                     uint32_t mode, uint32_t width, uint32_t form,
                     uint8_t *text, size_t text_size, size_t *text_length, uint64_t seed);
+
+/* Replays a batch by recorded outcomes. The result is the response and a newline, after the lines of
+ * the trace if `trace` is 1, in each form. `order` is ODB_FIRST, ODB_LAST or ODB_WIDE, and `trace` is 0 or 1: else
+ * returns ODB_WRONG_OPTION. `mode`, `width` and the other statuses are those of `odb_run_as`. */
 uint32_t odb_replay_as(const uint8_t *batch, size_t batch_size, const uint8_t *outcomes, size_t outcomes_size,
                        uint32_t mode, uint32_t width, uint32_t order, uint32_t trace, uint32_t form,
                        uint8_t *text, size_t text_size, size_t *text_length, uint64_t seed);
 
-/* Matches as `odb_match_as` does, by the mode of the service. In the mode ODB_STOP, if a response has a status from 400 to
+/* Matches the response document of a service against a batch. The result is the line `ok N responses`, and a line per request
+ * with its id and status. In the mode ODB_STOP, if a response has a status from 400 to
  * 599, each request without a response is read as answered 424; in ODB_CONTINUE each has to have one. If `strict` is 1,
  * some finished run has to answer these statuses (F76 to F78). `mode` is one of these two, `strict` is 0 or 1, and `form` is
- * ODB_LINES or ODB_JSON: else returns ODB_WRONG_OPTION. Otherwise returns what `odb_check` does. */
+ * ODB_LINES or ODB_JSON: else returns ODB_WRONG_OPTION. Otherwise returns what `odb_check_as` does. */
 uint32_t odb_match_with(const uint8_t *batch, size_t batch_size, const uint8_t *responses, size_t responses_size,
                         uint32_t mode, uint32_t strict, uint32_t form,
                         uint8_t *text, size_t text_size, size_t *text_length, uint64_t seed);
@@ -189,6 +164,13 @@ uint32_t odb_match_with(const uint8_t *batch, size_t batch_size, const uint8_t *
 uint32_t odb_rest(const uint8_t *batch, size_t batch_size, const uint8_t *responses, size_t responses_size,
                   uint32_t mode, uint32_t form,
                   uint8_t *text, size_t text_size, size_t *text_length, uint64_t seed);
+
+/* Writes what a code means: that of a fault, as F41, or of a cause by which a start or a report is refused, as S4 or P1. The text is
+ * what `odb_batch explain` prints, without the newline at its end: a line with the code, the name and the places; what it means and
+ * how it is repaired; and two lines with a document that is refused by it and one that is not, after `refused: ` and `accepted: `.
+ * Returns ODB_DONE, ODB_SMALL_BUFFER, or ODB_WRONG_OPTION if there is no such code. Allocates nothing. */
+uint32_t odb_explain(const uint8_t *code, size_t code_size,
+                     uint8_t *text, size_t text_size, size_t *text_length);
 
 /* Where an element begins in a document. */
 typedef struct odb_position {
@@ -224,7 +206,7 @@ typedef struct odb_fault {
     odb_position position;
 } odb_fault;
 
-/* Gives all faults of a batch, those of `odb_check_all` in its order. The text has a line for each, as `fault F41 ForwardName
+/* Gives all faults of a batch, those of `odb_check_all_as` in its order. The text has a line for each, as `fault F41 ForwardName
  * /requests/3`, and `faults` is a buffer of `faults_size` structs; it may be NULL, which is one of size 0. A position is the
  * one that `odb_where` finds. `*count` is set to the number of faults; it must not be NULL. Returns ODB_DONE, with no text, if
  * there are none, and else ODB_REFUSED; or, with both buffers as they were, ODB_SMALL_BUFFER if one of them has too little
@@ -250,11 +232,31 @@ typedef struct odb_request {
  * which lie in the document. `requests` is a buffer of `requests_size` structs; it may be NULL, which is one of size 0.
  * `*count` is set to the number of requests; it must not be NULL. Returns ODB_DONE; or, with both buffers as they were,
  * ODB_SMALL_BUFFER if one of them has too little room: `*text_length` and `*count` say how much is needed. If the batch is
- * refused or an allocation fails, `*count` is 0, `requests` is as it was, and it returns what `odb_check` does: the text is
+ * refused or an allocation fails, `*count` is 0, `requests` is as it was, and it returns what `odb_check_as` does: the text is
  * the line of the fault. Takes O(n log n) time for n bytes of the document, and copies no body. */
 uint32_t odb_requests(const uint8_t *batch, size_t batch_size,
                       uint8_t *text, size_t text_size, size_t *text_length,
                       odb_request *requests, size_t requests_size, size_t *count, uint64_t seed);
+
+/* What a service has answered a request: where id and group lie in a text, and headers and body in the document. */
+typedef struct odb_response {
+    odb_part id;
+    odb_part group;   /* the atomicity group; ODB_NONE if it has none */
+    odb_part headers; /* in the document, the bytes of their JSON value; ODB_NONE if there are none, or null */
+    odb_part body;    /* in the document, the bytes as they were written; ODB_NONE if it has none, or null */
+    size_t status;    /* from 100 to 599 */
+} odb_response;
+
+/* Gives each response in the document of a service, in its order (OData JSON Format 4.01, section 19.5). They need not fit any
+ * batch; `odb_match_with` says whether they do. The text has ids and groups, and `responses` is a buffer of `responses_size`
+ * structs; it may be NULL, which is one of size 0. `*count` is set to the number of responses; it must not be NULL. Returns
+ * ODB_DONE; or, with both buffers as they were, ODB_SMALL_BUFFER if one of them has too little room: `*text_length` and `*count`
+ * say how much is needed. If the document is refused or an allocation fails, `*count` is 0, `responses` is as it was, and it
+ * returns ODB_REFUSED, with the line of the fault as text, ODB_SMALL_BUFFER or ODB_OUT_OF_MEMORY. Takes O(n log n) time for n
+ * bytes of the document, and copies neither headers nor bodies. */
+uint32_t odb_responses(const uint8_t *document, size_t document_size,
+                       uint8_t *text, size_t text_size, size_t *text_length,
+                       odb_response *responses, size_t responses_size, size_t *count);
 
 /* Says where a request of a batch is sent, if at all. `base` is the absolute URL of the folder of `$batch`, as
  * http://host/odata/, to which `url` is joined (RFC 3986, section 5.2). `roots` has the roots of the service, one a line: absolute
@@ -291,13 +293,23 @@ typedef struct odb_live_run {
  * Returns ODB_DONE, and `*run` is a handle, with no text; what was there before is forgotten. Otherwise `*run` is as
  * it was: returns ODB_REFUSED if a document is refused, or if an event names no request or may not come, and the text
  * is the line of the fault; ODB_SMALL_BUFFER if the line does not fit; ODB_WRONG_OPTION unless `mode` and `width` are
- * as in `odb_run`; or ODB_OUT_OF_MEMORY. Takes O(n log n) time for n bytes of documents.
+ * as in `odb_run_as`; or ODB_OUT_OF_MEMORY. Takes O(n log n) time for n bytes of documents.
  * A document of events has at most 16,777,216 bytes, and only whole numbers. To continue a run whose reports do not fit
  * into one, open it without events and make the recorded calls again, one by one in their order: the run is the same. */
 uint32_t odb_run_open(const uint8_t *batch, size_t batch_size,
                       const uint8_t *events, size_t events_size,
                       uint32_t mode, uint32_t width, odb_live_run *run,
                       uint8_t *text, size_t text_size, size_t *text_length, uint64_t seed);
+
+/* Opens a run as `odb_run_open` does, and gives what is to be sent of its requests as `odb_requests` does; the batch is read once.
+ * Returns ODB_DONE, with the handle and both buffers filled; or ODB_SMALL_BUFFER if one of the buffers has too little room, and both
+ * are as they were: `*text_length` and `*count` say how much is needed. Else `*count` is 0, `requests` is as it was, and it returns
+ * what `odb_run_open` does. Unless it returns ODB_DONE, no run is opened, and `*run` is as it was. */
+uint32_t odb_run_open_requests(const uint8_t *batch, size_t batch_size,
+                               const uint8_t *events, size_t events_size,
+                               uint32_t mode, uint32_t width, odb_live_run *run,
+                               uint8_t *text, size_t text_size, size_t *text_length,
+                               odb_request *requests, size_t requests_size, size_t *count, uint64_t seed);
 
 /* Copies the positions of the requests that may start now to a buffer of `positions_size` numbers, each once,
  * in no particular order. `*count` is set to the number of them. Returns ODB_DONE, or ODB_SMALL_BUFFER if they do
@@ -367,7 +379,7 @@ enum {
 uint32_t odb_run_state(odb_live_run *run, uint32_t position, uint32_t *state, uint32_t *status);
 
 /* Takes the outcome of a running request: an HTTP status, headers and a body. The headers are a JSON object of strings
- * whose names differ in lower case. The body is JSON that nests at most 124 deep, so that `odb_match` can read the
+ * whose names differ in lower case. The body is JSON that nests at most 124 deep, so that `odb_match_with` can read the
  * response, which repeats the bytes of the body, whatever numbers it has. Headers and body may each be empty, NULL or
  * the JSON null, for none. Each has at most 16,777,216 bytes. All reports of a run together may have more, and other
  * numbers, than a document of events can hold: `odb_run_open` says how such a run continues after a failure.
@@ -390,14 +402,14 @@ enum {
 };
 
 /* Sets `*step` to the step that a run takes next in an order, from ODB_STEP_NONE to ODB_STEP_REPORT, and `*position` to that
- * of its request: it is the step that `odb_replay` takes in the same order. Without a step `*position` is as it was. Returns
- * ODB_DONE; or ODB_WRONG_OPTION unless `order` is as in `odb_replay`, and both are as they were. `step` must not be NULL, and
+ * of its request: it is the step that `odb_replay_as` takes in the same order. Without a step `*position` is as it was. Returns
+ * ODB_DONE; or ODB_WRONG_OPTION unless `order` is as in `odb_replay_as`, and both are as they were. `step` must not be NULL, and
  * `step` and `position` must not overlap. A handle as above, whose run stays as it is: start the request by `odb_run_start`,
  * or report it by `odb_run_report`. Takes O(requests that may start or run) time, and allocates nothing. */
 uint32_t odb_run_next(odb_live_run *run, uint32_t order, uint32_t *step, uint32_t *position);
 
-/* Writes what `odb_run` writes of the batch and the events so far, but with each reported body as it is: the response
- * and a newline, or the line of F66 if the run is not finished. Returns what `odb_check` does. A handle as above, whose
+/* Writes what `odb_run_as` writes of the batch and the events so far, but with each reported body as it is: the response
+ * and a newline, or the line of F66 if the run is not finished. Returns what `odb_check_as` does. A handle as above, whose
  * run stays as it is. Takes O(n) time for a text of n bytes: nothing is read again. */
 uint32_t odb_run_response(odb_live_run *run, uint8_t *text, size_t text_size, size_t *text_length);
 
@@ -425,54 +437,6 @@ static inline uint64_t odb_seed(void)
 #define ODB_INLINE_TEXT uint8_t *text, size_t text_size, size_t *text_length
 #define ODB_INLINE_SLICE(at) at ? at : &none, at ? at##_size : 0
 
-static inline uint32_t odb_inline_check(ODB_INLINE_IN(batch), ODB_INLINE_TEXT, uint64_t seed)
-{
-    uint8_t none = 0;
-    return odb_check(ODB_INLINE_SLICE(batch), ODB_INLINE_SLICE(text), text_length, seed);
-}
-
-static inline uint32_t odb_inline_check_all(ODB_INLINE_IN(batch), ODB_INLINE_TEXT, uint64_t seed)
-{
-    uint8_t none = 0;
-    return odb_check_all(ODB_INLINE_SLICE(batch), ODB_INLINE_SLICE(text), text_length, seed);
-}
-
-static inline uint32_t odb_inline_plan(ODB_INLINE_IN(batch), ODB_INLINE_TEXT, uint64_t seed)
-{
-    uint8_t none = 0;
-    return odb_plan(ODB_INLINE_SLICE(batch), ODB_INLINE_SLICE(text), text_length, seed);
-}
-
-static inline uint32_t odb_inline_canon(ODB_INLINE_IN(batch), ODB_INLINE_TEXT, uint64_t seed)
-{
-    uint8_t none = 0;
-    return odb_canon(ODB_INLINE_SLICE(batch), ODB_INLINE_SLICE(text), text_length, seed);
-}
-
-static inline uint32_t odb_inline_match(ODB_INLINE_IN(batch), ODB_INLINE_IN(responses), ODB_INLINE_TEXT,
-                                        uint64_t seed)
-{
-    uint8_t none = 0;
-    return odb_match(ODB_INLINE_SLICE(batch), ODB_INLINE_SLICE(responses), ODB_INLINE_SLICE(text), text_length, seed);
-}
-
-static inline uint32_t odb_inline_run(ODB_INLINE_IN(batch), ODB_INLINE_IN(events), uint32_t mode, uint32_t width,
-                                      ODB_INLINE_TEXT, uint64_t seed)
-{
-    uint8_t none = 0;
-    return odb_run(ODB_INLINE_SLICE(batch), ODB_INLINE_SLICE(events), mode, width, ODB_INLINE_SLICE(text),
-                   text_length, seed);
-}
-
-static inline uint32_t odb_inline_replay(ODB_INLINE_IN(batch), ODB_INLINE_IN(outcomes), uint32_t mode,
-                                         uint32_t width, uint32_t order, uint32_t trace, ODB_INLINE_TEXT,
-                                         uint64_t seed)
-{
-    uint8_t none = 0;
-    return odb_replay(ODB_INLINE_SLICE(batch), ODB_INLINE_SLICE(outcomes), mode, width, order, trace,
-                      ODB_INLINE_SLICE(text), text_length, seed);
-}
-
 static inline uint32_t odb_inline_check_as(ODB_INLINE_IN(batch), uint32_t form, ODB_INLINE_TEXT, uint64_t seed)
 {
     uint8_t none = 0;
@@ -495,14 +459,6 @@ static inline uint32_t odb_inline_canon_as(ODB_INLINE_IN(batch), uint32_t form, 
 {
     uint8_t none = 0;
     return odb_canon_as(ODB_INLINE_SLICE(batch), form, ODB_INLINE_SLICE(text), text_length, seed);
-}
-
-static inline uint32_t odb_inline_match_as(ODB_INLINE_IN(batch), ODB_INLINE_IN(responses), uint32_t form,
-                                           ODB_INLINE_TEXT, uint64_t seed)
-{
-    uint8_t none = 0;
-    return odb_match_as(ODB_INLINE_SLICE(batch), ODB_INLINE_SLICE(responses), form, ODB_INLINE_SLICE(text),
-                        text_length, seed);
 }
 
 static inline uint32_t odb_inline_match_with(ODB_INLINE_IN(batch), ODB_INLINE_IN(responses), uint32_t mode,
@@ -562,6 +518,21 @@ static inline uint32_t odb_inline_requests(ODB_INLINE_IN(batch), ODB_INLINE_TEXT
                         requests ? requests : &no_request, requests ? requests_size : 0, count, seed);
 }
 
+static inline uint32_t odb_inline_responses(ODB_INLINE_IN(document), ODB_INLINE_TEXT, odb_response *responses,
+                                            size_t responses_size, size_t *count)
+{
+    uint8_t none = 0;
+    odb_response no_response = {{0, 0}, {0, 0}, {0, 0}, {0, 0}, 0};
+    return odb_responses(ODB_INLINE_SLICE(document), ODB_INLINE_SLICE(text), text_length,
+                         responses ? responses : &no_response, responses ? responses_size : 0, count);
+}
+
+static inline uint32_t odb_inline_explain(ODB_INLINE_IN(code), ODB_INLINE_TEXT)
+{
+    uint8_t none = 0;
+    return odb_explain(ODB_INLINE_SLICE(code), ODB_INLINE_SLICE(text), text_length);
+}
+
 static inline uint32_t odb_inline_resolve(ODB_INLINE_IN(base), ODB_INLINE_IN(roots), ODB_INLINE_IN(url),
                                           ODB_INLINE_IN(sent), ODB_INLINE_IN(location), uint32_t post, ODB_INLINE_TEXT)
 {
@@ -576,6 +547,18 @@ static inline uint32_t odb_inline_run_open(ODB_INLINE_IN(batch), ODB_INLINE_IN(e
     uint8_t none = 0;
     return odb_run_open(ODB_INLINE_SLICE(batch), ODB_INLINE_SLICE(events), mode, width, run, ODB_INLINE_SLICE(text),
                         text_length, seed);
+}
+
+static inline uint32_t odb_inline_run_open_requests(ODB_INLINE_IN(batch), ODB_INLINE_IN(events), uint32_t mode,
+                                                    uint32_t width, odb_live_run *run, ODB_INLINE_TEXT,
+                                                    odb_request *requests, size_t requests_size, size_t *count,
+                                                    uint64_t seed)
+{
+    uint8_t none = 0;
+    odb_request no_request = {{0, 0}, {0, 0}, {0, 0}, {0, 0}, {0, 0}, {0, 0}, {0, 0}, 0};
+    return odb_run_open_requests(ODB_INLINE_SLICE(batch), ODB_INLINE_SLICE(events), mode, width, run,
+                                 ODB_INLINE_SLICE(text), text_length, requests ? requests : &no_request,
+                                 requests ? requests_size : 0, count, seed);
 }
 
 static inline uint32_t odb_inline_run_ready(odb_live_run *run, uint32_t *positions, size_t positions_size,
@@ -631,27 +614,22 @@ static inline uint32_t odb_inline_run_response(odb_live_run *run, ODB_INLINE_TEX
     return odb_run_response(run, ODB_INLINE_SLICE(text), text_length);
 }
 
-#define odb_check odb_inline_check
-#define odb_check_all odb_inline_check_all
-#define odb_plan odb_inline_plan
-#define odb_canon odb_inline_canon
-#define odb_match odb_inline_match
-#define odb_run odb_inline_run
-#define odb_replay odb_inline_replay
 #define odb_check_as odb_inline_check_as
 #define odb_check_all_as odb_inline_check_all_as
 #define odb_plan_as odb_inline_plan_as
 #define odb_canon_as odb_inline_canon_as
-#define odb_match_as odb_inline_match_as
 #define odb_match_with odb_inline_match_with
 #define odb_rest odb_inline_rest
 #define odb_run_as odb_inline_run_as
 #define odb_replay_as odb_inline_replay_as
 #define odb_where odb_inline_where
 #define odb_faults odb_inline_faults
+#define odb_explain odb_inline_explain
 #define odb_requests odb_inline_requests
+#define odb_responses odb_inline_responses
 #define odb_resolve odb_inline_resolve
 #define odb_run_open odb_inline_run_open
+#define odb_run_open_requests odb_inline_run_open_requests
 #define odb_run_ready odb_inline_run_ready
 #define odb_run_running odb_inline_run_running
 #define odb_run_undone odb_inline_run_undone
@@ -660,6 +638,53 @@ static inline uint32_t odb_inline_run_response(odb_live_run *run, ODB_INLINE_TEX
 #define odb_run_ids odb_inline_run_ids
 #define odb_run_report odb_inline_run_report
 #define odb_run_response odb_inline_run_response
+
+/* The commands without a form, whose text is lines. They are no functions of the library any more, and stay for this version. */
+
+static inline uint32_t odb_check(ODB_INLINE_IN(batch), ODB_INLINE_TEXT, uint64_t seed)
+{
+    return odb_check_as(batch, batch_size, ODB_LINES, text, text_size, text_length, seed);
+}
+
+static inline uint32_t odb_check_all(ODB_INLINE_IN(batch), ODB_INLINE_TEXT, uint64_t seed)
+{
+    return odb_check_all_as(batch, batch_size, ODB_LINES, text, text_size, text_length, seed);
+}
+
+static inline uint32_t odb_plan(ODB_INLINE_IN(batch), ODB_INLINE_TEXT, uint64_t seed)
+{
+    return odb_plan_as(batch, batch_size, ODB_LINES, text, text_size, text_length, seed);
+}
+
+static inline uint32_t odb_canon(ODB_INLINE_IN(batch), ODB_INLINE_TEXT, uint64_t seed)
+{
+    return odb_canon_as(batch, batch_size, ODB_LINES, text, text_size, text_length, seed);
+}
+
+static inline uint32_t odb_match_as(ODB_INLINE_IN(batch), ODB_INLINE_IN(responses), uint32_t form, ODB_INLINE_TEXT,
+                                    uint64_t seed)
+{
+    return odb_match_with(batch, batch_size, responses, responses_size, ODB_CONTINUE, 0, form, text, text_size, text_length,
+                          seed);
+}
+
+static inline uint32_t odb_match(ODB_INLINE_IN(batch), ODB_INLINE_IN(responses), ODB_INLINE_TEXT, uint64_t seed)
+{
+    return odb_match_as(batch, batch_size, responses, responses_size, ODB_LINES, text, text_size, text_length, seed);
+}
+
+static inline uint32_t odb_run(ODB_INLINE_IN(batch), ODB_INLINE_IN(events), uint32_t mode, uint32_t width, ODB_INLINE_TEXT,
+                               uint64_t seed)
+{
+    return odb_run_as(batch, batch_size, events, events_size, mode, width, ODB_LINES, text, text_size, text_length, seed);
+}
+
+static inline uint32_t odb_replay(ODB_INLINE_IN(batch), ODB_INLINE_IN(outcomes), uint32_t mode, uint32_t width, uint32_t order,
+                                  uint32_t trace, ODB_INLINE_TEXT, uint64_t seed)
+{
+    return odb_replay_as(batch, batch_size, outcomes, outcomes_size, mode, width, order, trace, ODB_LINES, text, text_size,
+                         text_length, seed);
+}
 
 #ifdef __cplusplus
 }

@@ -43,10 +43,17 @@ typedef uint32_t writer(void *given, struct bytes buffer, size_t *length);
  * pair of status and text, or NULL with an exception. */
 napi_value written(napi_env env, writer *write, void *given, size_t size);
 
+/* A call that writes a text, and a list of structs to a buffer of `room` structs; returns its status. */
+typedef uint32_t lister(void *given, struct bytes text, size_t *length, void *items, size_t room, size_t *count);
+
+/* Has a call list what a document of `size` bytes has, in structs of so many numbers. Returns the status, the text and the
+ * numbers, or NULL with an exception. */
+napi_value listed(napi_env env, lister *list, void *given, size_t size, size_t numbers);
+
 /* Throws the exception for arguments of the wrong kind, and returns NULL. */
 napi_value wrong_arguments(napi_env env);
 
-/* Adds the calls for what a batch has to the exports. */
+/* Adds the calls for what a document has to the exports. */
 napi_status export_lists(napi_env env, napi_value exports);
 
 /* Adds the call for where a request is sent to the exports. */

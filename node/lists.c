@@ -1,43 +1,27 @@
-/* What a batch has, for Node: what is to be sent of each request, and all faults with where they are.
+/* What a document has, for Node: what is to be sent of each request of a batch, all its faults with where they are, and the
+ * responses of a service.
  *
- *   requests(batch) -> [status, text, numbers]
- *   faults(batch) -> [status, text, numbers]
+ *   requests(batch), faults(batch), responses(document) -> [status, text, numbers]
  *
- * `batch` is a Uint8Array. `numbers` is a Float64Array with those of an odb_request for each request, or of an odb_fault for
- * each fault, in their order, and -1 for ODB_NONE. requests.js and commands.js make values of it. */
+ * A document is a Uint8Array. `numbers` is a Float64Array with those of an odb_request, an odb_fault or an odb_response for
+ * each, in their order, and -1 for ODB_NONE. requests.js, commands.js and responses.js make values of it. */
 
 #include <stdlib.h>
 
 #include "addon.h"
 
 #define MORE 256       /* how much longer than its document a text is thought to be */
-#define SHORTEST 32    /* how short a request may be in a document, */
+#define SHORTEST 32    /* how short a request or a response may be in a document, */
 #define MOST 10000     /* and how many a batch may have */
 
-struct asked;
-
-/* Calls the library with a buffer for the text and one for the list. */
-typedef uint32_t lister(struct asked *it, struct bytes text, size_t *length);
-
-/* What a function is passed, and the list that it finds: of structs of so many sizes and positions each. */
+/* What a call lists, and what it finds: structs of so many sizes and positions each. */
 struct asked {
-    struct bytes batch;
-    uint64_t seed;
     lister *list;
+    void *given;
     size_t numbers;
     void *items;
     size_t room, count;
 };
-
-static uint32_t list_requests(struct asked *it, struct bytes text, size_t *length)
-{
-    return odb_requests(it->batch.at, it->batch.size, text.at, text.size, length, it->items, it->room, &it->count, it->seed);
-}
-
-static uint32_t list_faults(struct asked *it, struct bytes text, size_t *length)
-{
-    return odb_faults(it->batch.at, it->batch.size, text.at, text.size, length, it->items, it->room, &it->count, it->seed);
-}
 
 /* Has room for so many structs. */
 static int make_room(struct asked *it, size_t room)
@@ -54,7 +38,7 @@ static int make_room(struct asked *it, size_t room)
 static uint32_t give(void *given, struct bytes text, size_t *length)
 {
     struct asked *it = given;
-    uint32_t status = it->list(it, text, length);
+    uint32_t status = it->list(it->given, text, length, it->items, it->room, &it->count);
     if (status != ODB_SMALL_BUFFER || it->count <= it->room || make_room(it, it->count))
         return status;
     *length = 0;
@@ -77,45 +61,79 @@ static napi_value numbers_of(napi_env env, const struct asked *it)
     return array;
 }
 
-/* Makes a list of a batch, of structs of so many numbers. */
-static napi_value listed(napi_env env, napi_callback_info info, lister *list, size_t numbers)
+napi_value listed(napi_env env, lister *list, void *given, size_t size, size_t numbers)
 {
-    struct asked given = {{NULL, 0}, instance_of(env)->seed, list, numbers, NULL, 0, 0};
-    napi_value it[1], found = NULL, all;
-    if (!read_arguments(env, info, it, 1) || !read_bytes(env, it[0], &given.batch))
-        return wrong_arguments(env);
-    size_t few = given.batch.size / SHORTEST + 1;
-    if (!make_room(&given, few < MOST ? few : MOST)) {
+    struct asked it = {list, given, numbers, NULL, 0, 0};
+    size_t few = size / SHORTEST + 1;
+    if (!make_room(&it, few < MOST ? few : MOST)) {
         napi_throw_error(env, "ERR_ODB_OUT_OF_MEMORY", "out of memory");
         return NULL;
     }
-    found = written(env, give, &given, given.batch.size + MORE);
+    napi_value found = written(env, give, &it, size + MORE);
     if (found != NULL) {
-        all = numbers_of(env, &given);
+        napi_value all = numbers_of(env, &it);
         if (all == NULL || napi_set_element(env, found, 2, all) != napi_ok)
             found = NULL;
     }
-    free(given.items);
+    free(it.items);
     return found;
+}
+
+/* A document, and the seed of the instance. */
+struct document {
+    struct bytes bytes;
+    uint64_t seed;
+};
+
+static uint32_t list_requests(void *given, struct bytes text, size_t *length, void *items, size_t room, size_t *count)
+{
+    const struct document *it = given;
+    return odb_requests(it->bytes.at, it->bytes.size, text.at, text.size, length, items, room, count, it->seed);
+}
+
+static uint32_t list_faults(void *given, struct bytes text, size_t *length, void *items, size_t room, size_t *count)
+{
+    const struct document *it = given;
+    return odb_faults(it->bytes.at, it->bytes.size, text.at, text.size, length, items, room, count, it->seed);
+}
+
+static uint32_t list_responses(void *given, struct bytes text, size_t *length, void *items, size_t room, size_t *count)
+{
+    const struct document *it = given;
+    return odb_responses(it->bytes.at, it->bytes.size, text.at, text.size, length, items, room, count);
+}
+
+/* Makes a list of a document, of structs of so many numbers. */
+static napi_value listed_of(napi_env env, napi_callback_info info, lister *list, size_t numbers)
+{
+    struct document given = {{NULL, 0}, instance_of(env)->seed};
+    napi_value it[1];
+    if (!read_arguments(env, info, it, 1) || !read_bytes(env, it[0], &given.bytes))
+        return wrong_arguments(env);
+    return listed(env, list, &given, given.bytes.size, numbers);
 }
 
 static napi_value requests(napi_env env, napi_callback_info info)
 {
-    return listed(env, info, list_requests, sizeof(odb_request) / sizeof(size_t));
+    return listed_of(env, info, list_requests, sizeof(odb_request) / sizeof(size_t));
 }
 
 static napi_value faults(napi_env env, napi_callback_info info)
 {
-    return listed(env, info, list_faults, sizeof(odb_fault) / sizeof(size_t));
+    return listed_of(env, info, list_faults, sizeof(odb_fault) / sizeof(size_t));
+}
+
+static napi_value responses(napi_env env, napi_callback_info info)
+{
+    return listed_of(env, info, list_responses, sizeof(odb_response) / sizeof(size_t));
 }
 
 napi_status export_lists(napi_env env, napi_value exports)
 {
-    napi_value function;
-    napi_status status = napi_create_function(env, "requests", NAPI_AUTO_LENGTH, requests, NULL, &function);
-    if (status == napi_ok)
-        status = napi_set_named_property(env, exports, "requests", function);
-    if (status == napi_ok)
-        status = napi_create_function(env, "faults", NAPI_AUTO_LENGTH, faults, NULL, &function);
-    return status == napi_ok ? napi_set_named_property(env, exports, "faults", function) : status;
+    const napi_property_descriptor calls[] = {
+        {"requests", NULL, requests, NULL, NULL, NULL, napi_enumerable, NULL},
+        {"faults", NULL, faults, NULL, NULL, NULL, napi_enumerable, NULL},
+        {"responses", NULL, responses, NULL, NULL, NULL, napi_enumerable, NULL},
+    };
+    return napi_define_properties(env, exports, sizeof calls / sizeof *calls, calls);
 }

@@ -6,6 +6,10 @@
  * `command` is the place of a command in `COMMANDS` of commands.js, `batch` and `second` are Uint8Arrays, and the other
  * arguments numbers; what a command does not take is ignored. commands.js makes the calls of it.
  *
+ *   explain(code) -> [status, text]
+ *
+ * `code` is a Uint8Array.
+ *
  *   where(document, place, numbers) -> status
  *
  * Both are Uint8Arrays; the line, the column and the offset are written to `numbers`, a Float64Array of three. */
@@ -16,6 +20,7 @@
 
 #define ARGUMENTS 9
 
+#define EXPLANATION 2048 /* longer than most explanations */
 #define MORE 256 /* how much longer than its documents a text is thought to be */
 
 /* What the function is passed. */
@@ -98,7 +103,7 @@ napi_value written(napi_env env, writer *write, void *given, size_t size)
     struct bytes text = {NULL, 0};
     uint32_t status;
     do {
-        uint8_t *room = realloc(text.at, size);
+        uint8_t *room = realloc(text.at, size > 0 ? size : 1); /* a text may be empty, and realloc frees a block for 0 bytes */
         if (room == NULL) {
             status = ODB_OUT_OF_MEMORY;
             size = 0;
@@ -138,6 +143,22 @@ static napi_value call(napi_env env, napi_callback_info info)
     return written(env, make, &given, given.batch.size + given.second.size + MORE);
 }
 
+/* Writes what a code means: a writer. */
+static uint32_t make_explanation(void *given, struct bytes text, size_t *length)
+{
+    const struct bytes *code = given;
+    return odb_explain(code->at, code->size, text.at, text.size, length);
+}
+
+static napi_value explain(napi_env env, napi_callback_info info)
+{
+    struct bytes code;
+    napi_value it[1];
+    if (!read_arguments(env, info, it, 1) || !read_bytes(env, it[0], &code))
+        return wrong_arguments(env);
+    return written(env, make_explanation, &code, EXPLANATION);
+}
+
 static napi_value where(napi_env env, napi_callback_info info)
 {
     struct bytes document, place;
@@ -165,7 +186,7 @@ static void end_instance(napi_env env, void *instance, void *hint)
     release_instance(instance);
 }
 
-/* Makes the instance, with a seed that nobody can see, and exports `call`, `where`, `version`, and the calls of the other files. */
+/* Makes the instance, with a seed that nobody can see, and exports `call`, `explain`, `where`, `version`, and the calls of the other files. */
 NAPI_MODULE_INIT()
 {
     napi_value function, version;
@@ -179,6 +200,8 @@ NAPI_MODULE_INIT()
     instance->seed = odb_seed();
     if (napi_create_function(env, "call", NAPI_AUTO_LENGTH, call, NULL, &function) == napi_ok
         && napi_set_named_property(env, exports, "call", function) == napi_ok
+        && napi_create_function(env, "explain", NAPI_AUTO_LENGTH, explain, NULL, &function) == napi_ok
+        && napi_set_named_property(env, exports, "explain", function) == napi_ok
         && napi_create_function(env, "where", NAPI_AUTO_LENGTH, where, NULL, &function) == napi_ok
         && napi_set_named_property(env, exports, "where", function) == napi_ok
         && napi_create_uint32(env, odb_version(), &version) == napi_ok

@@ -2,6 +2,7 @@
  * of the event loop, or when another run is opened in the same turn.
  *
  *   open(batch, events, mode, width) -> [status, text, run]
+ *   openListed(batch, events, mode, width) -> [status, text, numbers, run], with the numbers that `requests` of lists.c gives
  *   ready(run, positions), running(run, positions), undone(run, positions), nextUnit(run, positions)
  *     -> [status, count]
  *   state(run, position, numbers) -> status, with the state and its status in `numbers`
@@ -150,7 +151,18 @@ static uint32_t open_live(void *given, struct bytes text, size_t *length)
     return status;
 }
 
-static napi_value open_run(napi_env env, napi_callback_info info)
+/* The same with what is to be sent of the requests: a lister. */
+static uint32_t list_live(void *given, struct bytes text, size_t *length, void *items, size_t room, size_t *count)
+{
+    const struct opening *it = given;
+    uint32_t status = odb_run_open_requests(it->batch.at, it->batch.size, it->events.at, it->events.size, it->mode, it->width,
+                                            &it->live->run, text.at, text.size, length, items, room, count, it->seed);
+    it->live->is_open = status == ODB_DONE;
+    return status;
+}
+
+/* Opens a run, by what it is passed; `is_listed` if with its requests. */
+static napi_value opened(napi_env env, napi_callback_info info, int is_listed)
 {
     struct opening given;
     napi_value it[4], run;
@@ -165,12 +177,23 @@ static napi_value open_run(napi_env env, napi_callback_info info)
         napi_throw_error(env, "ERR_ODB_OUT_OF_MEMORY", "out of memory");
         return NULL;
     }
-    napi_value found = written(env, open_live, &given, LINE);
+    napi_value found = is_listed ? listed(env, list_live, &given, given.batch.size, sizeof(odb_request) / sizeof(size_t))
+                                 : written(env, open_live, &given, LINE);
     if (given.live->is_open)
         enlist(env, given.live, given.batch.size + given.events.size);
-    if (found == NULL || napi_set_element(env, found, 2, run) != napi_ok)
+    if (found == NULL || napi_set_element(env, found, is_listed ? 3 : 2, run) != napi_ok)
         return NULL;
     return found;
+}
+
+static napi_value open_run(napi_env env, napi_callback_info info)
+{
+    return opened(env, info, 0);
+}
+
+static napi_value open_listed(napi_env env, napi_callback_info info)
+{
+    return opened(env, info, 1);
 }
 
 /* Makes the pair of a status and a count. */
@@ -361,6 +384,7 @@ napi_status export_runs(napi_env env, napi_value exports)
         {"undone", undone},     {"ids", ids},           {"response", response},
         {"nextUnit", next_unit}, {"state", state},      {"stop", stop},
         {"startUnit", start_unit}, {"next", next},      {"close", close_run},
+        {"openListed", open_listed},
     };
     for (size_t i = 0; i < sizeof calls / sizeof *calls; i++) {
         napi_property_descriptor it = {calls[i].name, NULL, calls[i].call, NULL, NULL, NULL, napi_enumerable, NULL};

@@ -2,7 +2,7 @@
 
 // Where in a text a fault is: as ranges of the text, and as line and column. One scan finds the elements of all faults.
 
-const { elementsAt, membersAt, skipSpace } = require('../node/documents/json_scanner.js')
+const { elementsAt, membersAt, skipSpace } = require('./json_scanner.js')
 
 // The member of an element that the rule of a fault is about.
 const MEMBER = {

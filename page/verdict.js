@@ -3,12 +3,11 @@
 // What the library says of a document: the line that the program prints of it, and its faults with their places.
 
 const commands = require('../node/calls/commands.js')
-const { readFault } = require('../node/errors/faults.js')
-const explanations = require('../node/errors/explanations.json')
+const { explain: explainCode, readFault } = require('../node/errors/faults.js')
 
 /** The words of an explanation, without the ends of its lines. */
 function explain(code) {
-  return (explanations[code] ?? '').replaceAll('\n', ' ')
+  return explainCode(code).meaning.replaceAll('\n', ' ')
 }
 
 /** A fault for the page: what it is, why, and where. */

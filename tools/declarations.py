@@ -18,7 +18,7 @@ ROOT = os.path.dirname(os.path.dirname(os.path.realpath(__file__)))
 HEADER = "include/odb_batch.h"
 EXPORTS = "crates/odb_ffi/src"
 NAME = "libodb_batch.so.0"
-MOST_BYTES = 720_000
+MOST_BYTES = 760_000
 
 # What a type of Rattle is for C; `alloc` is nothing.
 TYPES = {
@@ -30,6 +30,7 @@ TYPES = {
     "&mut [u8]": ["uint8_t *{}", "size_t {}_size"],
     "&mut [u32]": ["uint32_t *{}", "size_t {}_size"],
     "&mut [Request]": ["odb_request *{}", "size_t {}_size"],
+    "&mut [Response]": ["odb_response *{}", "size_t {}_size"],
     "&mut [Fault]": ["odb_fault *{}", "size_t {}_size"],
     "&mut Position": ["odb_position *{}"],
     "Handle": ["odb_live_run {}"],
@@ -46,7 +47,9 @@ HANDLES = {
 }
 
 # The structs of the source that have the same fields for C.
-STRUCTS = {"Part": "odb_part", "Request": "odb_request", "Position": "odb_position", "Fault": "odb_fault"}
+STRUCTS = {
+    "Part": "odb_part", "Request": "odb_request", "Response": "odb_response", "Position": "odb_position", "Fault": "odb_fault",
+}  # fmt: skip
 FIELDS = {"usize": "size_t", **STRUCTS}
 
 # A number of the header, and the constant or the definition of the source that has it.

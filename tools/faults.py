@@ -4,7 +4,7 @@ A fault has a section `### CODE NAME, PLACES`: a paragraph, and two items, `refu
 each with a document or with words. `odb_batch explain CODE` has to print just that, without back
 quotes; and a document in back quotes has to be refused by this fault, or not by it. A second document
 is read with the batch that the page shows above the first fault. With `--write` the texts of the
-program are made of the page; `rt fmt` lays them out.
+program and the library are made of the page; `rt fmt` lays them out.
 """
 
 import argparse
@@ -23,17 +23,13 @@ sys.path.append(os.path.join(ROOT, "tests"))
 from support.program import add_program, ready
 
 PAGE = os.path.join(ROOT, "docs", "faults.md")
-TEXTS = os.path.join(ROOT, "crates", "odb_cli", "src", "explain")
+TEXTS = os.path.join(ROOT, "crates", "odb_explain", "src", "faults.rt")
+HEAD = """\
+// Generated from docs/faults.md by tools/faults.py --write; do not edit.
+//! The explanations of all faults, and of the causes by which an event may not come.
 
-# The files of texts: which codes they have, and what they are about.
-FILES = {
-    "documents": (r"F0\d", "the document and of a line"),
-    "requests": (r"F[12]\d", "the form of a request"),
-    "names": (r"F[34]\d", "ids, groups, names and references"),
-    "records": (r"F[56]\d", "texts, recorded outcomes and recorded events"),
-    "responses": (r"F7\d", "the responses of a service"),
-    "runs": (r"F[89]\d|[SP]\d", "executions, the rest of a batch, and events that may not come"),
-}
+/// The explanations in the order of their codes. The first line of each has the code, the name and the places of its fault.
+"""
 
 
 @dataclass
@@ -86,13 +82,9 @@ def literal(fault):
 
 
 def write(faults):
-    """Makes the texts of the program."""
-    for name, (codes, subject) in FILES.items():
-        chosen = [it for it in faults if re.fullmatch(codes, it.code)]
-        with open(os.path.join(TEXTS, name + ".rt"), "w", encoding="utf-8") as file:
-            file.write("// Generated from docs/faults.md by tools/faults.py --write; do not edit.\n")
-            file.write(f"//! The faults of {subject}.\n\n")
-            file.write(f"pub const FAULTS: [&str; {len(chosen)}] = [{', '.join(map(literal, chosen))}];\n")
+    """Makes the texts of the program and the library."""
+    with open(TEXTS, "w", encoding="utf-8") as file:
+        file.write(f"{HEAD}pub const FAULTS: [&str; {len(faults)}] = [{', '.join(map(literal, faults))}];\n")
 
 
 def call(binary, folder, *words):

@@ -62,7 +62,7 @@ class Repository:
 
     def __init__(self):
         self.sources = {path: text for path, text in files(SOURCES).items() if "/odb_tests_" not in path}
-        self.explained = {path: text for path, text in self.sources.items() if "/explain/" in path}
+        self.explained = {path: text for path, text in self.sources.items() if path.startswith("crates/odb_explain/")}
         self.code = {path: text for path, text in self.sources.items() if path not in self.explained}
         self.specs = files(SPECS)
         self.page, self.rules = files("docs/faults.md"), files("docs/batches.md")
@@ -126,10 +126,6 @@ def at(part, pattern):
     return lambda repository, fault: find(getattr(repository, part), pattern.format(code=fault.code, name=fault.name))
 
 
-def binding(path):
-    return lambda repository, fault: find(files(path), rf'^ +"{fault.code}": ')
-
-
 PLACES = {
     "when it is broken": definition,
     "number and name": label,
@@ -139,8 +135,6 @@ PLACES = {
     "section of docs/faults.md": at("page", r"^### {code} {name}, "),
     "rule of docs/batches.md": at("rules", r"\[[^\]]*\b{code}\b[^\]]*\]"),
     "text of explain": at("explained", r'r#"{code} {name} '),
-    "text for Python": binding("python/odb_batch/errors/explanations.json"),
-    "text for Node": binding("node/errors/explanations.json"),
     "plain name": at("plain", r'\b{code}="{name}"'),
     "plain rule": at("plain", r'"{code}"'),
     "line of the list of explain": at("cases", r"^out {code} {name} "),

@@ -24,11 +24,8 @@ function slicer(text) {
   return (start, length) => (start < 0 ? null : text.toString('utf8', start, start + length))
 }
 
-function requests(batch) {
-  const given = documentBytes(batch)
-  const document = Buffer.from(given.buffer, given.byteOffset, given.length)
-  const [status, text, all] = library.requests(document)
-  if (status !== DONE) throw callError('requests', status, text, given)
+/** The requests of a document, by the text and the numbers that a call has listed. */
+function readRequests(document, text, all) {
   const slice = slicer(text)
   const found = Array.from({ length: all.length / NUMBERS }, (_, at) => readRequest(document, slice, all, NUMBERS * at))
   found.forEach((request, at) => {
@@ -38,4 +35,17 @@ function requests(batch) {
   return found
 }
 
-module.exports = { requests }
+/** The bytes of a document, of which bodies are parts. */
+function toBuffer(document) {
+  return Buffer.from(document.buffer, document.byteOffset, document.length)
+}
+
+function requests(batch) {
+  const given = documentBytes(batch)
+  const document = toBuffer(given)
+  const [status, text, all] = library.requests(document)
+  if (status !== DONE) throw callError('requests', status, text, given)
+  return readRequests(document, text, all)
+}
+
+module.exports = { readRequests, requests, slicer, toBuffer }

@@ -3,31 +3,19 @@
 // Live runs. index.d.ts says what each call takes and returns.
 
 const { documentBytes, eventBytes, reportBytes } = require('../documents/bytes.js')
-const { DONE, Fault, REFUSED, Refused, callError, errorWithCode } = require('../errors/faults.js')
+const { DONE, Fault, REFUSED, callError, errorWithCode, refusedError } = require('../errors/faults.js')
 const library = require('../library/index.js')
 const { run } = require('./commands.js')
 const { optionNumbers, orderNumber, requireOptions } = require('./options.js')
-const { requests } = require('./requests.js')
+const { readRequests, requests, toBuffer } = require('./requests.js')
 
 const OPTIONS = ['mode', 'width', 'events']
 const MOST = 2 ** 32 - 1
 
-// Why a start or a report is refused, by the status that says so.
-const CAUSES = new Map([
-  [11, ['S1', 'AlreadyStarted']],
-  [12, ['S2', 'Stopped']],
-  [13, ['S3', 'UnitFailed']],
-  [14, ['S4', 'Waiting']],
-  [15, ['S5', 'WidthReached']],
-  [21, ['P1', 'NotRunning']],
-  [22, ['P2', 'BadStatus']],
-])
-
 /** Throws what a start or a report returns but that it is done. */
 function requireTaken(name, status, id) {
   if (status === DONE) return
-  if (CAUSES.has(status)) throw new Refused(...CAUSES.get(status), id)
-  throw callError(name, status, '')
+  throw refusedError(status, id) ?? callError(name, status, '')
 }
 
 /** Why headers or a body are refused: the fault that the same report has as a recorded event. */
@@ -50,6 +38,13 @@ const STATES = ['waiting', 'ready', 'running', 'reported', 'skipped', 'undone']
 /** @type {import('../index').NextStep['step'][]} The steps of a run, by their numbers; no step is 0. */
 const STEPS = ['start', 'report']
 
+/**
+ * Opens a run of which all requests are sent: the run, and what is to be sent. The batch is read once.
+ *
+ * @type {(batch: any, options: object) => { run: Run, requests: any[] }}
+ */
+let openListed
+
 class Run {
   #run
   #ids
@@ -59,24 +54,49 @@ class Run {
   #batch
   #requests
 
-  constructor(batch, options = {}) {
+  static {
+    openListed = (batch, options) => {
+      const run = new Run(batch, options, true)
+      return { run, requests: run.#requests }
+    }
+  }
+
+  /** `isListed`: whether what is to be sent of the requests is read with the batch. */
+  constructor(batch, options = {}, isListed = false) {
     const { mode, width, events = [] } = requireOptions(options, OPTIONS)
     const [modeNumber, widthNumber] = optionNumbers({ mode, width })
     const [document, recorded] = [documentBytes(batch), eventBytes(events)]
     // How many bytes the response is made of.
     this.#size = document.length + recorded.length
-    const [status, text, opened] = library.open(document, recorded, modeNumber, widthNumber)
-    if (status !== DONE) throw callError('open', status, text, document, recorded)
-    this.#run = opened
     // For who asks what is to be sent of the requests.
     this.#batch = document
-    const [listed, lines] = library.ids(opened, document.length >> 3)
-    if (listed !== DONE) throw callError('ids', listed, lines)
+    const openings = [document, recorded, modeNumber, widthNumber]
     // The ids of the requests by their positions, and the positions by the ids.
-    this.#ids = lines.toString('latin1').split('\n').slice(0, -1)
+    this.#ids = isListed ? this.#openListed(...openings) : this.#openAlone(...openings)
     this.#positions = new Map(this.#ids.map((id, position) => [id, position]))
     // Room for all positions, so that a list of some always fits.
     this.#listed = new Uint32Array(Math.max(this.#ids.length, 1))
+  }
+
+  /** Opens the run; returns the ids of its requests. */
+  #openAlone(...openings) {
+    const [document, recorded] = openings
+    const [status, text, opened] = library.open(...openings)
+    if (status !== DONE) throw callError('open', status, text, document, recorded)
+    this.#run = opened
+    const [listed, lines] = library.ids(opened, document.length >> 3)
+    if (listed !== DONE) throw callError('ids', listed, lines)
+    return lines.toString('latin1').split('\n').slice(0, -1)
+  }
+
+  /** The same with what is to be sent of them, by one reading of the batch. */
+  #openListed(...openings) {
+    const [document, recorded] = openings
+    const [status, text, numbers, opened] = library.openListed(...openings)
+    if (status !== DONE) throw callError('open', status, text, document, recorded)
+    this.#run = opened
+    this.#requests = readRequests(toBuffer(document), text, numbers)
+    return this.#requests.map(({ id }) => id)
   }
 
   /** The run, or an error if it is closed. */
@@ -187,4 +207,4 @@ class Run {
 // Where the language has it, `using` closes a run.
 if (Symbol.dispose) Run.prototype[Symbol.dispose] = Run.prototype.close
 
-module.exports = { Run }
+module.exports = { Run, openListed }

@@ -2,10 +2,10 @@
 
 // The responses of a service, with the bytes of their bodies as they are in the document.
 
+const { responses } = require('../calls/responses.js')
 const { Refusal } = require('../errors/refusals.js')
 const { isJson, mediaType, toWire } = require('../http/bodies.js')
 const { foldHeaders } = require('../http/messages.js')
-const { elementsAt, membersAt, skipSpace } = require('./json_scanner.js')
 
 /** The headers of a response; what is not a text or a number is left out, since no rule asks for them. */
 function readHeaders(members) {
@@ -38,20 +38,11 @@ function wireBytes(text, headers) {
  * document that `match` accepts (OData JSON Format 4.01, section 19.5).
  */
 function readResponses(document) {
-  const text = document.toString('latin1') // a character for each byte
-  const found = new Map()
-  for (const { start } of elementsAt(text, membersAt(text, skipSpace(text, 0)).get('responses').value.start)) {
-    const members = membersAt(text, start)
-    const [id, status, given, body] = ['id', 'status', 'headers', 'body'].map((name) => {
-      const { value } = members.get(name) ?? {}
-      return value && document.subarray(value.start, value.end)
-    })
-    const headers = readHeaders(given === undefined ? null : JSON.parse(given.toString()))
-    const isThere = body !== undefined && !body.equals(Buffer.from('null'))
-    const answer = { status: Number(status.toString()), headers, body: isThere ? wireBytes(body, headers) : Buffer.alloc(0) }
-    found.set(JSON.parse(id.toString()), answer)
-  }
-  return found
+  return new Map(responses(document).map((response) => {
+    const headers = readHeaders(response.headers && JSON.parse(response.headers.toString()))
+    const body = response.body === undefined ? Buffer.alloc(0) : wireBytes(response.body, headers)
+    return [response.id, { status: response.status, headers, body }]
+  }))
 }
 
 module.exports = { readResponses }

@@ -3,7 +3,6 @@
 // Why a call does not do what it is asked for.
 
 const { Findings } = require('./findings.js')
-const explanations = require('./explanations.json')
 const library = require('../library/index.js')
 
 const NUMBERS = 3 // of an odb_position
@@ -12,6 +11,19 @@ const OF_FAULT = 6 + NUMBERS // of an odb_fault: a start and a length for each o
 const DONE = 0
 const REFUSED = 1
 const OUT_OF_MEMORY = 4
+
+// What the library says of codes, once that was asked for.
+const explained = new Map()
+
+/** What a code means, and the name of the fault or the cause; nothing of one that is no code. */
+function explain(code) {
+  if (!explained.has(code)) {
+    const [status, text] = library.explain(Buffer.from(String(code)))
+    const [, name, meaning] = /^\S+ (\S+).*\n([^]*)\nrefused: /.exec(status === DONE ? text.toString() : '') ?? []
+    explained.set(code, { name, meaning: meaning ?? '' })
+  }
+  return explained.get(code)
+}
 
 class Fault extends Error {
   // What the document says, if there is one, and where the place is in it, once that is known.
@@ -42,7 +54,7 @@ class Fault extends Error {
   }
 
   get explanation() {
-    return explanations[this.code] ?? ''
+    return explain(this.code).meaning
   }
 
   get details() {
@@ -74,8 +86,19 @@ class Refused extends Error {
   }
 
   get explanation() {
-    return explanations[this.code] ?? ''
+    return explain(this.code).meaning
   }
+}
+
+// The letters of the codes of causes, by the tens of their statuses: 11 is S1, and 21 is P1.
+const OF_CAUSES = { 1: 'S', 2: 'P' }
+
+/** What a start or a report throws that is refused; undefined for another status. */
+function refusedError(status, id) {
+  const letter = OF_CAUSES[Math.floor(status / 10)]
+  if (letter === undefined) return undefined
+  const code = `${letter}${status % 10}`
+  return new Refused(code, explain(code).name, id)
 }
 
 function errorWithCode(code, message, Kind = Error) {
@@ -106,4 +129,4 @@ function callError(name, status, text, ...documents) {
   return errorWithCode('ERR_ODB_STATUS', `${name} returned the status ${status}`)
 }
 
-module.exports = { DONE, Fault, REFUSED, Refused, callError, errorWithCode, listedFaults, readFault }
+module.exports = { DONE, Fault, REFUSED, Refused, callError, errorWithCode, explain, listedFaults, readFault, refusedError }

@@ -24,11 +24,13 @@ const COMMANDS = [
 
 const WORD = 8 // bytes of a pointer or a size
 const OF_REQUEST = 15 // words of an odb_request
+const OF_RESPONSE = 9 // words of an odb_response
 const OF_POSITION = 3 // words of an odb_position
 const OF_FAULT = 6 + OF_POSITION // words of an odb_fault
 const NONE = 2 ** 32 - 1 // each half of ODB_NONE
-const SHORTEST = 32 // how short a request may be in a document,
+const SHORTEST = 32 // how short a request or a response may be in a document,
 const MOST = 10000 // and how many a batch may have
+const EXPLANATION = 2048 // longer than most explanations
 const MORE = 256 // how much longer than its documents a text is thought to be, and longer than the line of a fault
 const LARGE = 2 ** 26 // memory does not shrink: an instance that has more is not used for further calls
 
@@ -143,23 +145,31 @@ function listedNumbers(instance, at, words) {
   })
 }
 
-/** Has a call list what a batch has, in structs of so many words. */
-function callList(use, seed, name, width, batch) {
+/** Has a call list what a document has, in structs of so many words. `call` takes the words for the text and the list. */
+function listIn(instance, take, width, document, call) {
+  const count = take(WORD)
+  let room = Math.min(Math.floor(document.length / SHORTEST) + 1, MOST)
+  let list = take(room * width * WORD)
+  instance.numbers(count, 2).fill(0)
+  const [status, text] = instance.writeText(take, document.length + MORE, (words) => {
+    if (instance.word(count) > room) {
+      room = instance.word(count)
+      list = take(room * width * WORD)
+    }
+    return call([...words, list, BigInt(room), count])
+  })
+  return [status, text, listedNumbers(instance, list, width * instance.word(count))]
+}
+
+const noList = () => [OUT_OF_MEMORY, Buffer.from(NOTHING), new Float64Array()]
+
+/** The same of a document alone. `seed` is the last argument of the call, if it takes one. */
+function callList(use, name, width, document, ...seed) {
   const answer = use((instance) => instance.with((take) => {
-    const [given, count] = [instance.put(take, [batch]), take(WORD)]
-    let room = Math.min(Math.floor(batch.length / SHORTEST) + 1, MOST)
-    let list = take(room * width * WORD)
-    instance.numbers(count, 2).fill(0)
-    const [status, text] = instance.writeText(take, batch.length + MORE, (words) => {
-      if (instance.word(count) > room) {
-        room = instance.word(count)
-        list = take(room * width * WORD)
-      }
-      return instance.call(name, ...given, ...words, list, BigInt(room), count, seed)
-    })
-    return [status, text, listedNumbers(instance, list, width * instance.word(count))]
+    const given = instance.put(take, [document])
+    return listIn(instance, take, width, document, (words) => instance.call(name, ...given, ...words, ...seed))
   }))
-  return answer ?? [OUT_OF_MEMORY, Buffer.from(NOTHING), new Float64Array()]
+  return answer ?? noList()
 }
 
 /** The calls that keep nothing. `use` does work with an instance; `seed` is that of the tables of names. */
@@ -173,6 +183,14 @@ function commandCalls(use, seed) {
         const given = instance.put(take, documents)
         const size = totalLength(documents) + MORE
         return instance.writeText(take, size, (text) => instance.call(name, ...given, ...numbers, ...text, seed))
+      }))
+      return answer ?? [OUT_OF_MEMORY, Buffer.from(NOTHING)]
+    },
+
+    explain(code) {
+      const answer = use((instance) => instance.with((take) => {
+        const given = instance.put(take, [code])
+        return instance.writeText(take, EXPLANATION, (text) => instance.call('odb_explain', ...given, ...text))
       }))
       return answer ?? [OUT_OF_MEMORY, Buffer.from(NOTHING)]
     },
@@ -196,8 +214,9 @@ function commandCalls(use, seed) {
       return status === DONE ? url.toString() : status
     },
 
-    requests: (batch) => callList(use, seed, 'odb_requests', OF_REQUEST, batch),
-    faults: (batch) => callList(use, seed, 'odb_faults', OF_FAULT, batch),
+    requests: (batch) => callList(use, 'odb_requests', OF_REQUEST, batch, seed),
+    faults: (batch) => callList(use, 'odb_faults', OF_FAULT, batch, seed),
+    responses: (document) => callList(use, 'odb_responses', OF_RESPONSE, document),
   }
 }
 
@@ -267,27 +286,35 @@ function statusCall(name) {
 function runCalls(use, seed) {
   const registry = new FinalizationRegistry(({ forgotten, place }) => forgotten.push(place))
 
-  /** The status, the text and the place of a run that is opened in an instance. */
-  function openIn(instance, documents, numbers) {
-    instance.forgotten.splice(0).forEach((place) => closeAt(instance, place))
-    return instance.with((take) => {
-      const given = instance.put(take, documents)
-      const place = instance.allocate(WORD)
-      const open = (words) => instance.call('odb_run_open', ...given, ...numbers, place, ...words, seed)
-      const [status, text] = instance.writeText(take, MORE, open)
-      if (status !== DONE) instance.free(place)
-      return [status, text, place]
+  /** Opens a run in an instance: what `open` returns by the memory, the words for documents, and the place of the run; and the run. */
+  function openIn(documents, numbers, open) {
+    return use((instance) => {
+      instance.forgotten.splice(0).forEach((place) => closeAt(instance, place))
+      return instance.with((take) => {
+        const given = instance.put(take, documents)
+        const place = instance.allocate(WORD)
+        const found = open(instance, take, [...given, ...numbers, place])
+        const run = new LiveRun(instance, place)
+        if (found[0] === DONE) registry.register(run, { forgotten: instance.forgotten, place }, run)
+        else instance.free(place)
+        return [...found, run]
+      })
     })
   }
 
   return {
     open(batch, events, mode, width) {
-      return use((instance) => {
-        const [status, text, place] = openIn(instance, [batch, events], [mode, width]) ?? [OUT_OF_MEMORY, Buffer.from(NOTHING)]
-        const run = new LiveRun(instance, place)
-        if (status === DONE) registry.register(run, { forgotten: instance.forgotten, place }, run)
-        return [status, text, run]
+      const answer = openIn([batch, events], [mode, width], (instance, take, given) => {
+        return instance.writeText(take, MORE, (words) => instance.call('odb_run_open', ...given, ...words, seed))
       })
+      return answer ?? [OUT_OF_MEMORY, Buffer.from(NOTHING)]
+    },
+    openListed(batch, events, mode, width) {
+      const answer = openIn([batch, events], [mode, width], (instance, take, given) => {
+        const open = (words) => instance.call('odb_run_open_requests', ...given, ...words, seed)
+        return listIn(instance, take, OF_REQUEST, batch, open)
+      })
+      return answer ?? noList()
     },
     close(run) {
       registry.unregister(run)

@@ -4,8 +4,7 @@
 // says what `perform` takes and returns.
 
 const { MAX_REQUESTS, optionNumbers, requireOptions } = require('../calls/options.js')
-const { requests: listRequests } = require('../calls/requests.js')
-const { Run } = require('../calls/run.js')
+const { openListed } = require('../calls/run.js')
 const { documentBytes, kindName } = require('../documents/bytes.js')
 const { Fault } = require('../errors/faults.js')
 const { Refusal, toRefusal } = require('../errors/refusals.js')
@@ -157,11 +156,10 @@ class Performer {
   #left
 
   /** `send` is given a request, and the wait for its answer, if that has an end. */
-  constructor(batch, requests, send, settings) {
-    const { mode, width, base, roots } = settings
-    this.#references = new References(requests, base, roots)
+  constructor({ run, requests }, send, settings) {
+    this.#references = new References(requests, settings.base, settings.roots)
     this.#requests = new Map(requests.map((request) => [request.id, request]))
-    this.#run = new Run(batch, { mode, width })
+    this.#run = run
     this.#left = requests.length
     this.#send = send
     this.#settings = settings
@@ -188,10 +186,6 @@ class Performer {
   /** The response document of the finished run. */
   response() {
     return this.#run.response()
-  }
-
-  close() {
-    this.#run.close()
   }
 
   /** Whether nothing starts any more. */
@@ -313,15 +307,15 @@ function requirePerformable(requests, { limit, transaction }) {
  * the settings is a `Stop`.
  */
 async function performBatch(batch, send, settings) {
-  const document = documentBytes(batch)
-  const requests = listRequests(document)
-  requirePerformable(requests, settings)
-  const performer = new Performer(document, requests, send, settings)
+  const { mode, width } = settings
+  const opened = openListed(documentBytes(batch), { mode, width })
   try {
+    requirePerformable(opened.requests, settings)
+    const performer = new Performer(opened, send, settings)
     await performer.perform()
     return performer.response()
   } finally {
-    performer.close()
+    opened.run.close()
   }
 }
 

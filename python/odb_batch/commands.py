@@ -110,8 +110,13 @@ class Output(Value):
     text: bytes
 
 
-def _text(name: str, *documents: Document, options: tuple[int, ...] = ()) -> bytes:
-    return read_text(name, *map(document_bytes, documents), options=options)
+def _function(command: str) -> str:
+    return _OF_MODE.get(command, f"odb_{command}_as")
+
+
+def _text(command: Command, *documents: Document, options: tuple[int, ...] = ()) -> bytes:
+    """The text that a command writes, in lines."""
+    return read_text(_function(command), *map(document_bytes, documents), options=(*options, FORMS.index("lines")))
 
 
 def check(batch: Document) -> Counts:
@@ -121,7 +126,7 @@ def check(batch: Document) -> Counts:
         Fault: The batch is refused.
         MemoryError: An allocation failed.
     """
-    words = _text("odb_check", batch).split()
+    words = _text("check", batch).split()
     return Counts(int(words[1]), int(words[3]))
 
 
@@ -165,7 +170,7 @@ def plan(batch: Document) -> Plan:
         Fault: The batch is refused.
         MemoryError: An allocation failed.
     """
-    return Plan(tuple(map(_planned, _text("odb_plan", batch).decode().splitlines())))
+    return Plan(tuple(map(_planned, _text("plan", batch).decode().splitlines())))
 
 
 def canon(batch: Document) -> bytes:
@@ -177,7 +182,7 @@ def canon(batch: Document) -> bytes:
         Fault: The batch is refused, or a body has a number that is not whole.
         MemoryError: An allocation failed.
     """
-    return _text("odb_canon", batch)[:-1]
+    return _text("canon", batch)[:-1]
 
 
 def match(batch: Document, responses: Document, *, mode: Mode = "continue", strict: bool = False) -> dict[str, int]:
@@ -199,8 +204,8 @@ def match(batch: Document, responses: Document, *, mode: Mode = "continue", stri
         ValueError: The mode is not one of its values.
         MemoryError: An allocation failed.
     """
-    options = (mode_number(mode), int(bool(strict)), FORMS.index("lines"))
-    lines = _text("odb_match_with", batch, responses, options=options).decode().splitlines()[1:]
+    options = (mode_number(mode), int(bool(strict)))
+    lines = _text("match", batch, responses, options=options).decode().splitlines()[1:]
     return {request_id: int(status) for request_id, status in (line.split(" ") for line in lines)}
 
 
@@ -227,8 +232,7 @@ def rest(batch: Document, responses: Document, *, mode: Mode = "continue") -> by
         ValueError: The mode is not one of its values.
         MemoryError: An allocation failed.
     """
-    options = (mode_number(mode), FORMS.index("lines"))
-    return _text("odb_rest", batch, responses, options=options)[:-1]
+    return _text("rest", batch, responses, options=(mode_number(mode),))[:-1]
 
 
 def run(batch: Document, events: Events, *, mode: Mode = "continue", width: int = MAX_WIDTH) -> bytes:
@@ -248,7 +252,7 @@ def run(batch: Document, events: Events, *, mode: Mode = "continue", width: int 
         ValueError: An option has a value that it may not have.
         MemoryError: An allocation failed.
     """
-    return read_text("odb_run", document_bytes(batch), events_bytes(events), options=policy_numbers(mode, width))[:-1]
+    return _text("run", batch, events_bytes(events), options=policy_numbers(mode, width))[:-1]
 
 
 def _traced(lines: list[bytes]) -> Replay:
@@ -292,7 +296,7 @@ def replay(
         MemoryError: An allocation failed.
     """
     options = (*policy_numbers(mode, width), option_number(ORDERS, "order", order), int(bool(trace)))
-    return _traced(_text("odb_replay", batch, outcomes, options=options)[:-1].split(b"\n"))
+    return _traced(_text("replay", batch, outcomes, options=options)[:-1].split(b"\n"))
 
 
 def output(
@@ -335,8 +339,7 @@ def output(
         numbers = (*numbers, option_number(ORDERS, "order", order), int(bool(trace)))
     given = (document_bytes(batch),) if second is None else (document_bytes(batch), events_bytes(second))
     options = (*numbers, option_number(FORMS, "form", form))
-    name = _OF_MODE.get(command, f"odb_{command}_as")
-    status, text = library.call(name, given, options, sum(map(len, given)) + MORE)
+    status, text = library.call(_function(command), given, options, sum(map(len, given)) + MORE)
     if status in (library.DONE, library.REFUSED):
         return Output(status == library.DONE, text)
     raise status_error(command, status)

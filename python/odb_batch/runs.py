@@ -8,22 +8,12 @@ from dataclasses import dataclass
 from typing import Any, Literal, Mapping, NoReturn, Optional, SupportsIndex, Union
 
 from ._native import library
-from ._native.calls import MAX_WIDTH, Mode, policy_numbers, read_text, status_error
+from ._native.calls import MAX_WIDTH, Mode, policy_numbers, read_text, refused_error, status_error
 from .documents.encoding import Document, Events, body_json, document_bytes, events_bytes, json_bytes
-from .documents.requests import Request, requests
-from .errors.faults import Fault, Refused
+from .documents.requests import Request, open_requests, requests
+from .errors.faults import Fault
 from .values import Value
 
-# Why a start or a report is refused, by the status that says so.
-_CAUSES = {
-    11: ("S1", "AlreadyStarted"),
-    12: ("S2", "Stopped"),
-    13: ("S3", "UnitFailed"),
-    14: ("S4", "Waiting"),
-    15: ("S5", "WidthReached"),
-    21: ("P1", "NotRunning"),
-    22: ("P2", "BadStatus"),
-}
 _MAX_NUMBER = 2**32 - 1
 
 _State = Literal["waiting", "ready", "running", "reported", "skipped", "undone"]
@@ -104,16 +94,22 @@ class Run:
         self._lock = threading.Lock()
         self._handle = library.Handle()
         self._pointer = ctypes.byref(self._handle)
-        read_text("odb_run_open", given, happened, options=(*options, self._pointer))
+        self._open(given, happened, (*options, self._pointer))
         self._release, self._is_open = weakref.finalize(self, library.LIBRARY.odb_run_close, self._handle), True
         # A thread may still be in a call when the process ends, and then all memory goes.
         self._release.atexit = False
-        ids = read_text("odb_run_ids", options=(self._pointer,), more=len(given) // 8)
         # The ids of the requests by their positions, and the positions by the ids.
-        self._ids = ids.decode().splitlines()
+        self._ids = self._list_ids(len(given))
         self._at = {request_id: position for position, request_id in enumerate(self._ids)}
         # Room for all positions, so that a list of some always fits.
         self._listed, self._count = (ctypes.c_uint32 * max(len(self._ids), 1))(), ctypes.c_size_t()
+
+    def _open(self, batch: bytes, events: bytes, options: tuple[Any, ...]) -> None:
+        read_text("odb_run_open", batch, events, options=options)
+
+    def _list_ids(self, size: int) -> list[str]:
+        """The ids of the requests of a batch of so many bytes."""
+        return read_text("odb_run_ids", options=(self._pointer,), more=size // 8).decode().splitlines()
 
     def __reduce_ex__(self, protocol: SupportsIndex) -> NoReturn:
         # A copy would share the handle, and one of the two would free it under the other.
@@ -364,6 +360,22 @@ class Run:
         return tuple(self._ids[position] for position in sorted(positions))
 
 
+class ListedRun(Run):
+    """A run of which all requests are sent: what is to be sent of them is read when it is opened.
+
+    Attributes:
+        requests: What is to be sent, in the order of the batch.
+    """
+
+    __slots__ = ("requests",)
+
+    def _open(self, batch: bytes, events: bytes, options: tuple[Any, ...]) -> None:
+        self.requests = self._batch = open_requests(batch, events, options)
+
+    def _list_ids(self, size: int) -> list[str]:
+        return [request.id for request in self.requests]
+
+
 # Writes a string; for an object json takes several times as long as for its strings.
 _encode = json.JSONEncoder(ensure_ascii=False).encode
 
@@ -381,17 +393,15 @@ def _headers_json(headers: Optional[Mapping[str, str]]) -> bytes:
 
 def _settle(name: str, status: int, request_id: str) -> None:
     """Raises what a call returns but that it is done."""
-    if status in _CAUSES:
-        raise Refused(*_CAUSES[status], request_id)
     if status != library.DONE:
-        raise status_error(name, status)
+        raise refused_error(status, request_id) or status_error(name, status)
 
 
 def _fault(headers: bytes, body: bytes) -> Fault:
     """Why headers or a body are refused: the fault that the same report has as a recorded event."""
     event = b'{"report":"","status":200,"headers":%s,"body":%s}' % (headers or b"null", body or b"null")
     try:
-        read_text("odb_run", b'{"requests":[]}', b'{"events":[%s]}' % event, options=policy_numbers("continue", 1))
+        read_text("odb_run_as", b'{"requests":[]}', b'{"events":[%s]}' % event, options=(*policy_numbers("continue", 1), 0))
     except Fault as fault:
         # F65 is that they were read, so one of them is JSON only together with what is around it here.
         if fault.code != "F65":

@@ -52,7 +52,7 @@ DEFECTS = {
     "no-stop": ("driver/execution", "if not self._is_stopped and is_to_stop():", "if False:", PERFORM, "a_stop_answers"),
     "broken-json-ends-all": ("driver/execution", "except Fault:\n            headers", "except KeyError:\n            headers", PERFORM_REQUESTS, "of_answers"),
     "a-place-that-stays-free": ("driver/waits", "self._begin_units()\n        except", "self._out or self._begin_units()\n        except", PERFORM_ORDER, "place"),
-    "any-number-of-requests": ("driver/execution", "if len(given) > limit:", "if False:", PERFORM, "that_is_refused"),
+    "any-number-of-requests": ("driver/execution", "if len(run.requests) > limit:", "if False:", PERFORM, "that_is_refused"),
     "a-cancelled-batch-goes-on": ("driver/waits", 'return self._is_cancelled or getattr(asyncio.current_task(), "cancelling", int)() > 0', "return False", PERFORM_ORDER, "cancellation"),
     "a-request-that-is-lost": ("driver/waits", 'return self._is_cancelled or getattr(asyncio.current_task(), "cancelling", int)() > 0', "return True", PERFORM, "something_else"),
     "a-cancellation-leaves-tasks": ("driver/waits", "while self._out:", "if self._out:", PERFORM_ORDER, "however_often"),
@@ -70,8 +70,8 @@ DEFECTS = {
     "half-a-group": ("client/_builder", "del self._requests[begun:]", "pass", BUILDING, "block_that_fails"),
     "digits-of-a-decimal": ("documents/encoding", "raise _HasDecimal", "return float(value)", BUILDING, "bodies"),
     "digits-of-an-answer": (
-        "http/batches", "body.encode() if is_json(own)", "json.dumps(json.loads(body)).encode() if is_json(own)",
-        SENDING, "bodies",
+        "http/batches", "body if is_json(own) or not body",
+        "(body and json.dumps(json.loads(body)).encode()) if is_json(own) or not body", SENDING, "bodies",
     ),
     "what-depends-on-a-failure": (
         "client/_parts", "if all(number in self._sound for number in unit.needs):", "if True:", SENDING, "depends_on_a_failure",

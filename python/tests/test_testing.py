@@ -9,7 +9,7 @@ from hypothesis import Phase, find, given, settings
 from hypothesis import strategies as st
 
 from odb_batch import Answer, Fault, canon, check, match, replay, run
-from odb_batch.errors.faults import explanations
+from odb_batch.errors.faults import explain
 from odb_batch.testing import Scripted, batches, events, faulty_batches, outcomes
 from odb_batch.testing._faulty import CHANGES
 from odb_batch.testing._strategies import covered_ids
@@ -67,7 +67,7 @@ class TestStrategies:
 
     @pytest.mark.slow
     def test_each_fault_is_drawn(self):
-        assert set(CHANGES) == {code for code in explanations() if "F10" <= code < "F50"}
+        assert set(CHANGES) == {code for code in (f"F{number}" for number in range(10, 50)) if explain(code).name}
         assert {code for _, code, _ in drawn(faulty_batches(max_requests=4), 500)} == set(CHANGES)
 
     @share(40)

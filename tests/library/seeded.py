@@ -16,15 +16,19 @@ ROOM = 4_000_000
 
 
 def answer(name, documents, numbers, requests):
-    """What a call writes, which has to be done; of odb_run_open the response of the run."""
+    """What a call writes, which has to be done; of a run that is opened its response."""
     if name in ("odb_faults", "odb_requests"):
         listed = library.call_faults if name == "odb_faults" else library.call_requests
         status, _, found = listed(*documents, ROOM, requests)
         assert (status, len(found)) == (library.DONE, 0 if name == "odb_faults" else requests), name
         return ""
     handle = library.Handle()
-    place = (ctypes.byref(handle),) if name == "odb_run_open" else ()
-    status, text = library.call(name, documents, (*numbers, *place), ROOM)
+    place = (ctypes.byref(handle),) if name.startswith("odb_run_open") else ()
+    if name == "odb_run_open_requests":
+        status, _, found = library.call_open(*documents, (*numbers, *place), ROOM, requests)
+        assert len(found) == requests, name
+    else:
+        status, text = library.call(name, documents, (*numbers, *place), ROOM)
     assert status == library.DONE, name
     if place:
         status, text = library.call("odb_run_response", (), place, ROOM)

@@ -29,7 +29,12 @@ def compile_c(program, standard, sources, library, *flags):
     run("cc", *common, *flags, "-o", program, *paths, os.path.join(library, "libodb_batch.a"))
 
 
-@pytest.mark.parametrize("tests", ["calls", "faults", "live", "places", "positions", "requests", "steps", "targets", "units"])
+PROGRAMS = (
+    "calls", "explanations", "faults", "live", "openings", "places", "positions", "requests", "responses", "steps", "targets", "units",
+)  # fmt: skip
+
+
+@pytest.mark.parametrize("tests", PROGRAMS)
 @pytest.mark.parametrize("way", ["plain", *SLOW_WAYS])
 def test_calls(tests, way, library, tmp_path):
     flags, words = WAYS[way]

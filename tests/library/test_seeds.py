@@ -21,28 +21,26 @@ LINES, STOP, STRICT = 0, 1, 1
 NOTHING_LEFT = '{"requests":[]}\n'  # of a batch whose requests have all succeeded
 
 # The commands, each with the options of its calls; a replay comes in each order.
-COMMANDS = [("check", ()), ("plan", ()), ("canon", ()), ("match", ()), ("run", POLICY)]
+COMMANDS = [("check", ()), ("plan", ()), ("canon", ()), ("run", POLICY)]
 COMMANDS += [("replay", (*POLICY, order, 0)) for order in range(3)]
 
 # Each function with a seed: the kinds of its documents, its numbers, and the command that prints what it writes.
 CALLS = [
-    (name, contents.KINDS[command], numbers, command)
-    for command, options in COMMANDS
-    for name, numbers in ((f"odb_{command}", options), (f"odb_{command}_as", (*options, LINES)))
+    (f"odb_{command}_as", contents.KINDS[command], (*options, LINES), command) for command, options in COMMANDS
 ]
 CALLS += [
-    ("odb_check_all", ("batch",), (), "check"),
     ("odb_check_all_as", ("batch",), (LINES,), "check"),
     ("odb_match_with", contents.KINDS["match"], (STOP, STRICT, LINES), "match"),
     ("odb_rest", contents.KINDS["match"], (STOP, LINES), None),
     ("odb_faults", ("batch",), (), None),
     ("odb_requests", ("batch",), (), None),
     ("odb_run_open", ("batch", "events"), POLICY, "run"),
+    ("odb_run_open_requests", ("batch", "events"), POLICY, "run"),
 ]
 WRITTEN = {"odb_rest": NOTHING_LEFT, "odb_faults": "", "odb_requests": ""}
 # The calls from Python to C for each of them, the first of which is it: then its text is copied; of a run the response is
 # asked, copied, and the run closed. Before all of them the version is asked.
-FOREIGN, BEFORE = {"odb_run_open": 5}, 1
+FOREIGN, BEFORE = {"odb_run_open": 5, "odb_run_open_requests": 5}, 1
 
 pytestmark = [pytest.mark.slow, pytest.mark.needs("cc", "valgrind")]
 

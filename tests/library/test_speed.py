@@ -71,7 +71,7 @@ def test_a_check_costs_little_more_than_reading_the_batch(compiled, tmp_path):
     (tmp_path / "batch").write_bytes(document_of(1_000))
     counts, _ = counts_of(tmp_path, compiled("speed", NAMED), tmp_path / "batch", "0")
     listing = run("callgrind_annotate", "--inclusive=yes", "--threshold=100", counts)
-    assert_within(counted(listing, "odb_check"), sum(counted(listing, name) for name in READING), MOST_OF_CHECK)
+    assert_within(counted(listing, "odb_check_as"), sum(counted(listing, name) for name in READING), MOST_OF_CHECK)
 
 
 @pytest.mark.slow

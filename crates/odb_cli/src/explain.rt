@@ -1,44 +1,17 @@
 //! The explanations of the faults, by code or name.
 
-mod documents;
-mod names;
-mod records;
-mod requests;
-mod responses;
-mod runs;
-
 use crate::page::Page;
-
-/// Returns the explanations, in the order of their codes. The first line of each has the code, the name
-/// and the places of its fault. They are the texts of docs/faults.md, which is compared with what the
-/// program prints of each document there.
-fn families() -> [&'static [&'static str]; 6] {
-    [
-        &documents::FAULTS,
-        &requests::FAULTS,
-        &names::FAULTS,
-        &records::FAULTS,
-        &responses::FAULTS,
-        &runs::FAULTS,
-    ]
-}
+use odb_explain::FAULTS;
 
 /// Splits a text at the first of these characters, which neither part has.
 fn split(text: &str, end: char) -> (&str, &str) {
     text.split_once(end).unwrap_or((text, ""))
 }
 
-/// Adds the first lines of these explanations.
-fn add_headings(page: &mut Page, texts: &[&str]) {
-    for text in texts {
-        page.add_all(&[split(text, '\n').0, "\n"]);
-    }
-}
-
 /// Adds the code, the name and the places of all faults.
 pub fn add_table(page: &mut Page) {
-    for family in families() {
-        add_headings(page, family);
+    for text in &FAULTS {
+        page.add_all(&[split(text, '\n').0, "\n"]);
     }
 }
 
@@ -57,9 +30,9 @@ fn add_explanation(page: &mut Page, text: &str) {
     page.add_all(&[text, "\n"]);
 }
 
-/// Adds those of these explanations whose faults have this code or name.
-fn add_named(page: &mut Page, texts: &[&str], word: &str) {
-    for text in texts {
+/// Adds the explanations of the faults that have this code or name.
+fn add_named(page: &mut Page, word: &str) {
+    for text in &FAULTS {
         if is_named(text, word) {
             add_explanation(page, text);
         }
@@ -68,12 +41,7 @@ fn add_named(page: &mut Page, texts: &[&str], word: &str) {
 
 /// Tests whether a fault has this code or name.
 fn is_known(word: &str) -> bool {
-    for family in families() {
-        if family.iter().any(|text| is_named(text, word)) {
-            return true;
-        }
-    }
-    false
+    FAULTS.iter().any(|text| is_named(text, word))
 }
 
 /// Returns the first of these words that is not the code or the name of a fault.
@@ -84,8 +52,6 @@ pub fn first_unknown<'a>(words: &[&'a str]) -> Option<&'a str> {
 /// Adds the explanations of the faults that have these codes or names, word by word.
 pub fn add_explanations(page: &mut Page, words: &[&str]) {
     for word in words {
-        for family in families() {
-            add_named(page, family, word);
-        }
+        add_named(page, word);
     }
 }

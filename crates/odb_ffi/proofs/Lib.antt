@@ -5,6 +5,7 @@ mod OutcomeLemmas
 mod PositionLemmas
 mod ReportedLemmas
 mod RequestLemmas
+mod ResponseLemmas
 mod ReturnLemmas
 mod SessionLemmas
 mod TargetLemmas

@@ -3,10 +3,13 @@ pub mod Returns
 pub mod Options
 pub mod Positions
 pub mod Live
+pub mod Openings
 pub mod Next
 pub mod Units
 pub mod Lists
 pub mod Requests
+pub mod Responses
+pub mod Explanations
 pub mod Faults
 pub mod Targets
 pub mod Places

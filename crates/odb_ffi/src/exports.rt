@@ -1,8 +1,7 @@
 //! The calls of the commands for C.
 //!
-//! A slice is a pointer and then a length for C, and `alloc` is nothing. Each call has a second one, as
-//! [`odb_check_as`], that also takes a form: 0 for lines, as the first writes, and 1 for one line of JSON, as
-//! `--json` of the command writes. [`odb_match_with`] takes a mode and a flag beside the form.
+//! A slice is a pointer and then a length for C, and `alloc` is nothing. A form is 0 for lines, and 1 for one line of JSON, as
+//! `--json` of the command writes.
 //!
 //! A call sets `text_length` to the length of the text, and returns
 //! - 0 if the text is the result, and 1 if it is the line of a fault, or of each: then `text` begins with it;
@@ -14,17 +13,13 @@
 //! `seed`; 0 is no seed, and look-ups take O(log n) comparisons. The documents are not copied.
 
 ghost use Rattle.std.specs.Prelude.{◌≡◌, [], true, false};
-ghost use Rattle.odb_sched.specs.declared.policy.Mode.TheVariants as modes;
-ghost use Rattle.odb_engine.specs.declared.form.Form.TheVariants as forms;
 ghost use Rattle.odb_engine.specs.declared.tasks.task.Task.TheVariants as tasks;
 ghost use Rattle.odb_ffi.specs.Options as options;
 ghost use Rattle.odb_ffi.specs.Returns.{Does, Returns, ReturnsBy};
 
-use crate::answer::{answer, answer_as, wrong_option};
+use crate::answer::{answer_as, wrong_option};
 use crate::options::{match_of, mode_of, replay_of, run_of};
-use odb_engine::Form::Lines;
-use odb_engine::Task::{Canon, Check, Match, Plan, Rest};
-use odb_sched::Mode;
+use odb_engine::Task::{Canon, Check, Plan, Rest};
 use std::alloc::Global;
 
 /// The version of the library, MAJOR.MINOR.PATCH, as MAJOR * 10000 + MINOR * 100 + PATCH.
@@ -36,22 +31,6 @@ pub extern "C" fn odb_version() -> u32
 }
 
 /// Checks the batch in a document, as `odb_batch check` does.
-#[unsafe(no_mangle)]
-pub extern "C" fn odb_check(
-    alloc: Global,
-    batch: &[u8],
-    text: &mut [u8],
-    text_length: &mut usize,
-    seed: u64,
-) -> u32
-    ensures { Returns (Does (tasks.Check false) forms.Lines batch.now [])
-        result text_length.new text.old text.new }
-{
-    let check = Check { all: false };
-    answer(alloc, batch, b"", check, Lines, seed, text, text_length)
-}
-
-/// Does what [`odb_check`] does, and writes the text in a form.
 #[unsafe(no_mangle)]
 pub extern "C" fn odb_check_as(
     alloc: Global,
@@ -69,23 +48,7 @@ pub extern "C" fn odb_check_as(
     answer_as(alloc, batch, b"", check, form, seed, text, text_length)
 }
 
-/// Does what [`odb_check`] does, and of a batch that is refused writes all its faults, as `odb_batch check --all` does.
-#[unsafe(no_mangle)]
-pub extern "C" fn odb_check_all(
-    alloc: Global,
-    batch: &[u8],
-    text: &mut [u8],
-    text_length: &mut usize,
-    seed: u64,
-) -> u32
-    ensures { Returns (Does (tasks.Check true) forms.Lines batch.now [])
-        result text_length.new text.old text.new }
-{
-    let check = Check { all: true };
-    answer(alloc, batch, b"", check, Lines, seed, text, text_length)
-}
-
-/// Does what [`odb_check_all`] does, and writes the text in a form.
+/// Does what [`odb_check_as`] does, and of a batch that is refused writes all its faults, as `odb_batch check --all` does.
 #[unsafe(no_mangle)]
 pub extern "C" fn odb_check_all_as(
     alloc: Global,
@@ -105,22 +68,6 @@ pub extern "C" fn odb_check_all_as(
 
 /// Plans the batch in a document, as `odb_batch plan` does.
 #[unsafe(no_mangle)]
-pub extern "C" fn odb_plan(
-    alloc: Global,
-    batch: &[u8],
-    text: &mut [u8],
-    text_length: &mut usize,
-    seed: u64,
-) -> u32
-    ensures { Returns (Does (tasks.Plan false) forms.Lines batch.now [])
-        result text_length.new text.old text.new }
-{
-    let plan = Plan { full: false };
-    answer(alloc, batch, b"", plan, Lines, seed, text, text_length)
-}
-
-/// Does what [`odb_plan`] does, and writes the text in a form.
-#[unsafe(no_mangle)]
 pub extern "C" fn odb_plan_as(
     alloc: Global,
     batch: &[u8],
@@ -139,21 +86,6 @@ pub extern "C" fn odb_plan_as(
 
 /// Makes the canonical text of the batch in a document, as `odb_batch canon` does. It is the same in each form.
 #[unsafe(no_mangle)]
-pub extern "C" fn odb_canon(
-    alloc: Global,
-    batch: &[u8],
-    text: &mut [u8],
-    text_length: &mut usize,
-    seed: u64,
-) -> u32
-    ensures { Returns (Does tasks.Canon forms.Lines batch.now [])
-        result text_length.new text.old text.new }
-{
-    answer(alloc, batch, b"", Canon, Lines, seed, text, text_length)
-}
-
-/// Does what [`odb_canon`] does, and writes the text in a form.
-#[unsafe(no_mangle)]
 pub extern "C" fn odb_canon_as(
     alloc: Global,
     batch: &[u8],
@@ -170,64 +102,9 @@ pub extern "C" fn odb_canon_as(
 }
 
 /// Matches the response document of a service against the batch in a document, as `odb_batch match` does.
-#[unsafe(no_mangle)]
-pub extern "C" fn odb_match(
-    alloc: Global,
-    batch: &[u8],
-    responses: &[u8],
-    text: &mut [u8],
-    text_length: &mut usize,
-    seed: u64,
-) -> u32
-    ensures { Returns (Does (tasks.Match modes.Continue false) forms.Lines batch.now responses.now)
-        result text_length.new text.old text.new }
-{
-    let mode = Mode::Continue;
-    let strict = false;
-    answer(
-        alloc,
-        batch,
-        responses,
-        Match { mode, strict },
-        Lines,
-        seed,
-        text,
-        text_length,
-    )
-}
-
-/// Does what [`odb_match`] does, and writes the text in a form.
-#[unsafe(no_mangle)]
-pub extern "C" fn odb_match_as(
-    alloc: Global,
-    batch: &[u8],
-    responses: &[u8],
-    form: u32,
-    text: &mut [u8],
-    text_length: &mut usize,
-    seed: u64,
-) -> u32
-    ensures { ReturnsBy (options.IsForm form)
-        (λ form. Returns (Does (tasks.Match modes.Continue false) form batch.now responses.now))
-        result text_length.new text.old text.new }
-{
-    let mode = Mode::Continue;
-    let strict = false;
-    answer_as(
-        alloc,
-        batch,
-        responses,
-        Match { mode, strict },
-        form,
-        seed,
-        text,
-        text_length,
-    )
-}
-
-/// Does what [`odb_match_as`] does, of a service in a mode: `mode` is 0 for one that continues after an error, and
-/// 1 for one that stops at its first error, as `odb_batch match --stop` does. With `strict` 1, as `odb_batch match
-/// --strict` does, some finished run has to answer the statuses; 0 asks no more than [`odb_match_as`].
+///
+/// `mode` is 0 for a service that continues after an error, and 1 for one that stops at its first error, as `odb_batch match
+/// --stop` does. With `strict` 1, as `odb_batch match --strict` does, some finished run has to answer the statuses; with 0 not.
 #[unsafe(no_mangle)]
 pub extern "C" fn odb_match_with(
     alloc: Global,
@@ -287,32 +164,10 @@ pub extern "C" fn odb_rest(
     }
 }
 
-/// Runs the batch in a document by the recorded events in another, as `odb_batch run` does. The response is
-/// the same in each form.
+/// Runs the batch in a document by the recorded events in another, as `odb_batch run` does. The response is the same
+/// in each form.
 ///
 /// `mode` is 0 to continue after an error and 1 to stop, and `width` is from 1 to 10,000.
-#[unsafe(no_mangle)]
-pub extern "C" fn odb_run(
-    alloc: Global,
-    batch: &[u8],
-    events: &[u8],
-    mode: u32,
-    width: u32,
-    text: &mut [u8],
-    text_length: &mut usize,
-    seed: u64,
-) -> u32
-    ensures { ReturnsBy (options.IsRun mode width)
-        (λ task. Returns (Does task forms.Lines batch.now events.now))
-        result text_length.new text.old text.new }
-{
-    match run_of(mode, width) {
-        Some(task) => answer(alloc, batch, events, task, Lines, seed, text, text_length),
-        None => wrong_option(text_length),
-    }
-}
-
-/// Does what [`odb_run`] does, and writes the text in a form.
 #[unsafe(no_mangle)]
 pub extern "C" fn odb_run_as(
     alloc: Global,
@@ -339,32 +194,8 @@ pub extern "C" fn odb_run_as(
 /// Replays the batch in a document by the recorded outcomes in another, as `odb_batch replay` does. The response
 /// and the trace are the same in each form.
 ///
-/// `mode` and `width` are those of [`odb_run`]. `order` is 0 for `first`, 1 for `last` and 2 for `wide`, and
+/// `mode` and `width` are those of [`odb_run_as`]. `order` is 0 for `first`, 1 for `last` and 2 for `wide`, and
 /// `trace` is 1 to write the trace before the response, else 0.
-#[unsafe(no_mangle)]
-pub extern "C" fn odb_replay(
-    alloc: Global,
-    batch: &[u8],
-    outcomes: &[u8],
-    mode: u32,
-    width: u32,
-    order: u32,
-    trace: u32,
-    text: &mut [u8],
-    text_length: &mut usize,
-    seed: u64,
-) -> u32
-    ensures { ReturnsBy (options.IsReplay mode width order trace)
-        (λ task. Returns (Does task forms.Lines batch.now outcomes.now))
-        result text_length.new text.old text.new }
-{
-    match replay_of(mode, width, order, trace) {
-        Some(task) => answer(alloc, batch, outcomes, task, Lines, seed, text, text_length),
-        None => wrong_option(text_length),
-    }
-}
-
-/// Does what [`odb_replay`] does, and writes the text in a form.
 #[unsafe(no_mangle)]
 pub extern "C" fn odb_replay_as(
     alloc: Global,

@@ -5,17 +5,19 @@
 //! engine states. A call of a command keeps nothing; a live run is a handle that its caller closes.
 //! `include/odb_batch.h` declares the exports for C.
 //!
-//! [`exports`], [`fault_exports`], [`place_exports`], [`request_exports`], [`resolve_exports`], [`run_exports`] and
-//! [`unit_exports`] have the exports alone. What they do over slices and numbers is beside them: `options` and `status` name the
+//! [`exports`], [`explain_exports`], [`fault_exports`], [`open_exports`], [`place_exports`], [`request_exports`],
+//! [`resolve_exports`], [`response_exports`], [`run_exports`] and [`unit_exports`] have the exports alone. What they do over slices and numbers is beside them: `options` and `status` name the
 //! numbers, `answer` does a task and copies a text to the caller's buffer, `live` and `units` drive a run, `next` says which step it
-//! takes next, `requests` copies what is to be sent, `faults` all faults, and `targets` says where a request is sent. [`request`] is one request, [`fault`] one
-//! fault, and [`position`] where an element begins. What needs a pointer is in `address`, [`handle`], `lent` and [`slot`].
+//! takes next, `requests` copies what is to be sent, `responses` what a service has answered, `faults` all faults, `explanations` what a fault means, and `targets` says where a
+//! request is sent. [`request`] is one request, [`response`] one response, [`fault`] one fault, and [`position`] where an element begins. What needs a pointer is in `address`, [`handle`], `lent` and [`slot`].
 //! What holds of every list of calls on a live run is in [`laws`].
 #![tactic(auto)]
 
 mod address;
 mod answer;
 mod buffer;
+pub mod explain_exports;
+mod explanations;
 pub mod exports;
 pub mod fault;
 pub mod fault_exports;
@@ -26,6 +28,7 @@ pub mod laws;
 mod lent;
 mod live;
 mod next;
+pub mod open_exports;
 pub mod options;
 mod outcome;
 pub mod place_exports;
@@ -35,6 +38,9 @@ pub mod request;
 pub mod request_exports;
 mod requests;
 pub mod resolve_exports;
+pub mod response;
+pub mod response_exports;
+mod responses;
 pub mod run_exports;
 pub mod slot;
 pub mod status;

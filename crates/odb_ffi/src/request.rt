@@ -34,7 +34,7 @@ pub struct Request {
 
 impl Part {
     /// Returns the part that a span is.
-    fn of(span: Span) -> Part
+    pub(crate) fn of(span: Span) -> Part
         ensures { result ≡ calls.part_of span }
     {
         Part {
@@ -44,7 +44,7 @@ impl Part {
     }
 
     /// Returns the part that a span is, if there is one.
-    fn of_some(span: Option<Span>) -> Part
+    pub(crate) fn of_some(span: Option<Span>) -> Part
         ensures { result ≡ calls.part_if span }
     {
         match span {

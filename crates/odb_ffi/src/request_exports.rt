@@ -14,7 +14,7 @@ use std::alloc::Global;
 ///
 /// Sets `count` to the number of requests, and `text_length` to the length of the text. Returns 0, and `text` and
 /// `requests` begin with them; or 5 if one of them has too little room, and both are as they were. Of a batch that is
-/// refused `count` is 0 and `requests` is as it was, and it returns what [`crate::exports::odb_check`] does: 1,
+/// refused `count` is 0 and `requests` is as it was, and it returns what [`crate::exports::odb_check_as`] does: 1,
 /// and `text` begins with the line of the fault, or 5 if that is longer than `text`. If an allocation fails it returns 4,
 /// both numbers are 0, and both buffers are as they were.
 #[unsafe(no_mangle)]

@@ -55,7 +55,7 @@ fn opened(
 /// held before is forgotten. Otherwise `run` is as it was: returns 1 if a document is refused, if an
 /// event names no request, or if one may not come, and `text` begins with the line of the fault; 5 if
 /// the line is longer than `text`, and `text_length` is its length; 2 if `mode` or `width` is none of
-/// those of [`crate::exports::odb_run`]; and 4 if an allocation fails.
+/// those of [`crate::exports::odb_run_as`]; and 4 if an allocation fails.
 #[unsafe(no_mangle)]
 pub extern "C" fn odb_run_open(
     alloc: Global,
@@ -192,7 +192,7 @@ pub extern "C" fn odb_run_report(
     live::report(run.live(), alloc, position, status, headers, body)
 }
 
-/// Gives the step that a replay in the same order, that of [`crate::exports::odb_replay`], takes next: 1 in `step` for
+/// Gives the step that a replay in the same order, that of [`crate::exports::odb_replay_as`], takes next: 1 in `step` for
 /// the start of the request at `position`, 2 for its report, and 0 if the run is finished; then `position` is as it
 /// was.
 ///
@@ -227,7 +227,7 @@ pub extern "C" fn odb_run_finished(run: &mut Handle) -> u32
 
 /// Writes the ids of the requests, one a line, in the order of their positions.
 ///
-/// The arguments and the status are those of [`crate::exports::odb_check`]. Takes O(n) for ids of n bytes.
+/// The arguments and the status are those of [`crate::exports::odb_check_as`]. Takes O(n) for ids of n bytes.
 #[unsafe(no_mangle)]
 pub extern "C" fn odb_run_ids(
     alloc: Global,
@@ -242,9 +242,9 @@ pub extern "C" fn odb_run_ids(
     give(live::ids(run.live(), alloc), text, text_length)
 }
 
-/// Writes what [`crate::exports::odb_run`] writes after the same events, but with each reported body as it
+/// Writes what [`crate::exports::odb_run_as`] writes after the same events, but with each reported body as it
 /// is: the response and a newline, or the line of F66 if the run is not finished. The arguments and the
-/// status are those of [`crate::exports::odb_check`].
+/// status are those of [`crate::exports::odb_check_as`].
 ///
 /// Nothing is read again: takes O(n) for a text of n bytes.
 #[unsafe(no_mangle)]

@@ -3,7 +3,7 @@
 from functools import partial
 from typing import Any, Literal, Optional, get_args
 
-from ..errors.faults import Fault, Position
+from ..errors.faults import Fault, Position, Refused, explain
 from ..errors.findings import Findings
 from . import library
 
@@ -16,7 +16,9 @@ MAX_WIDTH = 10_000
 MORE = 256
 #: How many requests a batch may have.
 MAX_REQUESTS = 10_000
-# How short a request may be in a document.
+# The letters of the codes of causes, by the tens of their statuses: 11 is S1, and 21 is P1.
+_FIRST_CAUSES = {1: "S", 2: "P"}
+# How short a request or a response may be in a document.
 _SHORTEST = 32
 
 
@@ -54,6 +56,15 @@ def read_text(name: str, *documents: bytes, options: tuple[Any, ...] = (), more:
     if status == library.REFUSED:
         raise read_fault(text, *documents)
     raise status_error(name, status)
+
+
+def refused_error(status: int, request_id: str) -> Optional[Refused]:
+    """Returns the exception for a status by which a start or a report is refused; None for another status."""
+    first = _FIRST_CAUSES.get(status // 10)
+    if first is None or status % 10 == 0:
+        return None
+    code = f"{first}{status % 10}"
+    return Refused(code, explain(code).name, request_id)
 
 
 def read_fault(line: bytes, *documents: bytes) -> Fault:

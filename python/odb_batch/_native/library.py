@@ -20,6 +20,9 @@ NONE = 2 ** (8 * ctypes.sizeof(ctypes.c_size_t)) - 1
 # How many numbers an odb_request has: a start and a length for each of seven parts, and a position.
 _OF_REQUEST = 15
 
+# How many numbers an odb_response has: a start and a length for each of four parts, and a status.
+_OF_RESPONSE = 9
+
 # How many numbers an odb_position has: a line, a column and an offset.
 _OF_POSITION = 3
 
@@ -41,34 +44,30 @@ _NUMBER = [ctypes.c_uint32]
 _SIZE = ctypes.POINTER(ctypes.c_size_t)
 _TEXT = [ctypes.c_void_p, ctypes.c_size_t, _SIZE]
 _SEEDED = [*_TEXT, ctypes.c_uint64]
-_LIST = [ctypes.c_void_p, ctypes.c_size_t, _SIZE, ctypes.c_uint64]
+_ITEMS = [ctypes.c_void_p, ctypes.c_size_t, _SIZE]
+_LIST = [*_ITEMS, ctypes.c_uint64]
 _RUN = [ctypes.POINTER(Handle)]
 _PLACE = ctypes.POINTER(ctypes.c_uint32)
 _POSITIONS = [ctypes.POINTER(ctypes.c_uint32), ctypes.c_size_t, _SIZE]
 
 # The parameters of each function.
 _PARAMETERS: dict[str, list[Any]] = {
-    "odb_check": [*_BYTES, *_SEEDED],
-    "odb_plan": [*_BYTES, *_SEEDED],
-    "odb_canon": [*_BYTES, *_SEEDED],
-    "odb_match": [*_BYTES, *_BYTES, *_SEEDED],
-    "odb_run": [*_BYTES, *_BYTES, *_NUMBER * 2, *_SEEDED],
-    "odb_replay": [*_BYTES, *_BYTES, *_NUMBER * 4, *_SEEDED],
     "odb_check_as": [*_BYTES, *_NUMBER, *_SEEDED],
-    "odb_check_all": [*_BYTES, *_SEEDED],
     "odb_check_all_as": [*_BYTES, *_NUMBER, *_SEEDED],
     "odb_plan_as": [*_BYTES, *_NUMBER, *_SEEDED],
     "odb_canon_as": [*_BYTES, *_NUMBER, *_SEEDED],
-    "odb_match_as": [*_BYTES, *_BYTES, *_NUMBER, *_SEEDED],
     "odb_match_with": [*_BYTES, *_BYTES, *_NUMBER * 3, *_SEEDED],
     "odb_rest": [*_BYTES, *_BYTES, *_NUMBER * 2, *_SEEDED],
     "odb_run_as": [*_BYTES, *_BYTES, *_NUMBER * 3, *_SEEDED],
     "odb_replay_as": [*_BYTES, *_BYTES, *_NUMBER * 5, *_SEEDED],
+    "odb_explain": [*_BYTES, *_TEXT],
     "odb_where": [*_BYTES, *_BYTES, ctypes.c_void_p],
     "odb_faults": [*_BYTES, *_TEXT, *_LIST],
     "odb_requests": [*_BYTES, *_TEXT, *_LIST],
+    "odb_responses": [*_BYTES, *_TEXT, *_ITEMS],
     "odb_resolve": [*_BYTES * 5, *_NUMBER, *_TEXT],
     "odb_run_open": [*_BYTES, *_BYTES, *_NUMBER * 2, *_RUN, *_SEEDED],
+    "odb_run_open_requests": [*_BYTES, *_BYTES, *_NUMBER * 2, *_RUN, *_TEXT, *_LIST],
     "odb_run_ready": [*_RUN, *_POSITIONS],
     "odb_run_running": [*_RUN, *_POSITIONS],
     "odb_run_undone": [*_RUN, *_POSITIONS],
@@ -159,12 +158,21 @@ except ImportError as error:
 _SEED = secrets.randbits(64)
 
 
+def _sized(documents: tuple[bytes, ...]) -> list[Any]:
+    """The arguments for documents: each and its length."""
+    return [part for document in documents for part in (document, len(document))]
+
+
+def _seed(name: str) -> tuple[int, ...]:
+    """The last argument of a function, if that is the seed."""
+    return (_SEED,) if _PARAMETERS[name][-1] is ctypes.c_uint64 else ()
+
+
 def call(name: str, documents: tuple[bytes, ...], options: tuple[Any, ...], room: int) -> tuple[int, bytes]:
     """Calls a function that writes a text; returns its status and the text. `room` is a guess of how long that is."""
     function: Callable[..., int] = getattr(LIBRARY, name)
     length = ctypes.c_size_t()
-    sized = [part for document in documents for part in (document, len(document))]
-    seed = (_SEED,) if _PARAMETERS[name][-1] is ctypes.c_uint64 else ()
+    sized, seed = _sized(documents), _seed(name)
     while True:
         text = ctypes.create_string_buffer(room)
         status = function(*sized, *options, text, room, ctypes.byref(length), *seed)
@@ -173,29 +181,46 @@ def call(name: str, documents: tuple[bytes, ...], options: tuple[Any, ...], room
         room = length.value
 
 
-def _call_list(name: str, width: int, batch: bytes, room: int, most: int) -> tuple[int, bytes, list[tuple[int, ...]]]:
-    """Calls a function that lists what a batch has: its status, the text, and so many numbers for each. `room` and `most`
-    are guesses of how long the text and the list are."""
+#: The status of a call that lists what a document has, the text, and the numbers of each element of the list.
+Listed = tuple[int, bytes, list[tuple[int, ...]]]
+
+
+def _call_list(
+    name: str, width: int, documents: tuple[bytes, ...], room: int, most: int, options: tuple[Any, ...] = ()
+) -> Listed:
+    """Calls a function that lists what a document has, with so many numbers for each element. `room` and `most` are guesses of
+    how long the text and the list are."""
     function: Callable[..., int] = getattr(LIBRARY, name)
     length, count = ctypes.c_size_t(), ctypes.c_size_t()
     sizes = ctypes.byref(length), ctypes.byref(count)
+    sized, seed = _sized(documents), _seed(name)
     while True:
         text, numbers = ctypes.create_string_buffer(room), (ctypes.c_size_t * (width * max(most, 1)))()
-        status = function(batch, len(batch), text, room, sizes[0], numbers, most, sizes[1], _SEED)
+        status = function(*sized, *options, text, room, sizes[0], numbers, most, sizes[1], *seed)
         if status != SMALL_BUFFER:
             found = iter(numbers[: width * count.value])
             return status, ctypes.string_at(text, length.value), list(zip(*[found] * width))
         room, most = max(length.value, room), max(count.value, most)
 
 
-def call_requests(batch: bytes, room: int, most: int) -> tuple[int, bytes, list[tuple[int, ...]]]:
-    """The status of a call for the requests of a batch, the text, and the numbers of each request."""
-    return _call_list("odb_requests", _OF_REQUEST, batch, room, most)
+def call_requests(batch: bytes, room: int, most: int) -> Listed:
+    """Lists what is to be sent of the requests of a batch."""
+    return _call_list("odb_requests", _OF_REQUEST, (batch,), room, most)
 
 
-def call_faults(batch: bytes, room: int, most: int) -> tuple[int, bytes, list[tuple[int, ...]]]:
-    """The status of a call for the faults of a batch, the text, and the numbers of each fault."""
-    return _call_list("odb_faults", _OF_FAULT, batch, room, most)
+def call_open(batch: bytes, events: bytes, options: tuple[Any, ...], room: int, most: int) -> Listed:
+    """Opens a run, and lists what is to be sent of the requests of its batch."""
+    return _call_list("odb_run_open_requests", _OF_REQUEST, (batch, events), room, most, options)
+
+
+def call_responses(document: bytes, room: int, most: int) -> Listed:
+    """Lists the responses in the document of a service."""
+    return _call_list("odb_responses", _OF_RESPONSE, (document,), room, most)
+
+
+def call_faults(batch: bytes, room: int, most: int) -> Listed:
+    """Lists the faults of a batch."""
+    return _call_list("odb_faults", _OF_FAULT, (batch,), room, most)
 
 
 def call_where(document: bytes, place: bytes) -> tuple[int, list[int]]:

@@ -2,7 +2,7 @@
 
 import json
 from dataclasses import dataclass
-from typing import Optional, Sequence
+from typing import Any, Optional, Sequence
 
 from .._native import library
 from .._native.calls import MORE, likely_count, read_fault, status_error
@@ -71,9 +71,20 @@ def requests(batch: Document) -> tuple[Request, ...]:
         MemoryError: An allocation failed.
     """
     document = document_bytes(batch)
-    status, text, parts = library.call_requests(document, len(document) + MORE, likely_count(document))
+    return _read("odb_requests", library.call_requests(document, len(document) + MORE, likely_count(document)), document)
+
+
+def open_requests(batch: bytes, events: bytes, options: tuple[Any, ...]) -> tuple[Request, ...]:
+    """Opens a run after events, by the options of ``odb_run_open``; returns what :func:`requests` does. The batch is read once."""
+    listed = library.call_open(batch, events, options, len(batch) + MORE, likely_count(batch))
+    return _read("odb_run_open_requests", listed, batch, events)
+
+
+def _read(name: str, listed: library.Listed, *documents: bytes) -> tuple[Request, ...]:
+    """Returns the requests that a function has listed of documents; raises what else it returns."""
+    status, text, parts = listed
     if status == library.REFUSED:
-        raise read_fault(text, document)
+        raise read_fault(text, *documents)
     if status != library.DONE:
-        raise status_error("odb_requests", status)
-    return tuple(_request(document, text, numbers, parts) for numbers in parts)
+        raise status_error(name, status)
+    return tuple(_request(documents[0], text, numbers, parts) for numbers in parts)

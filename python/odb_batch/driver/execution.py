@@ -6,13 +6,13 @@ from typing import Callable, Generator, Optional, Sequence, Union
 from .._native.calls import MAX_WIDTH, Mode
 from ..commands import plan
 from ..documents.encoding import Report, Start
-from ..documents.requests import requests
+from ..documents.requests import Request
 from ..errors.faults import Fault, Refused
 from ..http.bodies import text_json, to_json
 from ..http.messages import (
     FAILED, LOG, Answer, Answered, GroupFailed, PreparedRequest, Refusal, answer_for, validate_answer,
 )  # fmt: skip
-from ..runs import Run
+from ..runs import ListedRun
 from .groups import SKIPPED, MemberRefused, PreparedGroup
 from .journal import Journal, JournalEvent, ReportUnit, StartUnit, Stop
 from .references import ReferenceResolver
@@ -97,22 +97,17 @@ class Execution:
         journal: Optional[Journal] = None,
     ) -> None:
         require_limit(limit)
-        given = requests(batch)
-        if len(given) > limit:
-            raise Refusal(413, "BatchTooLong", f"A batch may have {limit} requests")
-        has_groups = any(request.group is not None for request in given)
-        if has_groups and not (has_transactions or sends_groups):
-            raise Refusal(501, "NoGroups", "Atomicity groups are not supported here")
+        happened = journal.events if journal is not None else ()
+        # What was out before may be more than the width is now.
+        self._run = _open(batch, mode, MAX_WIDTH if happened else width, limit, has_transactions or sends_groups)
+        given = self._run.requests
         self._requests = {request.id: request for request in given}
         self.resolver, self._stop, self._journal = ReferenceResolver(given, base, roots), stop, journal
-        self._plan = plan(batch) if has_groups and sends_groups else None
+        self._plan = plan(batch) if sends_groups and _has_groups(given) else None
         # Whether nothing more starts: since that was asked for, and in mode stop after an error.
         self._is_stopped, self._has_failed, self._mode = False, False, mode
         # How many requests are of units that have not begun.
         self._left = len(given)
-        happened = journal.events if journal is not None else ()
-        # What was out before may be more than the width is now.
-        self._run = Run(batch, mode=mode, width=MAX_WIDTH if happened else width)
         try:
             self.resumed = self._resume(happened)
         except (Fault, Refused, LookupError, TypeError, ValueError) as error:
@@ -386,6 +381,23 @@ class Execution:
             return self._run.response()
         except Fault:
             raise RuntimeError("a request was started, and its answer could not be reported") from None
+
+
+def _has_groups(requests: Sequence[Request]) -> bool:
+    return any(request.group is not None for request in requests)
+
+
+def _open(batch: bytes, mode: Mode, width: int, limit: int, keeps_groups: bool) -> ListedRun:
+    """Opens the run of a batch; raises Refusal if that has too many requests, or groups that cannot be kept."""
+    run = ListedRun(batch, mode=mode, width=width)
+    if len(run.requests) > limit:
+        refusal = Refusal(413, "BatchTooLong", f"A batch may have {limit} requests")
+    elif not keeps_groups and _has_groups(run.requests):
+        refusal = Refusal(501, "NoGroups", "Atomicity groups are not supported here")
+    else:
+        return run
+    run.close()
+    raise refusal
 
 
 def require_limit(limit: int) -> None:

@@ -5,8 +5,9 @@ from dataclasses import dataclass, replace
 from typing import Mapping
 
 from ..documents.requests import Request
-from ..http.batches import batch_json, request_json, response_members
-from ..http.bodies import is_json
+from ..documents.responses import responses
+from ..http.batches import batch_json, request_json
+from ..http.bodies import is_json, without_mark
 from ..http.messages import Answer, Answered, Refusal, header_dict, validate_answer
 from ..values import Value
 
@@ -71,24 +72,22 @@ class PreparedGroup(Value):
         if answer.status != 200:
             return [answer if not answer.is_success else _BAD_RESPONSE] * len(self.requests)
         try:
-            found = _responses(bytes(answer.body).decode("utf-8-sig"))
+            found = _answers(without_mark(bytes(answer.body)))
             missing = _BAD_RESPONSE if all(answer.is_success for answer in found.values()) else SKIPPED
             return [found.get(request.id, missing) for request in self.requests]
-        except (IndexError, KeyError, TypeError, ValueError, RecursionError, AttributeError):
+        except (TypeError, ValueError, AttributeError):
             return [_BAD_RESPONSE] * len(self.requests)
 
 
-def _responses(text: str) -> dict[str, Answer]:
+def _answers(document: bytes) -> dict[str, Answer]:
     """The answers of a response document by the ids of their requests; raises an exception if it is none."""
     found: dict[str, Answer] = {}
-    for texts in response_members(text):
-        request_id = json.loads(texts["id"])
-        headers = header_dict((json.loads(texts.get("headers", "null")) or {}).items())
-        if request_id in found:
+    for response in responses(document):
+        if response.id in found:
             raise ValueError("a request is answered twice")
-        body = texts.get("body", "null")
-        answer = Answer(json.loads(texts["status"]), headers)
-        if body != "null":
-            answer = Answer(answer.status, headers, body.encode() if is_json(headers) else json.loads(body))
-        found[request_id] = validate_answer(answer)
+        answer = Answer(response.status, header_dict((response.headers or {}).items()))
+        if response.body is not None:
+            body = response.body if is_json(answer.headers) else json.loads(response.body)
+            answer = Answer(answer.status, answer.headers, body)
+        found[response.id] = validate_answer(answer)
     return found

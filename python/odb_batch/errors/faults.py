@@ -1,18 +1,30 @@
 """Why a document is refused, or a start or a report of a live run."""
 
-import json
-import pkgutil
 from functools import cache
 from typing import Callable, NamedTuple, Optional
 
+from .._native import library
 from .findings import Findings
+
+# A guess of how long the explanation of a fault is.
+_LONG = 2048
+
+
+class Explanation(NamedTuple):
+    """What the library says of a code: the name of the fault or the cause, and what it means."""
+
+    name: str
+    meaning: str
 
 
 @cache
-def explanations() -> dict[str, str]:
-    """Returns what each fault and each cause means, by its code: tools/explanations.py makes the file of docs/faults.md."""
-    found: dict[str, str] = json.loads(pkgutil.get_data(__package__, "explanations.json") or b"{}")
-    return found
+def explain(code: str) -> Explanation:
+    """Returns what a code means; nothing of one that is not the code of a fault or a cause."""
+    status, text = library.call("odb_explain", (code.encode("utf-8", "replace"),), (), _LONG)
+    if status != library.DONE:
+        return Explanation("", "")
+    heading, _, rest = text.decode().partition("\n")
+    return Explanation(heading.split(" ")[1], rest.rpartition("\nrefused: ")[0])
 
 
 class Position(NamedTuple):
@@ -47,7 +59,7 @@ class OdbError(Exception):
 
     @property
     def explanation(self) -> str:
-        return explanations().get(self.code, "")
+        return explain(self.code).meaning
 
 
 class Fault(OdbError, ValueError):

@@ -3,17 +3,15 @@
 import contextlib
 import json
 import re
-from typing import Any, Iterable, Iterator, Sequence
+from typing import Any, Iterable, Sequence
 
 from ..documents.requests import Request
+from ..documents.responses import responses
 from .bodies import is_json, media_type, to_wire
 from .messages import Answer, Refusal, header_dict
 
 
 _ENCODER = json.JSONEncoder(ensure_ascii=False, separators=(",", ":"))
-_DECODER = json.JSONDecoder()
-_SPACE = re.compile(r"[ \t\r\n]*").match
-_BODILESS = "null"
 _BASE64 = re.compile(r"[A-Za-z0-9_+/-]*={0,2}").fullmatch
 
 
@@ -41,30 +39,19 @@ def batch_json(elements: Iterable[bytes]) -> bytes:
     return b'{"requests":[%s]}' % b",".join(elements)
 
 
-def read_answers(responses: bytes) -> dict[str, Answer]:
+def read_answers(document: bytes) -> dict[str, Answer]:
     """Returns what each request was answered, by its id: header names in lower case, the body as bytes on the wire.
 
     Args:
-        responses: A response document (OData JSON Format 4.01, section 19.5) that :func:`odb_batch.match` accepts.
+        document: A response document (OData JSON Format 4.01, section 19.5) that :func:`odb_batch.match` accepts.
     """
-    members = list(response_members(responses.decode()))
-    headers = list(map(header_dict, [_header_pairs(json.loads(texts.get("headers", "null"))) for texts in members]))
+    given = responses(document)
+    headers = list(map(header_dict, [_header_pairs(response.headers) for response in given]))
     found = {}
-    for texts, own in zip(members, headers):
-        body = texts.get("body", _BODILESS)
-        wire = b"" if body == _BODILESS else body.encode() if is_json(own) else _wire(body.encode(), own)
-        found[json.loads(texts["id"])] = Answer(json.loads(texts["status"]), own, wire)
+    for response, own in zip(given, headers):
+        body = response.body or b""
+        found[response.id] = Answer(response.status, own, body if is_json(own) or not body else _wire(body, own))
     return found
-
-
-def response_members(responses: str) -> Iterator[dict[str, str]]:
-    """Yields for each response of a document the text of each of its members.
-
-    Raises:
-        ValueError, IndexError, KeyError: It is no response document.
-    """
-    for at in _elements(responses, _members(responses, 0)["responses"][0]):
-        yield {name: responses[slice(*span)] for name, span in _members(responses, at).items()}
 
 
 def _header_pairs(value: Any) -> list[tuple[str, str]]:
@@ -90,37 +77,3 @@ def _is_base64(text: str) -> bool:
     """Whether a text is base64url, or base64, with its ``=`` or without."""
     digits = text.rstrip("=")
     return _BASE64(text) is not None and len(digits) % 4 != 1
-
-
-def _members(text: str, at: int) -> dict[str, tuple[int, int]]:
-    """Where the value of each member is, of the object that begins there."""
-    found, at = {}, _past("{", text, at)
-    while text[at] != "}":
-        name, at = _DECODER.raw_decode(text, at)
-        at = _past(":", text, at)
-        _, end = _DECODER.raw_decode(text, at)
-        found[name] = at, end
-        at = _next(text, end, "}")
-    return found
-
-
-def _elements(text: str, at: int) -> Iterator[int]:
-    """Where the elements begin, of the array that begins there."""
-    at = _past("[", text, at)
-    while text[at] != "]":
-        yield at
-        at = _next(text, _DECODER.raw_decode(text, at)[1], "]")
-
-
-def _past(mark: str, text: str, at: int) -> int:
-    """The place after a mark and what is blank around it; raises ValueError if it is not there."""
-    at = _SPACE(text, at).end()  # type: ignore[union-attr]
-    if not text.startswith(mark, at):
-        raise ValueError(f"{mark} is missing")
-    return _SPACE(text, at + 1).end()  # type: ignore[union-attr]
-
-
-def _next(text: str, at: int, end: str) -> int:
-    """The place of the next element after one, or that of the end."""
-    at = _SPACE(text, at).end()  # type: ignore[union-attr]
-    return at if text.startswith(end, at) else _past(",", text, at)

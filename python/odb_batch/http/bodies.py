@@ -83,10 +83,15 @@ def to_json(answer: Answer, headers: Mapping[str, str]) -> bytes:
     if not wire:
         return b""
     if is_json(headers):
-        return wire[3:] if wire.startswith(b"\xef\xbb\xbf") else wire
+        return without_mark(wire)
     if media_type(headers).startswith("text/"):
         return text_json(wire, headers)
     return b'"%s"' % base64.urlsafe_b64encode(wire).rstrip(b"=")
+
+
+def without_mark(text: bytes) -> bytes:
+    """Returns the bytes of a text without the byte order mark that it may begin with."""
+    return text[len(codecs.BOM_UTF8) :] if text.startswith(codecs.BOM_UTF8) else text
 
 
 def text_json(wire: bytes, headers: Mapping[str, str]) -> bytes:

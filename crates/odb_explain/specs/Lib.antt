@@ -1,0 +1,2 @@
+-- What public clauses cite, and has to be believed.
+pub mod Explanations

@@ -1,0 +1,161 @@
+/* Tries the call that opens a live run and gives what is to be sent of its requests.
+ *
+ * The last line that it prints is `N tries, M wrong`; a wrong one is shown before it. Buffers are blocks of just
+ * their size, so that valgrind and the sanitizers see what goes beyond. */
+
+#include "odb_batch.h"
+
+#include "allocations.h"
+#include "tries.h"
+
+#include <stdio.h>
+#include <stdlib.h>
+#include <string.h>
+
+#define FILLING 0xa5
+#define MOST 2   /* requests of the batch */
+#define ROOM 256 /* more than the text of the batch, and than any line */
+
+#define BATCH "{\"requests\":[{\"id\":\"a\",\"method\":\"post\",\"url\":\"Orders\",\"body\": 9.990 }," \
+    "{\"id\":\"b\",\"method\":\"get\",\"url\":\"$a/Lines\",\"dependsOn\":[\"a\"]}]}"
+#define NONE "{\"events\":[]}"
+#define STARTED "{\"events\":[{\"start\":\"a\"}]}"
+
+/* What the call is passed, and what it returns. */
+struct opening {
+    const char *batch, *events;
+    uint32_t mode, width;
+    odb_live_run run;
+    size_t length, count;
+};
+
+static uint32_t ask(struct opening *it, char *text, size_t room, odb_request *requests, size_t most)
+{
+    return odb_run_open_requests((const uint8_t *)it->batch, strlen(it->batch), (const uint8_t *)it->events, strlen(it->events),
+                                 it->mode, it->width, &it->run, (uint8_t *)text, room, &it->length, requests, most, &it->count, 7);
+}
+
+static void *filled(size_t size)
+{
+    void *block = malloc(size > 0 ? size : 1);
+    if (block == NULL)
+        exit(70);
+    memset(block, FILLING, size);
+    return block;
+}
+
+static int is_unchanged(const void *at, size_t size)
+{
+    const unsigned char *bytes = at;
+    for (size_t i = 0; i < size; i++)
+        if (bytes[i] != FILLING)
+            return 0;
+    return 1;
+}
+
+/* Whether the text and the requests are those that `odb_requests` gives. */
+static int are_requests(const char *text, size_t length, const odb_request *requests, size_t number)
+{
+    char wanted_text[ROOM];
+    odb_request wanted[MOST];
+    size_t wanted_length, wanted_number;
+    return odb_requests((const uint8_t *)BATCH, strlen(BATCH), (uint8_t *)wanted_text, ROOM, &wanted_length, wanted, MOST,
+                        &wanted_number, 7) == ODB_DONE
+        && length == wanted_length && number == wanted_number && memcmp(text, wanted_text, length) == 0
+        && memcmp(requests, wanted, sizeof wanted) == 0;
+}
+
+/* Whether a run that was opened goes on to its response. */
+static int goes_on(odb_live_run *run)
+{
+    char text[ROOM];
+    size_t length;
+    int started = odb_run_start(run, 0) == ODB_DONE && odb_run_report(run, 0, 404, NULL, 0, NULL, 0) == ODB_DONE;
+    const char *wanted = "{\"responses\":[{\"id\":\"a\",\"status\":404},{\"id\":\"b\",\"status\":424}]}\n";
+    return started && odb_run_response(run, (uint8_t *)text, ROOM, &length) == ODB_DONE && length == strlen(wanted)
+        && memcmp(text, wanted, length) == 0;
+}
+
+/* Opens with buffers of each size, of which only the last ones are large enough. */
+static void try_sizes(void)
+{
+    struct opening it = {BATCH, NONE, ODB_CONTINUE, 1, {NULL}, 77, 77};
+    uint32_t asked = ask(&it, NULL, 0, NULL, 0);
+    size_t whole = it.length;
+    count("the sizes", 0, asked == ODB_SMALL_BUFFER && it.count == MOST && whole < ROOM && it.run.at == NULL);
+    for (size_t room = 0; room <= whole + 1; room++) {
+        for (size_t most = 0; most <= MOST + 1; most++) {
+            char *text = filled(room);
+            odb_request *requests = filled(most * sizeof *requests);
+            it.run.at = NULL;
+            uint32_t status = ask(&it, text, room, requests, most);
+            int fits = room >= whole && most >= MOST;
+            int right = it.length == whole && it.count == MOST && status == (fits ? ODB_DONE : ODB_SMALL_BUFFER)
+                && (it.run.at != NULL) == fits;
+            if (fits && right)
+                right = are_requests(text, it.length, requests, it.count) && goes_on(&it.run);
+            right = right && is_unchanged(text + (fits ? whole : 0), fits ? room - whole : room);
+            right = right && is_unchanged(requests + (fits ? MOST : 0), (fits ? most - MOST : most) * sizeof *requests);
+            count("a size", (long)(room * 10 + most), right);
+            if (it.run.at != NULL)
+                odb_run_close(it.run);
+            free(requests);
+            free(text);
+        }
+    }
+}
+
+static void try_events(void)
+{
+    char text[ROOM];
+    odb_request requests[MOST];
+    struct opening it = {BATCH, STARTED, ODB_CONTINUE, 1, {NULL}, 77, 77};
+    uint32_t running, number, status = ask(&it, text, ROOM, requests, MOST);
+    size_t found;
+    count("after an event", 0, status == ODB_DONE && odb_run_running(&it.run, &running, 1, &found) == ODB_DONE && found == 1
+          && running == 0 && odb_run_state(&it.run, 1, &running, &number) == ODB_DONE && running == ODB_STATE_WAITING);
+    odb_run_close(it.run);
+}
+
+/* Opens what may not be opened. */
+static void try_refused(const char *batch, const char *events, uint32_t mode, uint32_t width, uint32_t wanted, const char *line)
+{
+    char text[ROOM];
+    odb_request *requests = filled(MOST * sizeof *requests);
+    struct opening it = {batch, events, mode, width, {NULL}, 77, 77};
+    uint32_t status = ask(&it, text, ROOM, requests, MOST);
+    count("refused", (long)wanted, status == wanted && it.run.at == NULL && it.count == 0 && it.length == strlen(line)
+          && memcmp(text, line, it.length) == 0 && is_unchanged(requests, MOST * sizeof *requests));
+    free(requests);
+}
+
+/* Has each allocation fail in turn. */
+static void try_memory(void)
+{
+    char text[ROOM];
+    odb_request requests[MOST];
+    for (long after = 0;; after++) {
+        struct opening it = {BATCH, STARTED, ODB_CONTINUE, 1, {NULL}, 77, 77};
+        refuse_after(after, 1);
+        uint32_t status = ask(&it, text, ROOM, requests, MOST);
+        if (!allow_all()) {
+            count("with all memory", after, status == ODB_DONE && it.count == MOST);
+            odb_run_close(it.run);
+            return;
+        }
+        count("without memory", after, status == ODB_OUT_OF_MEMORY && it.length == 0 && it.count == 0 && it.run.at == NULL);
+    }
+}
+
+int main(void)
+{
+    try_sizes();
+    try_events();
+    try_refused("{\"requests\":7}", NONE, ODB_STOP, 1, ODB_REFUSED, "fault F04 NoRequests batch\n");
+    try_refused(BATCH, "{\"events\":[{\"start\":\"b\"}]}", ODB_STOP, 1, ODB_REFUSED, "fault S4 Waiting /events/0\n");
+    try_refused(BATCH, NONE, 2, 1, ODB_WRONG_OPTION, "");
+    try_refused(BATCH, NONE, ODB_STOP, 0, ODB_WRONG_OPTION, "");
+    try_refused(BATCH, NONE, ODB_STOP, ODB_MAX_WIDTH + 1, ODB_WRONG_OPTION, "");
+    try_memory();
+    return ended();
+}
