@@ -6,7 +6,7 @@ does, is not compared, but for whether it is there.
 """
 
 import re
-from typing import Any, Callable, Iterator, Mapping, NamedTuple, Optional, Sequence, Union
+from typing import Any, Callable, Iterator, Mapping, NamedTuple, Sequence, Union
 from urllib.parse import quote, urlsplit
 
 from ._entities import Entities, Entity
