@@ -15,6 +15,7 @@ const words = Array.from(lines.matchAll(/[^ \\n]+/g)).filter(([word]) => word !=
 const numbersOf = ({ 0: word, index }, at) => [index, word.length, ...(at % 3 === 2 ? [1, 1, Number(offset)] : [])]
 const exports = {
   call: () => [1, Buffer.from(lines)],
+  explain: (code) => [0, Buffer.from(code + ' Name\\nMeaning.\\nrefused: a case')],
   faults: () => [1, Buffer.from(lines), Float64Array.from(words.flatMap(numbersOf))],
 }
 require.cache[require.resolve(root + '/node/library/index.js')] = { id: 'stub', loaded: true, exports }

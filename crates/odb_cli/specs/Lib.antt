@@ -1,3 +1,2 @@
 -- What contracts of the program cite.
-pub mod LineTasks
 pub mod Options

@@ -16,7 +16,6 @@ mod explain;
 mod log;
 mod man;
 mod names;
-mod numbered;
 mod page;
 mod parser;
 mod progress;
@@ -26,7 +25,7 @@ use clap::error::ErrorKind;
 use command_line::{BadArguments, CommandLine};
 use ending::{Status, failed, out_of_memory};
 pub use engines::Terminals;
-use engines::{Environment, answer_documents};
+use engines::{Environment, answer_job};
 use log::answer_log;
 use odb_check::Seed;
 use std::process::ExitCode;
@@ -74,7 +73,7 @@ fn perform<R: Runtime + AllocGlobal>(rt: &R, environment: Environment, args: &[S
     match CommandLine::read(rt.alloc(), args) {
         Ok(CommandLine::Answer(job)) => match job.log {
             Some(options) => answer_log(rt, environment, job, options),
-            None => answer_documents(rt, environment, job),
+            None => answer_job(rt, environment, job),
         },
         Ok(CommandLine::Print(text)) => texts::print(rt, &text),
         Err(wrong) => reject(rt, &wrong),

@@ -6,9 +6,10 @@ use crate::command_line::{Job, LogOptions};
 use crate::devices::{open, writer_of};
 use crate::ending::{Status, finish, out_of_memory};
 use crate::engines::{Environment, Terminals};
-use crate::numbered::NumberedLines;
 use crate::progress::Watched;
-use odb_engine::{Disposal, Ended, EngineFault, LineCommand, LineInput, Setup, answer_lines};
+use odb_engine::{
+    Disposal, EachLine, Ended, EngineFault, Faults, LineCommand, LineInput, Setup, answer_lines,
+};
 use odb_io::Output;
 use std::alloc::Global;
 use std::io::{BufWriter, Read, Write};
@@ -18,17 +19,24 @@ use std::rt::Runtime;
 const BUFFER_BYTES: usize = 65_536;
 
 /// Returns the command on each line of a log. It frees the memory of a line before the next one.
-fn command_of<'n>(environment: Environment, job: Job<'n>, options: LogOptions) -> NumberedLines<'n>
+fn command_of<'n>(environment: Environment, job: Job<'n>, options: LogOptions) -> EachLine<'n>
     ensures task { result.task ≡ job.entry.task }
     ensures form { result.setup.form ≡ job.entry.form }
-    ensures numbered { result.numbered ≡ options.numbered }
+    ensures numbered { result.setup.faults.numbered ≡ options.numbered }
+    ensures located { result.setup.faults.located ≡ job.entry.located }
 {
-    let setup = Setup {
-        disposal: Disposal::Drop,
-        ..environment.setup(job.form)
+    let faults = Faults {
+        numbered: options.numbered,
+        located: job.located,
     };
-    let located = job.located.then_some(job.first.name());
-    NumberedLines::new(job.task, setup, options.numbered, located)
+    EachLine {
+        task: job.task,
+        setup: Setup {
+            disposal: Disposal::Drop,
+            ..environment.setup(job.form, faults)
+        },
+        name: job.first.name(),
+    }
 }
 
 /// Answers each line of a reader, and flushes the output at the end.

@@ -1,10 +1,8 @@
 //! Shows the progress of a log on standard error.
 
-ghost use Rattle.std.specs.Prelude.{option_map};
-ghost use Rattle.odb_cli.specs.LineTasks.{OfNumbered};
+ghost use Rattle.odb_engine.specs.lines.Numbers.{OfNumbered};
 
-use crate::numbered::NumberedLines;
-use odb_engine::{Ended, EngineFault, LineCommand};
+use odb_engine::{EachLine, Ended, EngineFault, LineCommand};
 use odb_io::Output;
 use std::alloc::Global;
 use std::cell::Cell;
@@ -25,7 +23,7 @@ struct Counts {
 #[derive(Drop)]
 pub struct Watched<'r, 'n, R> {
     rt: &'r R,
-    command: NumberedLines<'n>,
+    command: EachLine<'n>,
     begun: Instant,
     /// The second that was shown last, counted from the start.
     shown: Cell<u64>,
@@ -38,7 +36,7 @@ impl<'r, 'n, R: Runtime> Watched<'r, 'n, R> {
     /// # Errors
     ///
     /// If the clock cannot be read.
-    pub fn new(rt: &'r R, command: NumberedLines<'n>) -> io::Result<Self> {
+    pub fn new(rt: &'r R, command: EachLine<'n>) -> io::Result<Self> {
         let counts = Counts {
             lines: 0,
             refused: 0,
@@ -101,8 +99,8 @@ impl<'r, 'n, R: Runtime> Watched<'r, 'n, R> {
 }
 
 impl<'r, 'n, R: Runtime> LineCommand for Watched<'r, 'n, R> {
-    ghost writes = { λ self number line. OfNumbered self.command.numbered
-        (option_map (λ name. name.now) self.command.located) self.command.task number line
+    ghost writes = { λ self number line. OfNumbered self.command.setup.faults.numbered
+        self.command.setup.faults.located self.command.name.now self.command.task number line
         self.command.setup.form };
 
     fn answer<W: Write>(

@@ -136,13 +136,6 @@ pub lists-in : {E : Type 0} (all : Bool) (P : WritesIn) (Are : List Printed → 
 lists-in all P Are form refusals found (Ok answer) so are is = lists-found all P Are form refusals found so are answer.ended answer.text.items is
 lists-in all P Are form refusals found (Err error) so are is = tt
 
--- an engine that ends so
-pub ends-listed : {W : Type 0} (contents : W → Option (List ℕ)) (all : Bool) (P : WritesIn) (Are : List Printed → Type 0) (form : Form) (refusals : List Printed) (ReadFailed : Type 0) (old new : Writing W) (found : FoundText) (result : Result Ended EngineFault)
-    → Found P form found → (all ≡ true → IfErr found (Halted (λ _. Are refusals))) → ((found ≡ Err halts.Read) ↔ ReadFailed) → Ends contents (listed_found all form refusals found) (found ≡ Err halts.Read) old new result
-    → Ends contents (Lists all P Are form) ReadFailed old new result
-ends-listed contents all P Are form refusals ReadFailed old new found result so are read is =
-    Ends-weaker contents (listed_found all form refusals found) (Lists all P Are form) _ ReadFailed old new result (lists-found all P Are form refusals found so are) read is
-
 -- ---- a fault that is noted
 
 -- the halt, or out of memory for its fault

@@ -142,19 +142,10 @@ Ends-weaker contents P Q F G old new result to read is = record {
 pub printed : (P : Writes) (line : List ℕ) → P Done line → (ended : Ended) (text : List ℕ) → Prints line ended text → P ended text
 printed P line so ended text (ends, same) = subst (λ e. P e text) (sym ends) (subst (P Done) (sym same) so)
 
--- what is written of what was found is what may be written
-pub answered : (form : Form) (P : WritesIn) (found : FoundText) → Found P form found → (ended : Ended) (text : List ℕ) → text_found form found ended text → P form ended text
-answered form P (Ok found) so ended text prints = printed (P form) (string_bytes found) so ended text prints
-answered form P (Err (halts.Refused refusal)) so ended text (ends, line) = subst (λ e. P form e text) (sym ends) (subst (P form Refused) (sym line) so)
-answered form P (Err halts.Read) so ended text none = absurd none
-answered form P (Err halts.OutOfMemory) so ended text none = absurd none
-
--- an engine that ends by what was found
-pub Ends-found : {W : Type 0} (contents : W → Option (List ℕ)) (form : Form) (P : WritesIn) (ReadFailed : Type 0) (old new : Writing W) (found : FoundText) (result : Result Ended EngineFault)
-    → Found P form found → ((found ≡ Err halts.Read) ↔ ReadFailed) → Ends contents (text_found form found) (found ≡ Err halts.Read) old new result → Ends contents (P form) ReadFailed old new result
-Ends-found contents form P ReadFailed old new found result so read is =
-    Ends-weaker contents (text_found form found) (P form) _ ReadFailed old new result (answered form P found so) read is
-
 abbrev pub halt_in : {T : Type 0} → Result T Halt → Halt
 halt_in (Ok value) = halts.Read
 halt_in (Err halt) = halt
+
+-- what comes with one thing comes with what comes with that
+pub both-ways : {P Q R : Type 0} → (P ↔ Q) → (Q ↔ R) → P ↔ R
+both-ways first other = (λ p. other.0 (first.0 p), λ r. first.1 (other.1 r))

@@ -111,3 +111,11 @@ IsInEither batch_name batch second_name second place name position =
 -- what is written of both documents, with where a fault is
 abbrev pub LocatesPair : Task → List ℕ → List ℕ → List ℕ → List ℕ → WritesIn
 LocatesPair task batch_name batch second_name second = Locates (Answers (OfTask task batch (InMemory second)) batch) (IsInEither batch_name batch second_name second)
+
+-- what is written of both documents by a task that takes two, and else of the first, with where a fault is
+abbrev pub LocatesEach : Bool → Task → List ℕ → List ℕ → List ℕ → List ℕ → WritesIn
+LocatesEach false task batch_name batch second_name second = LocatesTask task batch_name None batch
+LocatesEach true task batch_name batch second_name second = LocatesPair task batch_name batch second_name second
+
+abbrev pub LocatesDocuments : Task → List ℕ → List ℕ → List ℕ → List ℕ → WritesIn
+LocatesDocuments task = LocatesEach (takes_second task) task

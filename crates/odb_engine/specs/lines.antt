@@ -2,5 +2,6 @@
 pub mod Lines
 pub mod Sources
 pub mod Answers
+pub mod Numbers
 -- For invariants and private clauses.
 pub mod Steps

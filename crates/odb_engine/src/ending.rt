@@ -5,11 +5,12 @@ ghost use Rattle.odb_doc.specs.Refusals.{printed};
 ghost use Rattle.odb_engine.specs.declared.ending.EngineFault.TheVariants as faults;
 ghost use Rattle.odb_engine.specs.declared.halt.Halt.TheVariants as halts;
 ghost use Rattle.odb_engine.specs.Engines.{Ends};
-ghost use Rattle.odb_engine.specs.Answered.{listed_found, refused_text};
+ghost use Rattle.odb_engine.specs.Answered.{answer_found, refused_text};
 ghost use Rattle.odb_engine.specs.Forms.{fault_text, faults_text};
 
 use crate::form::Form;
 use crate::halt::Halt;
+use crate::tasks::answer::Answer;
 use odb_doc::Refusal;
 use odb_io::{DeviceFault, Output};
 use odb_text::{fault_json, fault_line, fault_lines, faults_json};
@@ -94,31 +95,21 @@ pub(crate) fn refused_text(
     }
 }
 
-/// Writes what was found, or the fault, or all faults if they are listed, and returns how the engine ended.
-pub fn end<W: Write>(
-    alloc: Global,
-    form: Form,
-    all: bool,
-    found: Result<String, Halt>,
-    faults: &[Refusal],
+/// Writes an answer, and returns how the engine ended.
+pub(crate) fn end<W: Write>(
+    found: Result<Answer, Halt>,
     output: &mut Output<W>,
 ) -> Result<Ended, EngineFault>
     requires { output.old.failed ≡ false }
-    ensures ends { Ends W.contents (listed_found all form (map printed faults.now) found) (found ≡ Err halts.Read)
+    ensures ends { Ends W.contents (answer_found found) (found ≡ Err halts.Read)
         output.old output.new result }
     ensures memory { result ≡ Err EngineFault.OutOfMemory → output.new ≡ output.old }
 {
-    let (ended, text) = match found {
-        Ok(text) => (Ended::Done, text),
-        Err(Halt::Refused(refusal)) => {
-            (
-                Ended::Refused,
-                refused_text(alloc, form, all, refusal, faults)?,
-            )
-        }
+    let answer = match found {
+        Ok(answer) => answer,
         Err(Halt::Read) => return Err(EngineFault::Read),
-        Err(Halt::OutOfMemory) => return Err(EngineFault::OutOfMemory),
+        Err(_) => return Err(EngineFault::OutOfMemory),
     };
-    output.put_text(&text)?;
-    Ok(ended)
+    output.put_all(&answer.text)?;
+    Ok(answer.ended)
 }

@@ -1,8 +1,9 @@
 //! Reads a document to its end, or one byte beyond the limit.
 
-ghost use Rattle.std.specs.Prelude.{◌≡◌, ◌≢◌, ◌≤◌, ◌↔◌, false, option_map, IsTrue, IfOk, IfErr, Err};
+ghost use Rattle.std.specs.Prelude.{◌≡◌, ◌≢◌, ◌≤◌, ◌↔◌, false, option_map, IsTrue, IfOk, IfErr, IfSome, Err, None};
+ghost use Rattle.serde_json.specs.Data.{Data};
 ghost use Rattle.serde_json.specs.View.{view};
-ghost use Rattle.odb_doc.specs.Documents.{IsDocument};
+ghost use Rattle.odb_doc.specs.Documents.{IsDocument, IsJson};
 ghost use Rattle.odb_doc.specs.Faults.{document_row};
 ghost use Rattle.odb_engine.specs.Cascade.{RefusesBytes, at_place};
 ghost use Rattle.odb_engine.specs.Halts.{Halted, HaltsBy};
@@ -10,8 +11,9 @@ ghost use Rattle.odb_engine.specs.Inputs.{GivesDocument, GivesFew, WasRead};
 ghost use Rattle.odb_engine.specs.declared.halt.Halt.TheVariants as halts;
 
 use crate::halt::Halt;
-use odb_doc::{DocFault, Fault, MAX_DOCUMENT_BYTES, Place, Refusal, parse};
+use odb_doc::{DocFault, Fault, MAX_DOCUMENT_BYTES, Place, Refusal};
 use odb_io::Input;
+use odb_spans::{ParseError, parse};
 use serde_json::Value;
 use std::alloc::Global;
 use std::io::Read;
@@ -68,6 +70,30 @@ fn halt_at(fault: DocFault, place: Place) -> Halt
     }
 }
 
+/// Returns the value of the document in these bytes; `place` is the place of its fault. If it is not JSON, `error` gets
+/// where the parser stopped.
+///
+/// # Errors
+///
+/// `Refused` if they are too long or not JSON; `OutOfMemory` if an allocation fails. Never `Read`.
+pub(crate) fn value_or_error(
+    alloc: Global,
+    bytes: &[u8],
+    place: Place,
+    error: &mut Option<ParseError>,
+) -> Result<Value, Halt>
+    requires { error.old ≡ None }
+    ensures value { IfOk result (λ value. IsDocument bytes.now (view value)) }
+    ensures fault { IfErr result (Halted (RefusesBytes place bytes.now)) }
+    ensures error { IfSome error.new (λ _. (d : Data) → ¬ IsJson bytes.now d) }
+    ensures read { result ≢ Err halts.Read }
+{
+    match parse(alloc, bytes, error) {
+        Ok(value) => Ok(value),
+        Err(fault) => Err(halt_at(fault, place)),
+    }
+}
+
 /// Returns the value of the document in these bytes; `place` is the place of its fault.
 ///
 /// # Errors
@@ -78,8 +104,5 @@ pub fn value_in(alloc: Global, bytes: &[u8], place: Place) -> Result<Value, Halt
     ensures fault { IfErr result (Halted (RefusesBytes place bytes.now)) }
     ensures read { result ≢ Err halts.Read }
 {
-    match parse(alloc, bytes) {
-        Ok(value) => Ok(value),
-        Err(fault) => Err(halt_at(fault, place)),
-    }
+    value_or_error(alloc, bytes, place, &mut None)
 }

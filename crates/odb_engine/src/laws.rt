@@ -69,7 +69,7 @@ pub fn one_document()
 /// the bytes and the form. A full plan has places of bodies, and a rest has bodies, of which no law states that they are the only
 /// ones.
 ///
-/// The relation `OfDocuments` is that of [`crate::answer_task`], and `OfWholeLine` that of [`crate::answer_line`]. `left` is
+/// The relation `OfDocuments` is that of [`crate::answer_documents`], and `OfWholeLine` that of [`crate::answer_line`]. `left` is
 /// what the second reader has left.
 pub fn one_text()
     ensures task { (task : Task) (form : Form) (bytes left : List ℕ) → takes_bytes task ≡ false

@@ -4,7 +4,7 @@
 //! text of a command, or is about what is written of its faults.
 
 mod all_faults;
-mod answer;
+pub(crate) mod answer;
 mod canon;
 mod check;
 pub(crate) mod command;
@@ -15,18 +15,18 @@ mod replay;
 mod response;
 mod rest;
 pub(crate) mod run;
-mod source;
+pub(crate) mod source;
 pub(crate) mod task;
 
 pub use all_faults::faults_in;
 pub use answer::{Answer, answer_in_memory, answer_line};
 pub use canon::canon_batch;
 pub use check::check_batch;
-pub use command::{Command, answer_task, plan_of, text_of};
-pub use located::{Names, answer_located, locate_batch, locate_pair};
+pub use command::{Command, answer_task};
+pub use located::{Names, answer_documents};
 pub use match_responses::match_batch;
 pub use plan::plan_batch;
 pub use replay::replay_batch;
 pub use run::run_batch;
-pub use source::{Document, Source};
+pub use source::{Document, Slice, Source};
 pub use task::Task;

@@ -1,6 +1,6 @@
 //! All faults of a batch whose reader is slow or fails.
 
-use odb_engine::{Ended, EngineFault, Form, Setup, Task, answer_task};
+use odb_engine::{Ended, EngineFault, Form, Names, Setup, Task, answer_documents};
 use odb_io::{Input, Output};
 use odb_testing::PAIR;
 use odb_testing::devices::{Pace, Slow, TURNS};
@@ -9,6 +9,12 @@ use std::alloc::Global;
 /// Two requests with two faults each.
 const FAULTY: &str =
     r#"{"requests":[{"id":"1","method":"get","url":"A","x":1,"headers":3},{"id":"2"}]}"#;
+
+/// The names of documents whose faults are printed without.
+const NAMES: Names<'static> = Names {
+    batch: "",
+    second: "",
+};
 
 /// Documents, and how their check ends and what it writes in a form.
 const ROWS: &'static [(&'static str, Form, Ended, &'static str)] = &[
@@ -58,8 +64,17 @@ fn checked(
         form,
         ..Setup::plain()
     };
-    let (mut none, check): (&[u8], _) = (&[], Task::Check { all: true });
-    let ended = answer_task(alloc, &mut input, &mut none, &mut output, check, setup);
+    let mut none = Input::new(b"".as_slice());
+    let (names, check) = (NAMES, Task::Check { all: true });
+    let ended = answer_documents(
+        alloc,
+        &mut input,
+        &mut none,
+        &mut output,
+        names,
+        check,
+        setup,
+    );
     let written = output.into_inner();
     (
         ended,

@@ -106,9 +106,11 @@ const LOG: &str = r#"{"requests":[{"id":"1","method":"get","url":"A"}]}
 "#;
 
 /// Returns the task on each line, whose answers have this form.
-fn on_each_line(task: Task, form: Form) -> EachLine
+fn on_each_line(task: Task, form: Form) -> EachLine<'static>
     ensures task { result.task ≡ task }
     ensures form { result.setup.form ≡ form }
+    ensures numbered { result.setup.faults.numbered ≡ false }
+    ensures located { result.setup.faults.located ≡ false }
 {
     EachLine {
         task,
@@ -116,6 +118,7 @@ fn on_each_line(task: Task, form: Form) -> EachLine
             form,
             ..Setup::plain()
         },
+        name: "log",
     }
 }
 

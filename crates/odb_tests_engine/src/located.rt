@@ -1,8 +1,6 @@
 //! Faults with where they are: of a line in memory, and of documents whose readers are slow or fail.
 
-use odb_engine::{
-    Ended, EngineFault, Names, Setup, Task, answer_located, locate_batch, locate_pair,
-};
+use odb_engine::{Ended, EngineFault, Faults, Names, Setup, Task, answer_documents, answer_line};
 use odb_io::{Input, Output};
 use odb_sched::Mode;
 use odb_testing::PAIR;
@@ -21,6 +19,17 @@ const NAMES: Names<'static> = Names {
 
 const CHECK: Task = Task::Check { all: false };
 
+/// Returns the setup by which each fault is printed with where it is.
+fn locating() -> Setup {
+    Setup {
+        faults: Faults {
+            numbered: false,
+            located: true,
+        },
+        ..Setup::plain()
+    }
+}
+
 /// Matches `RESPONSES` against `PAIR` by readers of these paces. Returns how that ended, how often each reader was
 /// called, and whether this text was written.
 fn matched(
@@ -35,14 +44,14 @@ fn matched(
         mode: Mode::Continue,
         strict: false,
     };
-    let ended = locate_pair(
+    let ended = answer_documents(
         alloc,
         &mut batch,
         &mut responses,
         &mut output,
         NAMES,
         task,
-        Setup::plain(),
+        locating(),
     );
     let calls = (batch.into_inner().calls, responses.into_inner().calls);
     let written = output.into_inner();
@@ -76,25 +85,27 @@ fn a_fault_of_a_second_document_is_in_that(rt: HostRuntime) {
 fn a_fault_is_in_the_document_of_a_reader(rt: HostRuntime) {
     let document = b"{\"requests\":[\n7]}";
     let mut input = Input::new(Slow::new(document, Pace::steady(TURNS[0])));
+    let mut none = Input::new(Slow::new(b"", Pace::steady(TURNS[0])));
     let mut output = Output::new(Vec::new(rt.alloc()));
-    let ended = locate_batch(
+    let ended = answer_documents(
         rt.alloc(),
         &mut input,
+        &mut none,
         &mut output,
-        "b",
+        NAMES,
         CHECK,
-        Setup::plain(),
+        locating(),
     );
     assert!(rt; ended == Ok(Ended::Refused));
     assert!(rt;
         output.into_inner().as_slice()
-            == b"b:2:1: fault F10 NotRequestObject /requests/0\n".as_slice()
+            == b"batch.json:2:1: fault F10 NotRequestObject /requests/0\n".as_slice()
     );
 }
 
 /// Returns whether the check of line 5 of a log writes this text of a fault.
 fn is_reported(alloc: Global, line: &[u8], text: &str) -> bool {
-    match answer_located(alloc, line, "log", Some(5), CHECK, Setup::plain()) {
+    match answer_line(alloc, "log", 5, line, CHECK, locating()) {
         Ok(answer) => answer.ended == Ended::Refused && answer.text.as_slice() == text.as_bytes(),
         Err(_) => false,
     }

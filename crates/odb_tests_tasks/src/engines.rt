@@ -13,8 +13,8 @@ mod failures;
 
 use odb_check::Seed;
 use odb_engine::{
-    Disposal, Ended, EngineFault, Setup, Task, answer_task, canon_batch, check_batch, match_batch,
-    plan_batch, replay_batch, run_batch,
+    Disposal, Ended, EngineFault, Names, Setup, Task, answer_documents, canon_batch, check_batch,
+    match_batch, plan_batch, replay_batch, run_batch,
 };
 use odb_io::{Input, Output};
 use odb_sched::{Mode, Order, Policy};
@@ -36,6 +36,12 @@ pub const EVENTS: &str =
 pub const FREE: Policy = Policy {
     mode: Mode::Continue,
     width: 10_000,
+};
+
+/// The names of documents whose faults are printed without.
+const NAMES: Names<'static> = Names {
+    batch: "",
+    second: "",
 };
 
 pub const EXAMPLES: [Example; 12] = [
@@ -142,7 +148,7 @@ pub fn called_plainly<R: Read, S: Read, W: Write>(
     match task {
         Task::Canon => canon_batch(alloc, batch, output),
         Task::Run { policy } => run_batch(alloc, batch, second, output, policy),
-        _ => answer_task(alloc, batch, second, output, task, Setup::plain()),
+        _ => answer_documents(alloc, batch, second, output, NAMES, task, Setup::plain()),
     }
 }
 
@@ -180,5 +186,5 @@ fn called<R: Read, S: Read, W: Write>(
         disposal,
         ..Setup::plain()
     };
-    answer_task(alloc, batch, second, output, task, setup)
+    answer_documents(alloc, batch, second, output, NAMES, task, setup)
 }

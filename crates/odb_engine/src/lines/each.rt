@@ -1,37 +1,38 @@
 //! A task on each line.
 
-ghost use Rattle.odb_engine.specs.Tasks.{OfWholeLine};
+ghost use Rattle.odb_engine.specs.lines.Numbers.{OfNumbered};
 
-use crate::ending::{Ended, EngineFault, end};
+use crate::ending::{Ended, EngineFault};
 use crate::lines::command::LineCommand;
-use crate::lines::task::text_of_line;
 use crate::setup::Setup;
-use crate::tasks::command::Command;
+use crate::tasks::answer::answer_line;
 use crate::tasks::task::Task;
 use odb_io::Output;
 use std::alloc::Global;
 use std::io::Write;
 
 /// What is done on each line. What it writes of a line is held in memory until it is whole.
-#[derive(Clone, Copy)]
-pub struct EachLine {
+#[derive(Clone, Copy, Drop)]
+pub struct EachLine<'n> {
     pub task: Task,
     pub setup: Setup,
+    /// The name of the log, as faults are printed with it that are located.
+    pub name: &'n str,
 }
 
-impl LineCommand for EachLine {
-    ghost writes = { λ self _ line. OfWholeLine self.task line self.setup.form };
+impl<'n> LineCommand for EachLine<'n> {
+    ghost writes = { λ self number line. OfNumbered self.setup.faults.numbered self.setup.faults.located
+        self.name.now self.task number line self.setup.form };
 
     fn answer<W: Write>(
         &self,
         alloc: Global,
-        _number: usize,
+        number: usize,
         line: &[u8],
         output: &mut Output<W>,
     ) -> Result<Ended, EngineFault> {
-        let mut faults = Vec::new(alloc);
-        let found = text_of_line(alloc, line, self.task, self.setup, &mut faults);
-        let all = self.task.lists_all();
-        end(alloc, self.setup.form, all, found, &faults, output)
+        let answer = answer_line(alloc, self.name, number, line, self.task, self.setup)?;
+        output.put_all(&answer.text)?;
+        Ok(answer.ended)
     }
 }

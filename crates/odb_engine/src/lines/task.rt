@@ -13,12 +13,13 @@ ghost use Rattle.odb_spans.specs.Positions as spans;
 
 use crate::disposal::DropOrLeak;
 use crate::halt::Halt;
-use crate::input::value_in;
+use crate::input::value_or_error;
 use crate::setup::Setup;
 use crate::tasks::command::{Command, text_in, text_of};
+use crate::tasks::source::Slice;
 use crate::tasks::task::Task;
 use odb_doc::{Place, Refusal};
-use odb_spans::documents_in;
+use odb_spans::{ParseError, documents_in};
 use serde_json::Value;
 use std::alloc::Global;
 
@@ -66,11 +67,15 @@ fn text_of_pair(
     task: Task,
     setup: Setup,
     faults: &mut Vec<Refusal>,
+    error: &mut Option<ParseError>,
 ) -> Result<String, Halt>
+    requires { error.old ≡ None }
     ensures found { Found (OfPair (takes_bytes task) (OfTask task) line.now) setup.form result }
+    ensures error { IfSome error.new (λ _. (d : Data) → ¬ IsJson line.now d) }
     ensures read { result ≢ Err halts.Read }
 {
-    let Some((first, mut second)) = pair_of(value_in(alloc, line, Place::Batch)?) else {
+    let Some((first, mut second)) = pair_of(value_or_error(alloc, line, Place::Batch, error)?)
+    else {
         return Err(NOT_PAIR);
     };
     let first = DropOrLeak {
@@ -91,7 +96,8 @@ fn text_of_pair(
 }
 
 /// Returns what a task writes of a line: of the document in it, or of the two documents in it if the task takes
-/// two. The line may be any bytes; they are not copied. `faults` is that of [`text_of`].
+/// two. The line may be any bytes; they are not copied. `faults` is that of [`text_of`], and `error` gets where the parser
+/// stopped if the line is not JSON.
 ///
 /// # Errors
 ///
@@ -103,16 +109,29 @@ pub fn text_of_line(
     task: Task,
     setup: Setup,
     faults: &mut Vec<Refusal>,
+    error: &mut Option<ParseError>,
 ) -> Result<String, Halt>
-    requires { faults.old.items ≡ [] }
+    requires faults { faults.old.items ≡ [] }
+    requires error { error.old ≡ None }
     ensures found { Found (OfLine task line.now) setup.form result }
+    ensures error { IfSome error.new (λ _. (d : Data) → ¬ IsJson line.now d) }
     ensures listed { lists_all task ≡ true → IfErr result (Halted (λ _.
         AreFaultsIn line.now (map printed faults.new.items))) }
     ensures read { result ≢ Err halts.Read }
 {
     if task.takes_second() {
-        return text_of_pair(alloc, line, task, setup, faults);
+        return text_of_pair(alloc, line, task, setup, faults, error);
     }
-    let (mut line, mut none, mut task): (_, &[u8], _) = (line, &[], task);
-    text_of(alloc, &mut line, &mut none, &mut task, setup, faults)
+    let mut first = Slice {
+        bytes: line,
+        error: None,
+    };
+    let mut none = Slice {
+        bytes: &[],
+        error: None,
+    };
+    let mut task = task;
+    let found = text_of(alloc, &mut first, &mut none, &mut task, setup, faults);
+    *error = first.error;
+    found
 }

@@ -1,19 +1,24 @@
 //! What a command writes, in memory.
 
-ghost use Rattle.std.specs.Prelude.{◌≡◌, ◌≤◌, ◌++◌, ◌↔◌, true, false, length, drop, map, IfOk, IsTrue, string_bytes};
+ghost use Rattle.std.specs.Prelude.{◌≡◌, ◌≤◌, ◌++◌, ◌↔◌, true, false, length, drop, map, Err, IfOk, IsTrue, Ok, string_bytes};
 ghost use Rattle.odb_doc.specs.Refusals.{printed};
 ghost use Rattle.odb_engine.specs.Answered.{listed_found};
 ghost use Rattle.odb_engine.specs.Contents.Given.{InMemory};
 ghost use Rattle.odb_engine.specs.declared.ending.Ended.TheVariants.{Done};
+ghost use Rattle.odb_engine.specs.declared.halt.Halt.TheVariants as halts;
 ghost use Rattle.odb_engine.specs.Halts.{text_found};
+ghost use Rattle.odb_engine.specs.lines.Numbers.{OfLocated, OfNumbered};
 ghost use Rattle.odb_engine.specs.Tasks.{OfDocuments, OfWholeLine};
 
 use crate::ending::{Ended, fault_text, refused_text};
 use crate::form::Form;
 use crate::halt::Halt;
+use crate::lines::number::with_number;
 use crate::lines::text_of_line;
 use crate::setup::Setup;
 use crate::tasks::command::{Command, text_of};
+use crate::tasks::located::answer_located;
+use crate::tasks::source::Slice;
 use crate::tasks::task::Task;
 use odb_doc::Refusal;
 use std::alloc::{AllocError, Global};
@@ -50,26 +55,27 @@ impl Answer {
     ///
     /// # Errors
     ///
-    /// `AllocError` if memory ran out, or if a read failed, which no read of memory does.
+    /// `Read` if and only if that was found; `OutOfMemory` if that was found, or an allocation fails.
     pub(crate) fn listed(
         alloc: Global,
         form: Form,
         all: bool,
         found: Result<String, Halt>,
         faults: &[Refusal],
-    ) -> Result<Self, AllocError>
-        ensures { IfOk result (λ answer. listed_found all form (map printed faults.now) found
+    ) -> Result<Self, Halt>
+        ensures listed { IfOk result (λ answer. listed_found all form (map printed faults.now) found
             answer.ended answer.text.items) }
+        ensures read { (result ≡ Err halts.Read) ↔ (found ≡ Err halts.Read) }
     {
         let (ended, text) = match found {
             Ok(text) => (Ended::Done, text),
-            Err(halt) => {
-                let refusal = halt.refusal()?;
+            Err(Halt::Refused(refusal)) => {
                 (
                     Ended::Refused,
                     refused_text(alloc, form, all, refusal, faults)?,
                 )
             }
+            Err(halt) => return Err(halt),
         };
         Ok(Answer {
             ended,
@@ -105,6 +111,16 @@ impl Answer {
     }
 }
 
+/// Returns the answer that was found of documents in memory, which no read of them fails.
+fn of_memory(found: Result<Answer, Halt>) -> Result<Answer, AllocError>
+    ensures { IfOk result (λ answer. found ≡ Ok answer) }
+{
+    match found {
+        Ok(answer) => Ok(answer),
+        Err(_) => Err(AllocError),
+    }
+}
+
 /// Does a task on a batch document in memory, and on a second document if the task takes one: returns what
 /// is written, in the form of the setup. The documents are not copied.
 ///
@@ -124,7 +140,15 @@ pub fn answer_in_memory(
         answer.ended answer.text.items) }
 {
     let all = task.lists_all();
-    let (mut first, mut second, mut task) = (batch, second, task);
+    let mut first = Slice {
+        bytes: batch,
+        error: None,
+    };
+    let mut second = Slice {
+        bytes: second,
+        error: None,
+    };
+    let mut task = task;
     let mut faults = Vec::new(alloc);
     let found = text_of(
         alloc,
@@ -134,18 +158,11 @@ pub fn answer_in_memory(
         setup,
         &mut faults,
     );
-    Answer::listed(alloc, setup.form, all, found, &faults)
+    of_memory(Answer::listed(alloc, setup.form, all, found, &faults))
 }
 
-/// Does a task on a line of a log: returns what is written of the document in it, or of the two
-/// documents in it if the task takes two, in the form of the setup. The line may be any bytes; they are not copied.
-///
-/// Example: `line_answered` in crates/odb_tests_tasks/src/laws/engines.rt.
-///
-/// # Errors
-///
-/// `AllocError` if an allocation fails.
-pub fn answer_line(
+/// Returns what a task writes of a line, with its faults as they are.
+fn answer_plainly(
     alloc: Global,
     line: &[u8],
     task: Task,
@@ -154,6 +171,57 @@ pub fn answer_line(
     ensures { IfOk result (λ answer. OfWholeLine task line.now setup.form answer.ended answer.text.items) }
 {
     let mut faults = Vec::new(alloc);
-    let found = text_of_line(alloc, line, task, setup, &mut faults);
-    Answer::listed(alloc, setup.form, task.lists_all(), found, &faults)
+    let found = text_of_line(alloc, line, task, setup, &mut faults, &mut None);
+    let all = task.lists_all();
+    of_memory(Answer::listed(alloc, setup.form, all, found, &faults))
+}
+
+/// Returns what a task writes of the line of this number in the log of this name, with where its faults are if they are
+/// located.
+fn answer_unnumbered(
+    alloc: Global,
+    name: &str,
+    number: usize,
+    line: &[u8],
+    task: Task,
+    setup: Setup,
+) -> Result<Answer, AllocError>
+    ensures { IfOk result (λ answer. OfLocated setup.faults.located name.now task number line.now setup.form
+        answer.ended answer.text.items) }
+{
+    if setup.faults.located {
+        answer_located(alloc, line, name, Some(number), task, setup)
+    } else {
+        answer_plainly(alloc, line, task, setup)
+    }
+}
+
+/// Does a task on a line of a log: returns what is written of the document in it, or of the two
+/// documents in it if the task takes two, by the setup. The line may be any bytes; they are not copied.
+///
+/// `name` is that of the log, and `number` that of the line: faults are printed with both if the setup asks for that.
+///
+/// Example: `line_answered` in crates/odb_tests_tasks/src/laws/engines.rt.
+///
+/// # Errors
+///
+/// `AllocError` if an allocation fails.
+pub fn answer_line(
+    alloc: Global,
+    name: &str,
+    number: usize,
+    line: &[u8],
+    task: Task,
+    setup: Setup,
+) -> Result<Answer, AllocError>
+    ensures { IfOk result (λ answer. OfNumbered setup.faults.numbered setup.faults.located name.now task number
+        line.now setup.form answer.ended answer.text.items) }
+{
+    let answer = answer_unnumbered(alloc, name, number, line, task, setup)?;
+    match answer.ended {
+        Ended::Refused if setup.faults.numbered => {
+            with_number(alloc, name, number, setup, &answer.text)
+        }
+        _ => Ok(answer),
+    }
 }

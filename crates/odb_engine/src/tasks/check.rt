@@ -35,7 +35,7 @@ pub fn counts_text(alloc: Global, plan: &Plan<'_>, form: Form) -> Result<String,
 /// Checks the batch in a document: writes the line of its counts, or of its first fault.
 ///
 /// The input must be new, and the output must not have failed. Names are looked up without a seed, and
-/// the document is dropped at the end; [`crate::answer_task`] takes a [`crate::Setup`] for both, and for the
+/// the document is dropped at the end; [`crate::answer_documents`] takes a [`crate::Setup`] for both, and for the
 /// form.
 ///
 /// Takes O(n log n) time and O(n) memory for a document of n bytes.

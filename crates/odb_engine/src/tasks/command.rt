@@ -21,6 +21,7 @@ use crate::ending::{Ended, EngineFault, end};
 use crate::halt::Halt;
 use crate::setup::Setup;
 use crate::tasks::all_faults::{batch_in, noted, plan_in};
+use crate::tasks::answer::Answer;
 use crate::tasks::source::{Document, Source};
 use odb_check::{Plan, check_with};
 use odb_doc::{Batch, Place, Refusal};
@@ -237,5 +238,8 @@ pub fn answer_task<R: Document, S: Source, W: Write, C: Command + Drop>(
     let all = task.lists_all();
     let (mut task, mut faults) = (task, Vec::new(alloc));
     let found = text_of(alloc, first, second, &mut task, setup, &mut faults);
-    end(alloc, setup.form, all, found, &faults, output)
+    end(
+        Answer::listed(alloc, setup.form, all, found, &faults),
+        output,
+    )
 }

@@ -3,32 +3,37 @@
 //! A position can be found only in the bytes of a document, so the documents are held in memory. What a command writes
 //! of good documents is the same, and takes no more time.
 
-ghost use Rattle.std.specs.Prelude.{◌≡◌, ◌↔◌, true, false, Err, IfOk, IsTrue, None, map, string_bytes};
+ghost use Rattle.std.specs.Prelude.{◌≡◌, ◌⊎◌, ◌↔◌, true, false, Err, IfOk, IfSome, IsTrue, None, map, string_bytes};
+ghost use Rattle.serde_json.specs.Data.{Data};
+ghost use Rattle.odb_doc.specs.Documents.{IsJson};
 ghost use Rattle.odb_doc.specs.Refusals.{printed};
 ghost use Rattle.odb_text.specs.Lines.{printed_at};
 ghost use Rattle.odb_engine.specs.declared.halt.Halt.TheVariants as halts;
-ghost use Rattle.odb_engine.specs.Answered.{LocatesFault, answer_found};
+ghost use Rattle.odb_engine.specs.Answered.{LocatesFault};
 ghost use Rattle.odb_engine.specs.Engines.{Ends};
 ghost use Rattle.odb_engine.specs.Inputs.{IsFresh, ReadsFew, SomeDocument};
-ghost use Rattle.odb_engine.specs.Tasks.{lists_all};
-ghost use Rattle.odb_engine.specs.Located.{AreLocated, HasPosition, LocatesBy, LocatesTask, PrintsAll, StandsIn, all_located_text, located_text, numbered};
+ghost use Rattle.odb_engine.specs.Contents.{AskedFor};
+ghost use Rattle.odb_engine.specs.Contents.Given.{ByReader};
+ghost use Rattle.odb_engine.specs.Tasks.{OfDocuments, lists_all};
+ghost use Rattle.odb_engine.specs.Located.{AreLocated, HasPosition, LocatesBy, LocatesDocuments, LocatesTask, PrintsAll, StandsIn, all_located_text, located_text, numbered};
 
 mod pair;
 
-use crate::ending::{Ended, EngineFault};
+use crate::ending::{Ended, EngineFault, end};
 use crate::form::Form;
 use crate::halt::Halt;
 use crate::input::read_document;
 use crate::lines::text_of_line;
 use crate::setup::Setup;
 use crate::tasks::answer::Answer;
-use crate::tasks::command::Command;
+use crate::tasks::command::{Command, answer_task};
 use crate::tasks::task::Task;
 use odb_doc::{Place, Refusal};
 use odb_io::{Input, Output};
-use odb_spans::{Position, position_in_pair, position_of, positions_of};
+use odb_spans::{ParseError, Position, position_by, position_in_pair_by, positions_by};
 use odb_text::{Located, all_located_json, located_json, located_line, located_lines};
-pub use pair::{Names, locate_pair};
+pub use pair::Names;
+use pair::answer_second;
 use std::alloc::{AllocError, Global};
 use std::io::{Read, Write};
 
@@ -58,19 +63,22 @@ fn all_located_text(
     }
 }
 
-/// Returns where a fault is in a document, or in an array of two documents.
+/// Returns where a fault is in a document, or in an array of two documents. `error` is where the parser stopped in it, if
+/// it is not JSON.
 fn found_at(
     alloc: Global,
     document: &[u8],
+    error: Option<ParseError>,
     is_pair: bool,
     place: Place,
 ) -> Result<Position, AllocError>
+    requires { IfSome error (λ _. (d : Data) → ¬ IsJson document.now d) }
     ensures { IfOk result (StandsIn is_pair document.now place) }
 {
     if is_pair {
-        position_in_pair(alloc, document, place)
+        position_in_pair_by(alloc, document, error, place)
     } else {
-        position_of(alloc, document, place)
+        position_by(alloc, document, error, place)
     }
 }
 
@@ -88,13 +96,15 @@ fn numbered(number: Option<usize>, position: Position) -> Position
 fn position_at(
     alloc: Global,
     document: &[u8],
+    error: Option<ParseError>,
     number: Option<usize>,
     is_pair: bool,
     place: Place,
 ) -> Result<Position, AllocError>
+    requires { IfSome error (λ _. (d : Data) → ¬ IsJson document.now d) }
     ensures { IfOk result (HasPosition number is_pair document.now place) }
 {
-    let found = found_at(alloc, document, is_pair, place)?;
+    let found = found_at(alloc, document, error, is_pair, place)?;
     Ok(numbered(number, found))
 }
 
@@ -102,16 +112,18 @@ fn position_at(
 fn locate(
     alloc: Global,
     document: &[u8],
+    error: Option<ParseError>,
     is_pair: bool,
     name: &str,
     number: Option<usize>,
     form: Form,
     refusal: Refusal,
 ) -> Result<Answer, AllocError>
+    requires { IfSome error (λ _. (d : Data) → ¬ IsJson document.now d) }
     ensures { IfOk result (λ answer. LocatesFault (HasPosition number is_pair document.now refusal.place)
         form name.now (printed refusal) answer.ended answer.text.items) }
 {
-    let position = position_at(alloc, document, number, is_pair, refusal.place)?;
+    let position = position_at(alloc, document, error, number, is_pair, refusal.place)?;
     let text = located_text(alloc, form, name, Located { refusal, position })?;
     Ok(Answer {
         ended: Ended::Refused,
@@ -131,12 +143,21 @@ fn answer_of_task(
     ensures { IfOk result (λ answer. LocatesBy false task name.now number document.now setup.form
         answer.ended answer.text.items) }
 {
-    match text_of_line(alloc, document, task, setup, &mut Vec::new(alloc)) {
+    let mut error = None;
+    match text_of_line(
+        alloc,
+        document,
+        task,
+        setup,
+        &mut Vec::new(alloc),
+        &mut error,
+    ) {
         Ok(text) => Ok(Answer::done(text)),
         Err(Halt::Refused(refusal)) => {
             locate(
                 alloc,
                 document,
+                error,
                 task.takes_second(),
                 name,
                 number,
@@ -152,13 +173,15 @@ fn answer_of_task(
 fn all_located(
     alloc: Global,
     document: &[u8],
+    error: Option<ParseError>,
     number: Option<usize>,
     refusals: &[Refusal],
 ) -> Result<Vec<Located>, AllocError>
+    requires { IfSome error (λ _. (d : Data) → ¬ IsJson document.now d) }
     ensures { IfOk result (λ faults. AreLocated number document.now (map printed refusals.now)
         (map printed_at faults.items)) }
 {
-    let positions = positions_of(alloc, document, refusals)?;
+    let positions = positions_by(alloc, document, error, refusals)?;
     let mut faults = Vec::with_capacity(alloc, refusals.len())?;
     for at in 0..refusals.len() {
         faults.push(Located {
@@ -173,15 +196,17 @@ fn all_located(
 fn located_answer(
     alloc: Global,
     document: &[u8],
+    error: Option<ParseError>,
     name: &str,
     number: Option<usize>,
     form: Form,
     refusals: &[Refusal],
 ) -> Result<Answer, AllocError>
+    requires { IfSome error (λ _. (d : Data) → ¬ IsJson document.now d) }
     ensures { IfOk result (λ answer. PrintsAll name.now number document.now form (map printed refusals.now)
         answer.ended answer.text.items) }
 {
-    let faults = all_located(alloc, document, number, refusals)?;
+    let faults = all_located(alloc, document, error, number, refusals)?;
     let text = all_located_text(alloc, form, name, &faults)?;
     Ok(Answer {
         ended: Ended::Refused,
@@ -202,27 +227,22 @@ fn answer_of_all(
     ensures { IfOk result (λ answer. LocatesBy true task name.now number document.now setup.form
         answer.ended answer.text.items) }
 {
-    let mut faults = Vec::new(alloc);
-    match text_of_line(alloc, document, task, setup, &mut faults) {
+    let (mut faults, mut error) = (Vec::new(alloc), None);
+    match text_of_line(alloc, document, task, setup, &mut faults, &mut error) {
         Ok(text) => Ok(Answer::done(text)),
-        Err(Halt::Refused(_)) => {
-            located_answer(alloc, document, name, number, setup.form, &faults)
-        }
+        Err(Halt::Refused(_)) => located_answer(
+            alloc, document, error, name, number, setup.form, &faults,
+        ),
         Err(_) => Err(AllocError),
     }
 }
 
-/// Does a task on a document in memory, or on a line of a log, as [`crate::answer_line`] does: returns what is written, in the form of the setup, and each fault with where it
-/// is in the document: after `NAME:LINE:COLUMN: `, or as the members `line`, `column` and `offset` of its JSON.
+/// Returns what a task writes of a document in memory or of a line of a log, and each fault with where it is.
 ///
 /// `name` is that of the document, or of the log. If the document is a line of a log, `number` is that of the line,
-/// which is reported as the line of each fault; the column and the offset count within it. Of a good document nothing
-/// else is written, and it takes no more time; the positions of all faults are found in O(n) for a document of n bytes.
-///
-/// # Errors
-///
-/// `AllocError` if an allocation fails.
-pub fn answer_located(
+/// which is reported as the line of each fault; the column and the offset count within it. The positions of all faults
+/// are found in O(n) for a document of n bytes.
+pub(crate) fn answer_located(
     alloc: Global,
     document: &[u8],
     name: &str,
@@ -240,67 +260,72 @@ pub fn answer_located(
     }
 }
 
-/// Writes an answer, and returns how the engine ended.
-pub(crate) fn put_answer<W: Write>(
-    found: Result<Answer, Halt>,
-    output: &mut Output<W>,
-) -> Result<Ended, EngineFault>
-    requires { output.old.failed ≡ false }
-    ensures ends { Ends W.contents (answer_found found) (found ≡ Err halts.Read)
-        output.old output.new result }
-    ensures memory { result ≡ Err EngineFault.OutOfMemory → output.new ≡ output.old }
-{
-    let answer = match found {
-        Ok(answer) => answer,
-        Err(Halt::Read) => return Err(EngineFault::Read),
-        Err(_) => return Err(EngineFault::OutOfMemory),
-    };
-    output.put_all(&answer.text)?;
-    Ok(answer.ended)
-}
-
-/// Returns what is written of the document of a reader.
-fn answer_of<R: Read>(
+/// Returns what a task writes of the documents of readers, which have these names, and each fault with where it is.
+fn answer_of<R: Read, S: Read>(
     alloc: Global,
-    input: &mut Input<R>,
-    name: &str,
+    first: &mut Input<R>,
+    second: &mut Input<S>,
+    names: Names<'_>,
     task: Task,
     setup: Setup,
 ) -> Result<Answer, Halt>
-    requires { IsFresh input.old }
-    ensures found { SomeDocument (R.remaining input.old.reader) (λ bytes. IfOk result (λ answer.
-        LocatesTask task name.now None bytes setup.form answer.ended answer.text.items)) }
-    ensures read { (result ≡ Err halts.Read) ↔ IsTrue input.new.failed }
-    ensures few { ReadsFew R.remaining input.old input.new }
+    requires first { IsFresh first.old }
+    requires second { IsFresh second.old }
+    ensures found { SomeDocument (R.remaining first.old.reader) (λ bytes.
+        SomeDocument (S.remaining second.old.reader) (λ other. IfOk result (λ answer. LocatesDocuments task
+        names.entry.batch.now bytes names.entry.second.now other setup.form answer.ended answer.text.items))
+        × AskedFor R.remaining first.old first.new bytes second.old second.new) }
+    ensures read { (result ≡ Err halts.Read) ↔ (IsTrue first.new.failed ⊎ IsTrue second.new.failed) }
+    ensures first { ReadsFew R.remaining first.old first.new }
+    ensures second { ReadsFew S.remaining second.old second.new }
 {
-    let document = read_document(alloc, input)?;
-    Ok(answer_located(alloc, &document, name, None, task, setup)?)
+    let document = read_document(alloc, first)?;
+    if task.takes_second() {
+        return answer_second(alloc, &document, second, names, task, setup);
+    }
+    Ok(answer_located(alloc, &document, names.batch, None, task, setup)?)
 }
 
-/// Does a task on the document of a reader: writes its result, or each fault with where it is in the document of this
-/// name, as [`answer_located`] does.
+/// Does a task on the documents of readers, which have these names: writes its result, or the first fault, or all
+/// faults of the batch document, as the setup asks. The second document is read only if the task takes one, and the
+/// check accepts the batch.
 ///
-/// The input must be new, and the output must not have failed. The document and the text are held in memory.
+/// The inputs must be new, and the output must not have failed. The text is held in memory and written whole; if faults
+/// are located, so are the documents.
+///
+/// Example: `called_plainly` in crates/odb_tests_tasks/src/engines.rt.
 ///
 /// # Errors
 ///
-/// Those of [`crate::check_batch`].
-pub fn locate_batch<R: Read, W: Write>(
+/// Those of [`crate::check_batch`], of either input.
+pub fn answer_documents<R: Read, S: Read, W: Write>(
     alloc: Global,
-    input: &mut Input<R>,
+    first: &mut Input<R>,
+    second: &mut Input<S>,
     output: &mut Output<W>,
-    name: &str,
+    names: Names<'_>,
     task: Task,
     setup: Setup,
 ) -> Result<Ended, EngineFault>
-    requires input { IsFresh input.old }
+    requires first { IsFresh first.old }
+    requires second { IsFresh second.old }
     requires output { output.old.failed ≡ false }
-    ensures ends { SomeDocument (R.remaining input.old.reader) (λ bytes. Ends W.contents
-        (LocatesTask task name.now None bytes setup.form) (IsTrue input.new.failed)
-        output.old output.new result) }
+    ensures plain { setup.faults.located ≡ false → SomeDocument (R.remaining first.old.reader) (λ bytes.
+        Ends W.contents (OfDocuments task (ByReader (S.remaining second.old.reader)) bytes setup.form)
+        (IsTrue first.new.failed ⊎ IsTrue second.new.failed) output.old output.new result
+        × AskedFor R.remaining first.old first.new bytes second.old second.new) }
+    ensures located { setup.faults.located ≡ true → SomeDocument (R.remaining first.old.reader) (λ bytes.
+        SomeDocument (S.remaining second.old.reader) (λ other. Ends W.contents
+        (LocatesDocuments task names.entry.batch.now bytes names.entry.second.now other setup.form)
+        (IsTrue first.new.failed ⊎ IsTrue second.new.failed) output.old output.new result)
+        × AskedFor R.remaining first.old first.new bytes second.old second.new) }
     ensures memory { result ≡ Err EngineFault.OutOfMemory → output.new ≡ output.old }
-    ensures reads { ReadsFew R.remaining input.old input.new }
+    ensures first { ReadsFew R.remaining first.old first.new }
+    ensures second { ReadsFew S.remaining second.old second.new }
 {
-    let found = answer_of(alloc, input, name, task, setup);
-    put_answer(found, output)
+    if !setup.faults.located {
+        return answer_task(alloc, first, second, output, task, setup);
+    }
+    let found = answer_of(alloc, first, second, names, task, setup);
+    end(found, output)
 }

@@ -23,7 +23,6 @@ use crate::setup::Setup;
 use crate::tasks::command::answer_task;
 use crate::tasks::task::Task;
 use odb_check::Plan;
-use odb_doc::Place;
 use odb_io::{Input, Output};
 use odb_reply::{Responses, StatusFault, Table, check_statuses, match_responses};
 use odb_sched::Mode;
@@ -117,7 +116,7 @@ pub fn matched(
 /// The responses fit the batch if each request has exactly one and nothing else has one, if each has
 /// the group of its request, and if no success rests on a failure. The responses are read only if the
 /// check accepts the batch. The inputs must be new, and the output must not have failed.
-/// [`answer_task`] takes a [`Setup`] too, and in [`Task::Match`] the mode of a service that stops at its first error,
+/// [`crate::answer_documents`] takes a [`Setup`] too, and in [`Task::Match`] the mode of a service that stops at its first error,
 /// and whether some finished run has to answer the statuses.
 ///
 /// Takes O(n log n) time and O(n) memory for documents of n bytes.

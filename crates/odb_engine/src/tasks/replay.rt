@@ -181,7 +181,7 @@ impl<'c> Command for Replay<&'c mut dyn Chooser> {
 ///
 /// The inputs must be new, and the output must not have failed. The chooser gives the order, and the
 /// policy whether an error stops the run and how many requests may run at once. The outcomes are read
-/// only if the check accepts the batch. [`answer_task`] takes a [`Setup`] too, and an order by its name.
+/// only if the check accepts the batch. [`crate::answer_documents`] takes a [`Setup`] too, and an order by its name.
 ///
 /// Both documents, the trace and the response are held in memory. If the chooser follows an order, takes
 /// O(n log n) time for n bytes of documents and output; else the chooser is asked at each step.

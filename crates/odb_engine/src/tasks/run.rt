@@ -127,7 +127,7 @@ pub fn ran(
 ///
 /// The inputs must be new, and the output must not have failed. The policy sets whether an error stops
 /// the run and how many requests may run at once. The events are read only if the check accepts the
-/// batch. [`answer_task`] takes a [`Setup`] too.
+/// batch. [`crate::answer_documents`] takes a [`Setup`] too.
 ///
 /// The faults come in this order: those of the batch; those of the events document; F65 of the first
 /// event that names no request; the first event that may not come, with its first cause, S1 to S5 or

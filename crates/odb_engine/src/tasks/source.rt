@@ -1,11 +1,12 @@
 //! What a document comes from: a reader, bytes in memory, or a value in hand.
 
-ghost use Rattle.std.specs.Prelude.{◌≡◌, true};
+ghost use Rattle.std.specs.Prelude.{◌≡◌, None, true};
 
 use crate::halt::Halt;
-use crate::input::{read_document, value_in};
+use crate::input::{read_document, value_in, value_or_error};
 use odb_doc::Place;
 use odb_io::Input;
+use odb_spans::ParseError;
 use serde_json::Value;
 use std::alloc::Global;
 use std::io::Read;
@@ -148,31 +149,52 @@ impl<R: Read> Document for Input<R> {
     }
 }
 
-/// The document in these bytes, which are not copied.
-impl<'b> Source for &'b [u8] {
+/// A document in memory, whose bytes are not copied.
+#[derive(Clone, Copy)]
+pub struct Slice<'b> {
+    pub(crate) bytes: &'b [u8],
+    /// Where the parser stopped in it, if it was read and is not JSON.
+    pub(crate) error: Option<ParseError>,
+}
+
+impl<'b> Slice<'b> {
+    /// Makes a source of a document that was not read yet.
+    pub fn new(bytes: &'b [u8]) -> Self
+        ensures bytes { result.bytes ≡ bytes.entry }
+        ensures unread { result.error ≡ None }
+    {
+        Slice { bytes, error: None }
+    }
+}
+
+impl<'b> Source for Slice<'b> {
+    ghost use Rattle.std.proofs.Common.{subst, sym};
+    ghost use Rattle.std.specs.Prelude.{IfSome, None};
+    ghost use Rattle.serde_json.specs.Data.{Data};
+    ghost use Rattle.odb_doc.specs.Documents.{IsJson};
     ghost use Rattle.odb_engine.specs.Contents.Given.{InMemory};
 
-    ghost given = { λ bytes. InMemory bytes.now };
+    ghost given = { λ slice. InMemory slice.bytes.now };
 
-    ghost is_fresh = { λ _. Unit {0} };
+    ghost is_fresh = { λ slice. slice.error ≡ None };
 
     ghost has_failed = { λ _. ⊥ };
 
     ghost was_read = { λ _ _ _. Unit {0} };
 
-    ghost reads_few = { λ _ _. Unit {0} };
+    ghost reads_few = { λ old new. IfSome new.error (λ _. (d : Data) → ¬ IsJson old.bytes.now d) };
 
     fn value(&mut self, alloc: Global, place: Place) -> Result<Value, Halt> {
-        value_in(alloc, self, place)
+        value_or_error(alloc, self.bytes, place, &mut self.error)
     }
 
-    ghost unread = { λ _ _. tt };
+    ghost unread = { λ source fresh. subst (λ e. IfSome e (λ _. (d : Data) → ¬ IsJson source.bytes.now d)) (sym fresh) tt };
 
     ghost works = { λ _ _ failed. failed };
 }
 
-impl<'b> Document for &'b [u8] {
-    ghost bytes_of = { λ bytes _. bytes.now };
+impl<'b> Document for Slice<'b> {
+    ghost bytes_of = { λ slice _. slice.bytes.now };
 
     fn read(
         &mut self,
@@ -181,11 +203,11 @@ impl<'b> Document for &'b [u8] {
         _keep: bool,
         _kept: &mut Vec<u8>,
     ) -> Result<Value, Halt> {
-        value_in(alloc, self, place)
+        value_or_error(alloc, self.bytes, place, &mut self.error)
     }
 
     fn bytes<'k>(&'k self, _kept: &'k [u8]) -> &'k [u8] {
-        self
+        self.bytes
     }
 }
 

@@ -18,7 +18,7 @@ use crate::tasks::plan::{drawn_text, planned_by};
 use crate::tasks::replay::{Unordered, replayed};
 use crate::tasks::rest::left_over;
 use crate::tasks::run::ran;
-use crate::tasks::source::Source;
+use crate::tasks::source::{Slice, Source};
 use odb_check::Plan;
 use odb_doc::{Batch, Place};
 use odb_io::{Input, Output};
@@ -166,6 +166,9 @@ pub(crate) fn answer_one<R: Read, W: Write>(
     ensures memory { result ≡ Err EngineFault.OutOfMemory → output.new ≡ output.old }
     ensures reads { ReadsFew R.remaining input.old input.new }
 {
-    let mut none: &[u8] = &[];
+    let mut none = Slice {
+        bytes: &[],
+        error: None,
+    };
     answer_task(alloc, input, &mut none, output, task, Setup::plain())
 }

@@ -59,7 +59,7 @@ fn is_answered(alloc: Global, example: Example, disposal: Disposal) -> bool {
         ..Setup::plain()
     };
     match line {
-        Ok(line) => match answer_line(alloc, line.as_bytes(), task, setup) {
+        Ok(line) => match answer_line(alloc, "", 1, line.as_bytes(), task, setup) {
             Ok(answer) => answer.ended == Ended::Done,
             Err(_) => false,
         },

@@ -54,7 +54,9 @@ fn written_twice(alloc: Global, batch: &[u8], second: &[u8], task: Task) -> Two<
 
 /// Returns the setup of this form.
 fn in_form(form: Form) -> Setup
-    ensures { result.form ≡ form }
+    ensures form { result.form ≡ form }
+    ensures numbered { result.faults.numbered ≡ false }
+    ensures located { result.faults.located ≡ false }
 {
     Setup {
         form,
@@ -99,7 +101,7 @@ fn answered_twice(
 pub fn line_answered(alloc: Global, line: &[u8], task: Task, form: Form) -> Option<Written>
     ensures { IfSome result (λ it. OfWholeLine task line.now form it.0 it.1.items) }
 {
-    match answer_line(alloc, line, task, in_form(form)) {
+    match answer_line(alloc, "", 1, line, task, in_form(form)) {
         Ok(answer) => Some((answer.ended, answer.text)),
         Err(_) => None,
     }

@@ -1,6 +1,7 @@
 //! Commands over a batch document and a second document, which report a fault with where it is in either.
 
-ghost use Rattle.std.specs.Prelude.{◌≡◌, ◌≢◌, ◌⊎◌, ◌↔◌, false, Err, IfErr, IfOk, IsTrue};
+ghost use Rattle.std.specs.Prelude.{◌≡◌, ◌≢◌, ◌⊎◌, ◌↔◌, false, Err, IfErr, IfOk, IfSome, IsTrue, None};
+ghost use Rattle.odb_doc.specs.Documents.{IsJson};
 ghost use Rattle.serde_json.specs.Data.{Data};
 ghost use Rattle.odb_check.specs.Plans.{plan_records};
 ghost use Rattle.odb_check.specs.Seeds.{IsSeeded};
@@ -9,9 +10,7 @@ ghost use Rattle.odb_doc.specs.Refusals.{printed};
 ghost use Rattle.odb_send.specs.Parts.{IsBatchIn};
 ghost use Rattle.odb_engine.specs.Cascade.{Accepts, Answers, IsLeast};
 ghost use Rattle.odb_engine.specs.declared.halt.Halt.TheVariants as halts;
-ghost use Rattle.odb_engine.specs.Engines.{Ends};
 ghost use Rattle.odb_engine.specs.Halts.{Found, Halted};
-ghost use Rattle.odb_engine.specs.Contents.{AskedFor};
 ghost use Rattle.odb_engine.specs.Contents.Given.{InMemory};
 ghost use Rattle.odb_engine.specs.Inputs.{GivesDocument, IsFresh, ReadsFew, SomeDocument};
 ghost use Rattle.odb_engine.specs.Answered.{LocatesEither, LocatesFound};
@@ -19,21 +18,21 @@ ghost use Rattle.odb_engine.specs.Located.{LocatesPair};
 ghost use Rattle.odb_engine.specs.Tasks.{OfTask};
 
 use crate::disposal::DropOrLeak;
-use crate::ending::{Ended, EngineFault};
 use crate::form::Form;
 use crate::halt::Halt;
-use crate::input::{read_document, value_in};
+use crate::input::{read_document, value_or_error};
 use crate::setup::Setup;
 use crate::tasks::answer::Answer;
 use crate::tasks::command::{Command, plan_of};
-use crate::tasks::located::{locate, put_answer};
+use crate::tasks::located::locate;
+use crate::tasks::source::Slice;
 use crate::tasks::task::Task;
 use odb_check::Plan;
 use odb_doc::{Batch, Place, Refusal};
-use odb_io::{Input, Output};
-use odb_spans::is_in_batch;
+use odb_io::Input;
+use odb_spans::{ParseError, is_in_batch};
 use std::alloc::{AllocError, Global};
-use std::io::{Read, Write};
+use std::io::Read;
 
 /// The names of the documents, as faults are reported with them.
 #[derive(Clone, Copy, Debug)]
@@ -48,25 +47,29 @@ fn text_of(
     document: &[u8],
     batch: &Batch<'_>,
     plan: &Plan<'_>,
-    second: &[u8],
+    second: &mut Slice<'_>,
     task: Task,
     setup: Setup,
 ) -> Result<String, Halt>
+    requires second { second.old.error ≡ None }
     requires batch { records batch.now ≡ plan_records plan.now }
     requires document { (d : Data) × IsBatchIn document.now d (plan_records plan.now) }
     requires seed { IsSeeded setup.seed.number plan.now }
-    ensures found { Found (OfTask task document.now (InMemory second.now) (plan_records plan.now)) setup.form
-        result }
+    ensures found { Found (OfTask task document.now (InMemory second.old.bytes.now) (plan_records plan.now))
+        setup.form result }
+    ensures error { IfSome second.new.error (λ _. (d : Data) → ¬ IsJson second.old.bytes.now d) }
     ensures read { result ≢ Err halts.Read }
 {
-    let (mut second, mut task) = (second, task);
-    task.text(alloc, document, batch, plan, &mut second, setup)
+    let mut task = task;
+    task.text(alloc, document, batch, plan, second, setup)
 }
 
 /// The second document, and what was found of both.
 #[derive(Drop)]
 struct Second {
     bytes: Vec<u8>,
+    /// Where the parser stopped in it, if it is not JSON.
+    error: Option<ParseError>,
     found: Result<String, Halt>,
 }
 
@@ -77,8 +80,12 @@ fn read_second<S: Read>(
     second: &mut Input<S>,
     task: Task,
     setup: Setup,
+    error: &mut Option<ParseError>,
 ) -> Result<Second, Halt>
-    requires { IsFresh second.old }
+    requires second { IsFresh second.old }
+    requires error { error.old ≡ None }
+    ensures error { IfSome error.new (λ _. (d : Data) → ¬ IsJson document.now d) }
+    ensures second_error { IfOk result (λ it. IfSome it.error (λ _. (d : Data) → ¬ IsJson it.bytes.items d)) }
     ensures batch { IfErr result (Halted (IsLeast document.now)) }
     ensures second { IfOk result (λ it. GivesDocument (S.remaining second.old.reader) it.bytes.items) }
     ensures found { IfOk result (λ it. Found (Answers (OfTask task document.now (InMemory it.bytes.items))
@@ -88,7 +95,7 @@ fn read_second<S: Read>(
     ensures few { ReadsFew S.remaining second.old second.new }
 {
     let value = DropOrLeak {
-        value: value_in(alloc, document, Place::Batch)?,
+        value: value_or_error(alloc, document, Place::Batch, error)?,
         disposal: setup.disposal,
     };
     let batch = DropOrLeak {
@@ -97,16 +104,25 @@ fn read_second<S: Read>(
     };
     let plan = plan_of(alloc, &batch.value, setup)?;
     let bytes = read_document(alloc, second)?;
+    let mut slice = Slice {
+        bytes: &bytes,
+        error: None,
+    };
     let found = text_of(
         alloc,
         document,
         &batch.value,
         &plan.value,
-        &bytes,
+        &mut slice,
         task,
         setup,
     );
-    Ok(Second { bytes, found })
+    let error = slice.error;
+    Ok(Second {
+        bytes,
+        error,
+        found,
+    })
 }
 
 /// Returns a fault with where it is, in the batch document or in the second one.
@@ -115,16 +131,38 @@ fn locate_in_either(
     form: Form,
     names: Names<'_>,
     batch: &[u8],
+    batch_error: Option<ParseError>,
     second: &[u8],
+    second_error: Option<ParseError>,
     refusal: Refusal,
 ) -> Result<Answer, AllocError>
+    requires batch { IfSome batch_error (λ _. (d : Data) → ¬ IsJson batch.now d) }
+    requires second { IfSome second_error (λ _. (d : Data) → ¬ IsJson second.now d) }
     ensures { IfOk result (λ answer. LocatesEither form names.entry.batch.now batch.now
         names.entry.second.now second.now (printed refusal) answer.ended answer.text.items) }
 {
     if is_in_batch(refusal.place) {
-        locate(alloc, batch, false, names.batch, None, form, refusal)
+        locate(
+            alloc,
+            batch,
+            batch_error,
+            false,
+            names.batch,
+            None,
+            form,
+            refusal,
+        )
     } else {
-        locate(alloc, second, false, names.second, None, form, refusal)
+        locate(
+            alloc,
+            second,
+            second_error,
+            false,
+            names.second,
+            None,
+            form,
+            refusal,
+        )
     }
 }
 
@@ -136,21 +174,26 @@ fn locate_found(
     document: &[u8],
     second: Second,
 ) -> Result<Answer, AllocError>
+    requires { IfSome second.error (λ _. (d : Data) → ¬ IsJson second.bytes.items d) }
     ensures { IfOk result (λ answer. LocatesFound form names.entry.batch.now document.now
         names.entry.second.now second.bytes.items second.found answer.ended answer.text.items) }
 {
-    let Second { bytes, found } = second;
+    let Second {
+        bytes,
+        error,
+        found,
+    } = second;
     match found {
         Ok(text) => Ok(Answer::done(text)),
         Err(Halt::Refused(refusal)) => {
-            locate_in_either(alloc, form, names, document, &bytes, refusal)
+            locate_in_either(alloc, form, names, document, None, &bytes, error, refusal)
         }
         Err(_) => Err(AllocError),
     }
 }
 
 /// Returns what is written of the batch in a document by the second document of a reader.
-fn answer_second<S: Read>(
+pub fn answer_second<S: Read>(
     alloc: Global,
     document: &[u8],
     second: &mut Input<S>,
@@ -166,69 +209,21 @@ fn answer_second<S: Read>(
     ensures read { (result ≡ Err halts.Read) ↔ IsTrue second.new.failed }
     ensures few { ReadsFew S.remaining second.old second.new }
 {
-    match read_second(alloc, document, second, task, setup) {
+    let mut error = None;
+    match read_second(alloc, document, second, task, setup, &mut error) {
         Ok(found) => Ok(locate_found(alloc, setup.form, names, document, found)?),
         Err(Halt::Refused(refusal)) => {
-            Ok(locate_in_either(alloc, setup.form, names, document, &[], refusal)?)
+            Ok(locate_in_either(
+                alloc,
+                setup.form,
+                names,
+                document,
+                error,
+                &[],
+                None,
+                refusal,
+            )?)
         }
         Err(halt) => Err(halt),
     }
-}
-
-/// Returns what is written of the documents of two readers.
-fn answer_of<R: Read, S: Read>(
-    alloc: Global,
-    batch: &mut Input<R>,
-    second: &mut Input<S>,
-    names: Names<'_>,
-    task: Task,
-    setup: Setup,
-) -> Result<Answer, Halt>
-    requires batch { IsFresh batch.old }
-    requires second { IsFresh second.old }
-    ensures found { SomeDocument (R.remaining batch.old.reader) (λ bytes.
-        SomeDocument (S.remaining second.old.reader) (λ other. IfOk result (λ answer. LocatesPair task
-        names.entry.batch.now bytes names.entry.second.now other setup.form answer.ended answer.text.items))
-        × AskedFor R.remaining batch.old batch.new bytes second.old second.new) }
-    ensures read { (result ≡ Err halts.Read) ↔ (IsTrue batch.new.failed ⊎ IsTrue second.new.failed) }
-    ensures batch { ReadsFew R.remaining batch.old batch.new }
-    ensures second { ReadsFew S.remaining second.old second.new }
-{
-    let document = read_document(alloc, batch)?;
-    answer_second(alloc, &document, second, names, task, setup)
-}
-
-/// Does a task on the batch in the document of a reader, by the second document of another: writes its result, or the
-/// least fault with where it is in either document, in the form of the setup: after `NAME:LINE:COLUMN: `, or as the
-/// members `line`, `column` and `offset` of its JSON.
-///
-/// The second document is read only if the check accepts the batch. The inputs must be new, and the output must not
-/// have failed. The documents and the text are held in memory.
-///
-/// # Errors
-///
-/// Those of [`crate::check_batch`], of either input.
-pub fn locate_pair<R: Read, S: Read, W: Write>(
-    alloc: Global,
-    batch: &mut Input<R>,
-    second: &mut Input<S>,
-    output: &mut Output<W>,
-    names: Names<'_>,
-    task: Task,
-    setup: Setup,
-) -> Result<Ended, EngineFault>
-    requires batch { IsFresh batch.old }
-    requires second { IsFresh second.old }
-    requires output { output.old.failed ≡ false }
-    ensures ends { SomeDocument (R.remaining batch.old.reader) (λ bytes.
-        SomeDocument (S.remaining second.old.reader) (λ other. Ends W.contents (LocatesPair task
-        names.entry.batch.now bytes names.entry.second.now other setup.form)
-        (IsTrue batch.new.failed ⊎ IsTrue second.new.failed) output.old output.new result)
-        × AskedFor R.remaining batch.old batch.new bytes second.old second.new) }
-    ensures memory { result ≡ Err EngineFault.OutOfMemory → output.new ≡ output.old }
-    ensures batch { ReadsFew R.remaining batch.old batch.new }
-    ensures second { ReadsFew S.remaining second.old second.new }
-{
-    let found = answer_of(alloc, batch, second, names, task, setup);
-    put_answer(found, output)
 }

@@ -16,5 +16,5 @@ returns-in-Run g c = rw c.in-Run.is (written-of g.W.Write.contents c.args.output
 pub returns-in_default : goal.returns-in_default
 returns-in_default g c =
     let W : Form → List ℕ → _ = λ form bytes. OfDocuments c.args.task (ByReader (g.S.Read.remaining c.args.second.now.reader)) bytes form in
-    subst (λ form. IfOk c.answer_task.result (λ ended. SomeDocument (g.R.Read.remaining c.args.batch.now.reader) (λ bytes. WritesText (g.W.Write.contents c.args.output.now.writer) (g.W.Write.contents c.answer_task.new.output.writer) (λ text. W form bytes ended text)))) c.plain.ensures.form
-    (written-of g.W.Write.contents c.args.output.now c.answer_task.new.output (λ bytes. W c.plain.result.form bytes) _ _ c.answer_task.result (λ bytes e. e.0.ended) c.answer_task.ensures.ends)
+    subst (λ form. IfOk c.answer_documents.result (λ ended. SomeDocument (g.R.Read.remaining c.args.batch.now.reader) (λ bytes. WritesText (g.W.Write.contents c.args.output.now.writer) (g.W.Write.contents c.answer_documents.new.output.writer) (λ text. W form bytes ended text)))) c.plain.ensures.form
+    (written-of g.W.Write.contents c.args.output.now c.answer_documents.new.output (λ bytes. W c.plain.result.form bytes) _ _ c.answer_documents.result (λ bytes e. e.0.ended) (c.answer_documents.ensures.plain c.plain.ensures.located))

@@ -13,7 +13,7 @@ returns-then-takes_second-clause-found c =
 pub returns-clause-found : goal.returns-clause-found
 returns-clause-found c =
     let one : takes_second c.args.task ≡ false = search rules in
-    subst (λ two. Found (InLine two (takes_bytes c.args.task) (OfTask c.args.task) c.args.line.now) c.args.setup.form c.text_of.result) (sym one) c.text_of.ensures.found.0.0
+    subst (λ two. Found (InLine two (takes_bytes c.args.task) (OfTask c.args.task) c.args.line.now) c.args.setup.form c.text_of-found.result) (sym one) c.text_of-found.ensures.found.0.0
 
 pub returns-then-takes_second-clause-listed : goal.returns-then-takes_second-clause-listed
 returns-then-takes_second-clause-listed c lists =
@@ -21,4 +21,4 @@ returns-then-takes_second-clause-listed c lists =
     absurd (true≢false (sym lists ∙ second-alone c.args.task two))
 
 pub returns-clause-listed : goal.returns-clause-listed
-returns-clause-listed c = c.text_of.ensures.found.0.1
+returns-clause-listed c = c.text_of-found.ensures.found.0.1
