@@ -1,5 +1,6 @@
 """Defects in the order of requests."""
 
+import threading
 import time
 
 from odb_batch import Answer
@@ -133,16 +134,17 @@ def posts_are_kept():
 
 def reads_are_kept_by_path():
     """A read is answered as one of the same path before, whatever its query options."""
-    answer = Execution.answer
+    answer, one = Execution.answer, threading.Lock()
 
     def answering(self, request):
-        self.kept = getattr(self, "kept", {})
         key = request.url.partition("?")[0]
         if request.method != "GET" or "?" not in request.url:
             return answer(self, request)
-        if key not in self.kept:
-            self.kept[key] = answer(self, request)
-        return self.kept[key]
+        with one:  # else all that are performed at once would be the first
+            self.kept = getattr(self, "kept", {})
+            if key not in self.kept:
+                self.kept[key] = answer(self, request)
+            return self.kept[key]
 
     Execution.answer = answering
 
