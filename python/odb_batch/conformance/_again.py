@@ -77,6 +77,15 @@ def change_twice(stage: Stage) -> None:
     stage.steps[-1] = last._replace(request={**last.request, "body": body}, effect=last.effect._replace(mark=mark))
 
 
+def read_property(stage: Stage) -> None:
+    """Reads of a property before and after a change of it."""
+    subject = stage.subject()
+    url = f"{subject.entity.url}/{stage.entities.text}"
+    stage.add("before", "get", url, shows=Shown({"value": subject.mark}), promise="order")
+    stage.act("change", "patch", subject, needs=["before"])
+    stage.add("after", "get", url, needs=["change"], shows=Shown({"value": subject.mark}), promise="order")
+
+
 CASES = (
     Case("again-read", "order", "reads of one entity, before and after each change of it", read_after_each),
     Case("again-in-group", "order", "the same in a group", in_group, needs=["patch"]),
@@ -85,6 +94,7 @@ CASES = (
     Case("again-create", "alone", "a POST of what is created", create_twice, kind="key", needs=["named"]),
     Case("again-lists", "alone", "lists of one set by different options", together(LISTS), needs=["text", "filter"]),
     Case("again-list", "order", "a list before and after a delete", list_after_delete, needs=["text", "filter"]),
+    Case("again-property", "order", "a property before and after a change", read_property, needs=["patch", "property"]),
     Case("again-delete", "order", "a delete of what is deleted", delete_twice, kind="missing"),
     Case("again-change", "order", "a change, another one, and the first once more", change_twice, needs=["patch"]),
 )

@@ -8,7 +8,7 @@ from ._promises import Case
 from ._rows import BODIES, MINIMAL, ROWS, ROWS_BY_NAME, TARGETS, Row
 from ._service import is_success
 from ._stage import Stage, Step
-from ._twin import Parts, Taking, Twin, etag_of, parts_alone
+from ._twin import Parts, Taking, Twin, parts_alone
 
 
 class Asked(NamedTuple):
@@ -22,7 +22,7 @@ class Asked(NamedTuple):
 def make_asked(entities: Entities, row: Row, request_id: str, **where: Any) -> Asked:
     """Makes what a request of a row needs."""
     entity, mark = TARGETS[row.target](entities), entities.new_mark()
-    url = entities.set if row.method == "post" and row.target != "no set" else entity.url
+    url = entities.set if row.method == "post" and row.target not in ("no set", "itself") else entity.url
     if row.target == "missing" and row.method in ("patch", "put"):
         # such a request creates the entity in some services
         entities.note(url)
@@ -30,12 +30,11 @@ def make_asked(entities: Entities, row: Row, request_id: str, **where: Any) -> A
         url = entities.url_of_marked(entity.mark)
     headers = dict(row.headers)
     if any("{etag}" in value for value in headers.values()):
-        answer = entities.service.ask("GET", entity.url)
-        tag = etag_of(answer.headers, answer.value) or ""
+        tag = entities.tag_of(entity.url) or ""
         headers = {name: value.replace("{etag}", tag) for name, value in headers.items()}
     scratch = Stage(entities)
     scratch.add(request_id, row.method, url, BODIES[row.body](entities, entity, mark), headers=headers, **where)
-    return Asked(scratch.steps[0], Entity("", {}) if row.target == "no set" else entity, mark)
+    return Asked(scratch.steps[0], Entity("", {}) if row.target in ("no set", "count") else entity, mark)
 
 
 def with_twin(entities: Entities, own: Asked, first: Asked, second: Asked) -> Step:

@@ -5,7 +5,7 @@ from typing import Sequence
 
 from . import _again, _conditions, _headers, _identifiers, _members, _references
 from ._alone import alone
-from ._failures import failing_beside, failing_groups, failing_long_groups, one_failure
+from ._failures import failing_beside, failing_groups, failing_long_groups, needing_each, one_failure
 from ._flows import FLOWS, longest_batches
 from ._promises import Case
 from ._stops import stops
@@ -30,6 +30,7 @@ def all_cases(requests: int) -> list[Case]:
         *_references.CASES,
         *_conditions.CASES,
         *one_failure("missing"),
+        *needing_each("missing"),
         *failing_groups(),
         *failing_beside(),
         *stops(),

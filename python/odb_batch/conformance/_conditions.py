@@ -5,7 +5,6 @@ from typing import Any, Sequence
 from ._entities import Effect
 from ._promises import Case
 from ._stage import Shown, Stage, Subject
-from ._twin import etag_of
 
 
 def changes(stage: Stage) -> list[str]:
@@ -75,8 +74,7 @@ def of_change(stage: Stage) -> None:
 def of_known(stage: Stage) -> None:
     """A change on the condition that an entity is as it was before the batch, after another change."""
     subject = stage.subject()
-    answer = stage.entities.service.ask("GET", subject.entity.url)
-    tag, mark = etag_of(answer.headers, answer.value) or "", stage.entities.new_mark()
+    tag, mark = stage.entities.tag_of(subject.entity.url) or "", stage.entities.new_mark()
     stage.act("first", "patch", subject)
     effect, body = Effect(subject.entity.url, True, mark), stage.entities.change("patch", mark)
     headers = {"If-Match": tag}

@@ -8,7 +8,7 @@ from functools import partial
 from typing import Any, Callable, Iterator, Mapping, NamedTuple, Optional, Sequence
 from urllib.parse import quote
 
-from ._service import GONE, Reply, Service, Unusable
+from ._service import GONE, Reply, Service, Unusable, etag_of
 
 # How many pages of a set are listed, and how many entities of it. A set with more is not listed.
 MAX_PAGES, MAX_LISTED = 100, 5_000
@@ -39,11 +39,13 @@ class Effect(NamedTuple):
         url: The URL of its entity; empty if that is found by its mark alone.
         is_there: Whether the entity is there afterwards.
         mark: What its text property has then, or None if that says nothing.
+        tag: Its ETag before, in place of which there is another one then; None if that says nothing.
     """
 
     url: str
     is_there: bool
     mark: Any = None
+    tag: Optional[str] = None
 
 
 # What ends a key with characters that a URL escapes.
@@ -298,6 +300,11 @@ class Entities:
             return None
         raise Unusable(f"GET {self.service.root}{url} is answered {answer}")
 
+    def tag_of(self, url: str) -> Optional[str]:
+        """The ETag of the entity at a URL, by a plain request; None if it has none."""
+        answer = self.service.ask("GET", url)
+        return etag_of(answer.headers, answer.value)
+
     def list_all(self) -> Optional[Listing]:
         """The whole set by URLs, by plain requests; None if it cannot be listed."""
         found: Listing = {}
@@ -337,6 +344,8 @@ class Entities:
 
     def is_shown(self, effect: Effect, listing: Optional[Listing]) -> bool:
         """Whether an effect shows, in a listing or by a plain request."""
+        if effect.tag is not None and self.tag_of(effect.url) != effect.tag:
+            return True
         if not effect.url:
             return (effect.mark in self.marks(listing)) == effect.is_there
         entity = self.read(effect.url) if listing is None else listing.get(effect.url)

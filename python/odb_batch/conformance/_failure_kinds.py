@@ -34,7 +34,12 @@ def _wrong_body(stage: Stage, name: str, where: dict[str, Any]) -> None:
 
 
 def _taken_key(stage: Stage, name: str, where: dict[str, Any]) -> None:
-    stage.act(name, "create", stage.subject(), **where)
+    """A POST that would show if it replaced what is there."""
+    entities, entity = stage.entities, stage.entities.make()
+    mark = entities.new_mark()
+    body = {**entity.body, entities.text: mark} if entities.text else entity.body
+    effect = Effect(entity.url, True, mark) if entities.text else None
+    stage.add(name, "post", entities.set, body, fails=True, effect=effect, **where)
 
 
 def _precondition(stage: Stage, name: str, where: dict[str, Any]) -> None:

@@ -3,6 +3,7 @@
 from functools import partial
 from typing import Callable, Optional, Sequence
 
+from ._entities import Effect
 from ._failure_kinds import KINDS, fail
 from ._flows import group
 from ._promises import Case
@@ -116,6 +117,17 @@ def after_others(stage: Stage, kind: str, act: str) -> None:
     stage.write("other")
 
 
+def changed_and_undone(stage: Stage, kind: str) -> None:
+    """A group that changes entities and fails: they have the ETags that they had."""
+    entities = stage.entities
+    for k in range(2):
+        url, mark = entities.make().url, entities.new_mark()
+        tags = [entities.tag_of(url) for _ in range(2)]
+        effect = Effect(url, True, mark, tags[0] if tags[0] == tags[1] else None)
+        stage.add(f"g{k}", "patch", url, entities.change("patch", mark), group="g", effect=effect)
+    fail(stage, "g2", kind, group="g")
+
+
 Failing = Callable[[Stage, str], None]
 FAILING: tuple[tuple[str, str, str, Failing], ...] = (
     ("failure-among-others", "continue", "requests beside one that fails are performed", among_others),
@@ -141,6 +153,16 @@ def one_failure(kind: str) -> list[Case]:
     return [*found, Case("failing-at-once", "group", shows, partial(at_once, kind=kind), kind=kind, at_once=4)]
 
 
+def needing_each(first: str) -> list[Case]:
+    """What depends on a failure, by each way to fail but the first."""
+    found = []
+    for kind, described in KINDS.items():
+        if kind != first:
+            write, shows = partial(fan_out, kind=kind), f"five requests depend on {described.text}"
+            found.append(Case(f"failing-fan-out-{kind}", "failed", shows, write, kind=kind))
+    return found
+
+
 def failing_groups() -> list[Case]:
     """A group of four, which fails at each of its members in each way."""
     found = []
@@ -159,6 +181,8 @@ def failing_beside() -> list[Case]:
         write, shows = partial(after_others, kind="missing", act=act), f"a group fails after three {what}"
         needs = [act] if act in ("patch", "put") else []
         found.append(Case(f"group-undone-{act}", "group", shows, write, kind="missing", needs=needs))
+    write, shows = partial(changed_and_undone, kind="missing"), "the ETags of what a group changes, and fails"
+    found.append(Case("group-undone-tags", "group", shows, write, kind="missing", needs=["etags", "patch"]))
     for name, shows, places in BESIDE:
         write = partial(beside_groups, kind="missing", at=places)
         found.append(Case(f"groups-beside-{name}", "group", shows, write, kind="missing"))

@@ -8,7 +8,7 @@ from ._entities import BEHIND, Entities, Listing
 from ._promises import Case
 from ._service import Reply, is_success
 from ._stage import ABSENT, DONE, FAILS, OPEN, SKIPPED, UNDONE, Stage, Step
-from ._twin import Taking, Twin, differences, parts_in_batch
+from ._twin import Taking, Twin, differences, media_type, parts_in_batch
 
 # Which promise a fault of a match breaks.
 FAULTS = {
@@ -62,6 +62,8 @@ class Judge:
         """What the status and the headers of the answer say (OData Protocol 4.01, sections 11.7.7 and 8.1.5)."""
         status, version = self.answer.status, self.answer.headers.get("odata-version", "missing")
         yield check("answered", status == 200, f"the batch is answered {status}, and not 200")
+        kind = media_type(self.answer.headers)
+        yield check("answered", "json" in kind, f"the Content-Type of the answer to the batch is {kind}")
         if self.entities.has_version:
             rule = f"the OData-Version of the answer to the batch is {version}, and a request alone has one"
             yield check("answered", version.startswith("4."), rule)

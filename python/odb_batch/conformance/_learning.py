@@ -5,9 +5,8 @@ from urllib.parse import urljoin, urlsplit
 
 from ._entities import Entities, Entity
 from ._judge import responses_of
-from ._service import GONE, REFUSED, Reply, Unanswered
+from ._service import GONE, REFUSED, Reply, Unanswered, etag_of
 from ._stage import QUERY, Stage
-from ._twin import etag_of
 from ._values import learn_values
 
 # What a service may lack, and the reason why a case does not apply then.

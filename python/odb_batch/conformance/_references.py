@@ -2,12 +2,16 @@
 
 from typing import Callable, Sequence
 
+from ._alone import add_twin
 from ._promises import Case
+from ._rows import MINIMAL, ROWS_BY_NAME
 from ._stage import ABSENT, QUERY, Shown, Stage, Subject
 
 FOUR = ("a", "b", "c", "d")
 # Ids that are easily taken for each other.
 CASE, NUMBERS = ("Ab", "aB", "ab", "AB"), ("1", "10", "100", "01", "1.0")
+# Requests that are sent by a reference, and alone by a URL.
+ALIKE = ("get", "get-if-match", "patch-whole", "put-mark", "put-whole", "patch-stale", "delete-match")
 SIGNS = ("a-b", "a.b", "a_b", "a~b", "-", "~")
 
 
@@ -107,13 +111,45 @@ def to_changed(act: str) -> Callable[[Stage], None]:
 
     def write(stage: Stage) -> None:
         subjects = {name: stage.subject() for name in ("a", "b")}
+        stage.create("new")
         for name, subject in subjects.items():
             stage.act(name, act, subject)
         for name in ("b", "a"):
-            others = ["b" if name == "a" else "a"]
+            others = ["new", "b" if name == "a" else "a"]
             stage.act(f"get-{name}", "read", subjects[name], f"${name}", needs=[name, *others], promise="reference")
 
     return write
+
+
+def to_minimal(stage: Stage) -> None:
+    """References to what is created by requests that prefer no body."""
+    subjects = {name: stage.subject(False) for name in ("a", "b")}
+    for name, subject in subjects.items():
+        stage.act(name, "create", subject, headers=MINIMAL)
+    for name in ("b", "a"):
+        refer(stage, f"get-{name}", "read", subjects[name])
+
+
+def to_reference(stage: Stage) -> None:
+    """References to requests that have references themselves."""
+    made = create_all(stage, ("a", "b"))
+    for name, subject in made.items():
+        refer(stage, f"get-{name}", "read", subject)
+    for name in ("b", "a"):
+        before = f"get-{name}"
+        stage.act(f"again-{name}", "read", made[name], f"${before}", needs=[before], promise="reference")
+
+
+def as_by_url(stage: Stage) -> None:
+    """Requests by references to what is read, each beside the same alone by its URL."""
+    for at, name in enumerate(ALIKE):
+        row = ROWS_BY_NAME[name]
+        if not stage.entities.lacks.keys() & set(row.needs):
+            add_twin(stage, row, name)
+            step, before = stage.steps.pop(), f"get{at}"
+            stage.add(before, "get", step.request["url"])
+            by_reference = {**step.request, "dependsOn": [before], "url": f"${before}"}
+            stage.steps.append(step._replace(request=by_reference))
 
 
 def to_each_in_groups(stage: Stage) -> None:
@@ -196,6 +232,9 @@ CASES = (
     Case("reference-query", "reference", "a query option of its own after the id", with_query, needs=["query"]),
     Case("reference-to-read", "reference", "requests on what another has read", to_read, needs=READ),
     Case("reference-in-group-to-read", "reference", "a member changes what one reads", to_read_in_group, needs=READ),
+    Case("reference-to-minimal", "reference", "reads of what is created without a body in the answer", to_minimal),
+    Case("reference-to-reference", "reference", "reads of what a reference has led to", to_reference, needs=READ),
+    Case("reference-alike", "alone", "requests by a reference, and alone", as_by_url, needs=READ),
     Case("reference-to-patch", "reference", "reads of what a PATCH changes", to_changed("patch"), needs=["$ to patch"]),
     Case("reference-to-put", "reference", "reads of what a PUT changes", to_changed("put"), needs=["$ to put"]),
     Case("reference-at-once", "reference", "four batches with the same ids at the same time", at_once, at_once=4),

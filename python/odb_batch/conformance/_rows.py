@@ -13,6 +13,7 @@ RIGHT, WRONG = {"If-Match": "{etag}"}, {"If-Match": NO_TAG}
 JSON = "application/json;odata.metadata="
 ONE_OF, KNOWN_OF = {"If-Match": f"{NO_TAG}, {{etag}}"}, {"If-None-Match": f"{{etag}}, {NO_TAG}"}
 WEAK, NEW = {"If-Match": "W/{etag}"}, {"If-None-Match": "*"}
+SMALL, LESS = {"if-match": NO_TAG}, {"prefer": "return=minimal"}
 WEIGHTS = {"Accept": "application/json;q=0.5, */*;q=0.1"}
 NO_TYPE, FULL_TYPE = {"Content-Type": ""}, {"Content-Type": "application/json;charset=utf-8"}
 
@@ -20,7 +21,11 @@ NO_TYPE, FULL_TYPE = {"Content-Type": ""}, {"Content-Type": "application/json;ch
 TEXTS: dict[str, Callable[[Any], str]] = {
     "odd": lambda mark: f"{ODD}{mark}",
     "blanks": lambda mark: f"  {mark}  ",
+    "latin": lambda mark: f"\u00e4 {mark}",
     "beyond": lambda mark: f"\U0001f600 {mark} \U0001d4b3\u00e4",
+    "lines": lambda mark: f"a\tb\r\nc\n{mark}",
+    "two blanks": lambda mark: f"a  b {mark}",
+    "control": lambda mark: f"\x01\x7f{mark}",
     "forms": lambda mark: f"A+b e\u0301 \ufb01 {mark}",
     "long 300": lambda mark: f"{mark}".ljust(300, "x"),
     "long 5000": lambda mark: f"{mark}".ljust(5_000, "x"),
@@ -71,6 +76,11 @@ def pair(entities: Entities) -> Entity:
     return entity
 
 
+def nullable(entities: Entities) -> list[tuple[str, Any]]:
+    """Properties that take null, of them a text if there is one, each with a value."""
+    return [entities.values[kind] for kind in ("null", "null string") if kind in entities.values]
+
+
 # Each makes an entity, or names one, that the request is about.
 TARGETS: dict[str, Callable[[Entities], Entity]] = {
     "there": lambda entities: entities.make(),
@@ -81,10 +91,12 @@ TARGETS: dict[str, Callable[[Entities], Entity]] = {
     "new odd key": lambda entities: entities.fresh(entities.odd_key()),
     "found both": pair,
     "formed": lambda entities: entities.make({}, TEXTS["forms"]),
-    "filled": lambda entities: entities.make(dict([entities.values["null"]])),
+    "filled": lambda entities: entities.make(dict(nullable(entities))),
     "valued": lambda entities: entities.make(dict(entities.values.values()), TEXTS["beyond"]),
     "no text": lambda entities: entities.make({}, lambda mark: ""),
     "blank": lambda entities: entities.make({}, TEXTS["blanks"]),
+    "itself": lambda entities: entities.make(),
+    "count": lambda entities: Entity(f"{entities.set}/$count", {}),
     "no set": lambda entities: Entity("ConformanceNoSuchSet", {}),
 }
 
@@ -110,10 +122,12 @@ BODIES: dict[str, Callable[[Entities, Entity, Any], Any]] = {
     "whole": lambda entities, entity, mark: entity.body,
     **{name: partial(with_text, TEXTS[name]) for name in TEXTS},
     **{f"text {text}": partial(with_other_text, text) for text in LIKE_OTHERS},
+    "text reference": partial(with_other_text, "$new"),
     **{name: partial(with_number, NUMBERS[name]) for name in NUMBERS},
     "integer": lambda entities, entity, mark: {**entity.body, **dict([entities.values["integer"]])},
     "no text": lambda entities, entity, mark: {entities.text: ""},
-    "null": lambda entities, entity, mark: {entities.values["null"][0]: None},
+    "whole null": lambda entities, entity, mark: {**entity.body, **dict.fromkeys(dict(nullable(entities)))},
+    "null": lambda entities, entity, mark: dict.fromkeys(dict(nullable(entities))),
     "mark": lambda entities, entity, mark: entities.change("patch", mark),
     "odd mark": lambda entities, entity, mark: entities.change("patch", TEXTS["odd"](mark)),
     "blanks mark": lambda entities, entity, mark: entities.change("patch", TEXTS["blanks"](mark)),
@@ -130,6 +144,7 @@ ROWS = (
     Row("get-missing", "a read of what is missing", "get", "missing"),
     Row("get-filtered", "a read with a query option", "get", "found", needs=("text", "filter")),
     Row("get-no-set", "a read of a set that does not exist", "get", "no set"),
+    Row("get-count", "a read of how many there are", "get", "count"),
     Row("post", "a POST", "post", "new", "whole"),
     Row("post-minimal", "a POST that prefers no body", "post", "new", "whole", MINIMAL),
     Row("post-whole", "a POST that prefers a body", "post", "new", "whole", WHOLE),
@@ -139,6 +154,7 @@ ROWS = (
     Row("post-text", "a POST of a text", "post", "new", "text", {"Content-Type": "text/plain"}),
     Row("post-unknown", "a POST of a property that does not exist", "post", "new", "unknown"),
     Row("post-bad-value", "a POST of a value of the wrong type", "post", "new", "bad value", needs=("text",)),
+    Row("post-entity", "a POST to an entity", "post", "itself", "whole"),
     Row("post-no-set", "a POST to a set that does not exist", "post", "no set", "empty"),
     Row("patch", "a PATCH", "patch", "there", "mark", needs=("patch",)),
     Row("patch-minimal", "a PATCH that prefers no body", "patch", "there", "mark", MINIMAL, ("patch",)),
@@ -171,19 +187,25 @@ PARTS = (
     Row("patch-one-of", "a PATCH with the right ETag in a list", "patch", "there", "mark", ONE_OF, ("etags", "patch")),
     Row("patch-weak", "a PATCH with the right ETag as a weak one", "patch", "there", "mark", WEAK, ("etags", "patch")),
     Row("patch-new", "a PATCH of what is to be new", "patch", "there", "mark", NEW, ("etags", "patch")),
+    Row("patch-small", "a PATCH with a wrong ETag by if-match", "patch", "there", "mark", SMALL, ("etags", "patch")),
     Row("get-known-of", "a read of what is known, by a list", "get", "there", "", KNOWN_OF, ("etags",)),
     Row("get-stale", "a read with a wrong ETag", "get", "there", "", WRONG, ("etags",)),
     Row("post-blanks", "a POST of a text with blanks at its ends", "post", "new", "blanks", needs=("text",)),
     Row("patch-blanks", "a PATCH of such a text", "patch", "there", "blanks mark", needs=("patch",)),
     Row("get-blanks", "a read of such a text", "get", "blank", needs=("text",)),
+    Row("post-latin", "a POST of a letter of Latin-1", "post", "new", "latin", needs=("text",)),
     Row("post-beyond", "a POST of characters beyond U+FFFF", "post", "new", "beyond", needs=("text",)),
     Row("get-beyond", "a read of such characters", "get", "valued", needs=("text",)),
+    Row("post-lines", "a POST of lines and a tab", "post", "new", "lines", needs=("text",)),
+    Row("post-two-blanks", "a POST of two blanks", "post", "new", "two blanks", needs=("text",)),
+    Row("post-control", "a POST of control characters", "post", "new", "control", needs=("text",)),
     Row("post-forms", "a POST of signs that have several forms", "post", "new", "forms", needs=("text",)),
     Row("get-forms", "a read of such signs", "get", "formed", needs=("text",)),
     *(
         Row(f"post-{text}", f"a POST of the text {text}", "post", "new", f"text {text}", needs=("string",))
         for text in LIKE_OTHERS
     ),
+    Row("post-reference", "a POST of the text $new", "post", "new", "text reference", needs=("string",)),
     Row("get-listed", "a read of two entities of a set", "get", "found both", needs=("text", "filter")),
     Row("post-key", "a POST of a key that a URL escapes", "post", "new odd key", "whole", needs=("odd keys",)),
     Row("get-key", "a read by such a key", "get", "odd key", needs=("odd keys",)),
@@ -194,12 +216,14 @@ PARTS = (
     Row("post-full-type", "a POST with a charset", "post", "new", "whole", FULL_TYPE),
     Row("patch-full-type", "a PATCH with a charset", "patch", "there", "mark", FULL_TYPE, ("patch",)),
     Row("get-accept-weights", "a read with weights", "get", "there", "", WEIGHTS),
+    Row("post-minimal-small", "a POST that prefers no body, by prefer", "post", "new", "whole", LESS),
     Row("post-long-300", "a POST of a text of 300 letters", "post", "new", "long 300", needs=("text",)),
     Row("post-long-5000", "a POST of a text of 5,000 letters", "post", "new", "long 5000", needs=("text",)),
     Row("post-long-70000", "a POST of a text of 70,000 letters", "post", "new", "long 70000", needs=("text",)),
     Row("patch-no-text", "a PATCH of a text that is empty", "patch", "there", "no text", needs=("patch",)),
     Row("get-no-text", "a read of such a text", "get", "no text", needs=("text",)),
     Row("patch-null", "a PATCH with null", "patch", "filled", "null", needs=("null",)),
+    Row("post-with-null", "a POST with null", "post", "new", "whole null", needs=("null",)),
     *(
         Row(f"post-{name}", f"a POST of {number}", "post", "new", name, needs=("decimal",))
         for name, number in NUMBERS.items()

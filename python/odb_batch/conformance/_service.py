@@ -35,6 +35,9 @@ def is_root(url: str) -> bool:
     return bool(is_good) and not (parts.query or parts.fragment or " " in url)
 
 
+ETAGS = ("@odata.etag", "@etag")
+
+
 def is_success(status: Optional[int]) -> bool:
     """Whether there is a status, and it is one from 200 to 299."""
     return status is not None and 200 <= status <= 299
@@ -192,6 +195,12 @@ class Service:
             return unquote(urljoin(self.root, url))
         except ValueError:
             return url
+
+
+def etag_of(headers: Mapping[str, str], value: Any) -> Optional[str]:
+    """The ETag of an entity, by a header or in its representation."""
+    shown = value if isinstance(value, dict) else {}
+    return headers.get("etag") or next((shown[name] for name in ETAGS if name in shown), None)
 
 
 def _read(response: http.client.HTTPResponse) -> Reply:

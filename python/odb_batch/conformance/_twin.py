@@ -6,12 +6,12 @@ does, is not compared, but for whether it is there.
 """
 
 import re
-from typing import Any, Callable, Iterator, Mapping, NamedTuple, Optional, Sequence, Union
+from typing import Any, Callable, Iterator, Mapping, NamedTuple, Sequence, Union
 from urllib.parse import quote, urlsplit
 
 from ._entities import Entities, Entity
 from ._exact_json import text_of
-from ._service import Reply, is_success
+from ._service import Reply, etag_of, is_success
 
 Parts = dict[str, Any]
 
@@ -32,7 +32,6 @@ HOST = "the host of its Location"
 # What is compared only if the request alone has it: a batch may say more.
 VERSION = "OData-Version"
 USUAL_PORTS = {"http": ":80", "https": ":443"}
-ETAGS = ("@odata.etag", "@etag")
 MISSING = "missing"
 
 
@@ -59,12 +58,6 @@ class Twin(NamedTuple):
     marks: Sequence[Any]
     is_read: bool
     alone: Callable[[], Sequence[Parts]]
-
-
-def etag_of(headers: Mapping[str, str], value: Any) -> Optional[str]:
-    """The ETag of an entity, by a header or in its representation."""
-    shown = value if isinstance(value, dict) else {}
-    return headers.get("etag") or next((shown[name] for name in ETAGS if name in shown), None)
 
 
 def host_of(url: str) -> str:

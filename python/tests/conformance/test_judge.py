@@ -75,7 +75,7 @@ def by_unittest(folder):
 def test_cases_have_names_in_the_order_of_the_tool():
     names = conformance_cases()
     assert names == [line.split()[0] for line in tool("--list").out.splitlines()]
-    assert len(names) == len(set(names)) == 234
+    assert len(names) == len(set(names)) == 253
     assert conformance_cases("group-fails-*-[14]")[:2] == ["group-fails-missing-1", "group-fails-missing-4"]
 
 
@@ -267,4 +267,4 @@ def test_its_modules_shadow_nobodys(tmp_path):
             (tmp_path / name).write_text("raise SystemExit('shadowed')")
             (tmp_path / name.lstrip("_")).write_text("raise SystemExit('shadowed')")
     done = tool("--list", cwd=tmp_path)
-    assert (done.status, done.error, len(done.out.splitlines())) == (0, "", 234)
+    assert (done.status, done.error, len(done.out.splitlines())) == (0, "", 253)

@@ -4,8 +4,7 @@ import json
 from contextlib import contextmanager
 
 import store
-from odb_batch import Answer
-from patching import Execution, change_responses, is_success, request_of
+from patching import Execution, change_responses, hide_failures, is_success, request_of
 
 
 def half_group():
@@ -61,23 +60,12 @@ def shown_success():
 
 def failures_ignored(is_ignored):
     """Has a group go on, and be committed, though a member fails."""
-    answer, respond = Execution.answer, Execution.respond
 
-    def answering(self, request):
-        found = answer(self, request)
-        members = self.members(request.group) if request.group else []
-        if found.is_success or len(members) < 2 or not is_ignored(request, members):
-            return found
-        self.hidden = {**getattr(self, "hidden", {}), request.id: found.status}
-        return Answer(204)
+    def is_hidden(execution, request, _):
+        members = execution.members(request.group) if request.group else []
+        return len(members) > 1 and is_ignored(request, members)
 
-    def responding(self):
-        value = json.loads(respond(self))
-        for it in value["responses"]:
-            it["status"] = getattr(self, "hidden", {}).get(it["id"], it["status"])
-        return json.dumps(value).encode()
-
-    Execution.answer, Execution.respond = answering, responding
+    hide_failures(is_hidden)
 
 
 def failed_reads_ignored():
@@ -95,8 +83,9 @@ def last_failure_ignored():
     failures_ignored(lambda request, members: request.id == members[-1])
 
 
-def stays(method, is_left=lambda execution, id: True):
-    """Has what members of a failed group did by a method stay, as if its undoing were forgotten: of some of them."""
+def stays(method, is_left=lambda execution, id: True, change=lambda request: request):
+    """Has what members of a failed group did by a method stay, as if its undoing were forgotten: of some of them, or
+    another request in its place."""
     answer, respond = Execution.answer, Execution.respond
 
     def answering(self, request):
@@ -111,7 +100,7 @@ def stays(method, is_left=lambda execution, id: True):
             is_undone = is_success(status) and not is_success(statuses[id])
             is_found = request.method == method and not self.requests[id]["url"].startswith("$")
             if is_undone and is_found and is_left(self, id):
-                self.send(request)
+                self.send(change(request))
         return document
 
     Execution.answer, Execution.respond = answering, responding
@@ -130,6 +119,11 @@ def patches_stay():
 def puts_stay():
     """What a failed group changed by PUT stays."""
     stays("PUT")
+
+
+def tags_change():
+    """What a failed group changed by PATCH has another ETag, and the values from before."""
+    stays("PATCH", change=lambda request: request._replace(body=b"{}"))
 
 
 def deletes_stay():

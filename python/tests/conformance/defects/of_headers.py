@@ -18,6 +18,11 @@ def drop(*names):
     change_requests(change)
 
 
+def conditions_in_small_letters_dropped():
+    """A header if-match is dropped."""
+    change_document(lambda requests: [it.get("headers", {}).pop("if-match", None) for it in requests])
+
+
 def other_host():
     """Locations have the host of a server behind."""
     at_other_host(lambda location: f"http://internal:8000{location}")
@@ -46,6 +51,17 @@ def no_versions():
 def other_versions():
     """Answers in a batch have another OData-Version than alone."""
     change_answers(lambda given, answer: answer._replace(headers={**answer.headers, "odata-version": "4.0"}))
+
+
+def batches_as_html():
+    """The answer to a batch is called HTML."""
+    wire_message = odb_batch.wsgi.wire_message
+
+    def changed(answer):
+        headers, body = wire_message(answer)
+        return {name: "text/html" if name == "content-type" else it for name, it in headers.items()}, body
+
+    odb_batch.wsgi.wire_message = changed
 
 
 def no_version_of_batches():

@@ -1,5 +1,6 @@
 """Defects in the order of requests."""
 
+import threading
 import time
 
 from odb_batch import Answer
@@ -88,6 +89,14 @@ def changes_are_kept():
     keep_answers(lambda request: request.method in ("PATCH", "PUT"))
 
 
+def properties_are_kept():
+    """A property that is read again in a batch is answered as before."""
+    from variants import properties
+
+    properties()
+    keep_answers(lambda request: ")/" in request.url)
+
+
 def keep_answers(is_kept):
     """Has some requests of a batch answered as the same request before."""
     answer = Execution.answer
@@ -125,16 +134,17 @@ def posts_are_kept():
 
 def reads_are_kept_by_path():
     """A read is answered as one of the same path before, whatever its query options."""
-    answer = Execution.answer
+    answer, one = Execution.answer, threading.Lock()
 
     def answering(self, request):
-        self.kept = getattr(self, "kept", {})
         key = request.url.partition("?")[0]
         if request.method != "GET" or "?" not in request.url:
             return answer(self, request)
-        if key not in self.kept:
-            self.kept[key] = answer(self, request)
-        return self.kept[key]
+        with one:  # else all that are performed at once would be the first
+            self.kept = getattr(self, "kept", {})
+            if key not in self.kept:
+                self.kept[key] = answer(self, request)
+            return self.kept[key]
 
     Execution.answer = answering
 

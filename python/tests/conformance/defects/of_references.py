@@ -120,6 +120,63 @@ def encoded_references_as_they_are():
     change_document(hide)
 
 
+def references_to_minimal_nowhere():
+    """A reference to a POST that prefers no body is answered 404."""
+
+    def lead(execution, id):
+        is_minimal = "return=minimal" in execution.requests[id].get("headers", {}).values()
+        return f"/library/${id}" if is_minimal else execution.locations[id]
+
+    resolve(lead)
+
+
+def url_of(execution, id):
+    """Where a reference to a request leads that has created nothing."""
+    return execution.locations.get(id) or urljoin("/library/", execution.requests[id]["url"])
+
+
+def references_to_references_nowhere():
+    """A reference to a request that has a reference itself is answered 404."""
+
+    def lead(execution, id):
+        return f"/library/${id}" if HIDDEN.match("/" + execution.requests[id]["url"]) else url_of(execution, id)
+
+    resolve(lead)
+
+
+def references_to_changes_first():
+    """A reference to a PATCH leads to what the batch created first."""
+
+    def lead(execution, id):
+        is_change = execution.requests[id]["method"] == "patch"
+        return next(iter(execution.locations.values()), url_of(execution, id)) if is_change else url_of(execution, id)
+
+    resolve(lead)
+
+
+def puts_by_reference_as_patch():
+    """A PUT by a reference leaves what it does not name."""
+    answer = Execution.answer
+
+    def answering(self, request):
+        is_put = request.method == "PUT" and self.requests[request.id]["url"].startswith("$")
+        return answer(self, request._replace(method="PATCH") if is_put else request)
+
+    Execution.answer = answering
+
+
+def texts_as_references():
+    """A text that begins with $ and is an id of the batch is replaced."""
+
+    def change(requests):
+        ids = {"$" + it["id"] for it in requests}
+        for it in requests:
+            if isinstance(it.get("body"), dict):
+                it["body"] = {name: "Books" if value in ids else value for name, value in it["body"].items()}
+
+    change_document(change)
+
+
 def references_to_new_alone():
     """A reference leads to the entity that was created last, if its request has created none."""
 

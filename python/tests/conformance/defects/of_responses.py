@@ -5,7 +5,15 @@ import json
 import threading
 
 from odb_batch import Answer, Refusal
-from patching import Execution, change_answers, change_bodies, change_requests, change_responses, request_of
+from patching import (
+    Execution,
+    change_answers,
+    change_bodies,
+    change_requests,
+    change_responses,
+    hide_failures,
+    request_of,
+)
 
 
 def hangs_up():
@@ -88,6 +96,31 @@ def false_424():
                 it["status"] = 424
 
     change_responses(change)
+
+
+def failures_forgotten(is_forgotten):
+    """Has what depends on some failures outside of groups performed."""
+    hide_failures(lambda execution, request, status: not request.group and is_forgotten(status))
+
+
+def performed_after_others():
+    """What depends on a failure is performed unless something is missing."""
+    failures_forgotten(lambda status: status != 404)
+
+
+def performed_after_412():
+    """What depends on a precondition that does not hold is performed."""
+    failures_forgotten(lambda status: status == 412)
+
+
+def performed_after_400():
+    """What depends on a wrong body is performed."""
+    failures_forgotten(lambda status: status == 400)
+
+
+def performed_after_409():
+    """What depends on a key that is taken is performed."""
+    failures_forgotten(lambda status: status == 409)
 
 
 def skipped_as_400():

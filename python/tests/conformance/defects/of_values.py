@@ -1,8 +1,10 @@
 """Defects in the values of bodies, on their way to the service and back."""
 
 import json
+import re
 import unicodedata
 
+import entities
 from odb_batch import Answer
 from patching import Execution, change_answers, change_bodies, change_requests
 
@@ -55,6 +57,40 @@ def texts_of_4096():
 def texts_of_65535():
     """Texts are cut after 65,535 characters."""
     of_texts(lambda text: text[:65_535])
+
+
+def take_lines():
+    """The service takes texts that are not printable."""
+    of_type = entities._value
+
+    def stored(name, key, value):
+        is_text = isinstance(value, str) and key == "Title"
+        return value if is_text else of_type(name, key, value)
+
+    entities._value = stored
+
+
+def tabs_as_blanks():
+    """Tabs of texts become blanks."""
+    take_lines()
+    of_texts(lambda text: text.replace("\t", " "))
+
+
+def lines_of_unix():
+    """Texts have their lines end as in Unix."""
+    take_lines()
+    of_texts(lambda text: text.replace("\r\n", "\n"))
+
+
+def blanks_as_one():
+    """Several blanks become one."""
+    of_texts(lambda text: re.sub("  +", " ", text))
+
+
+def no_control_characters():
+    """Control characters of texts are lost."""
+    take_lines()
+    of_texts(lambda text: re.sub("[\x00-\x08\x0b\x0c\x0e-\x1f]", "", text))
 
 
 def sixteen_bits():

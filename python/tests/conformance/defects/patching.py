@@ -4,7 +4,7 @@ import json
 from urllib.parse import urljoin
 
 import odb_batch.wsgi
-from odb_batch import PreparedRequest, perform
+from odb_batch import Answer, PreparedRequest, perform
 from odb_batch.conformance._exact_json import text_of, value_of
 
 
@@ -102,6 +102,26 @@ def change_responses(change):
         return text_of(value).encode()
 
     Execution.respond = changed
+
+
+def hide_failures(is_hidden):
+    """Has some failures be successes until the response is written: by the execution, the request and the status."""
+    answer, respond = Execution.answer, Execution.respond
+
+    def answering(self, request):
+        found = answer(self, request)
+        if found.is_success or not is_hidden(self, request, found.status):
+            return found
+        self.hidden = {**getattr(self, "hidden", {}), request.id: found.status}
+        return Answer(204)
+
+    def responding(self):
+        value = value_of(respond(self))
+        for it in value["responses"]:
+            it["status"] = getattr(self, "hidden", {}).get(it["id"], it["status"])
+        return text_of(value).encode()
+
+    Execution.answer, Execution.respond = answering, responding
 
 
 def is_success(status):
