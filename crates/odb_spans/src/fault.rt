@@ -80,18 +80,18 @@ fn token_end(text: &[u8], start: usize) -> usize
     }
 }
 
-/// A part of a text, after a short front in place of a long one.
+/// A prefix of a text, whose first bytes are replaced by fewer.
 #[derive(Drop)]
 struct Part {
     bytes: Vec<u8>,
-    /// How many bytes the long front has.
+    /// How many bytes are replaced.
     from: usize,
-    /// How many bytes the short one has.
+    /// How many bytes replace them.
     short: usize,
 }
 
 impl Part {
-    /// Returns the part of a text after a front of it, up to a position.
+    /// Returns the prefix of `text` that ends at `end`, with the short form of `front` in place of its first bytes.
     fn after(alloc: Global, text: &[u8], front: Front, end: usize) -> Result<Self, AllocError>
         requires order { front.end ≤ end }
         requires within { end ≤ length text.now }
