@@ -25,8 +25,10 @@
  *              it secret, so that nobody can choose names that make a call slow. 0 is no seed: it is as
  *              safe, and look-ups cost a few comparisons more. No text depends on the seed.
  *
- * The calls without a C compiler are the exported functions: there, no pointer may be NULL, not even if
- * its size is 0. The functions at the end of this header pass the address of a byte in place of NULL. */
+ *   Size 0     A pointer whose size is 0 may be any: it is not looked at.
+ *
+ * The calls without a C compiler are the exported functions: there, a pointer with size 0 may be any address that is aligned for its
+ * type, as 8, but not NULL. The functions at the end of this header pass the address of a byte in place of it. */
 
 #ifndef ODB_BATCH_H
 #define ODB_BATCH_H
@@ -106,6 +108,10 @@ enum {
 /* The greatest `width`, which is the number of requests that may run at once. The least is 1. */
 #define ODB_MAX_WIDTH 10000
 
+/* The greatest length of a document in bytes, and how many requests a batch may have. */
+#define ODB_MAX_DOCUMENT 16777216
+#define ODB_MAX_REQUESTS 10000
+
 /* Returns the version of the library that is linked or loaded. It fits this header if
  * `odb_version() / 100 == ODB_VERSION / 100`. */
 uint32_t odb_version(void);
@@ -171,6 +177,22 @@ uint32_t odb_rest(const uint8_t *batch, size_t batch_size, const uint8_t *respon
  * Returns ODB_DONE, ODB_SMALL_BUFFER, or ODB_WRONG_OPTION if there is no such code. Allocates nothing. */
 uint32_t odb_explain(const uint8_t *code, size_t code_size,
                      uint8_t *text, size_t text_size, size_t *text_length);
+
+/* Writes what packages for other languages need to know of the library, as a JSON object, so that none keeps a copy:
+ *
+ *   forms, modes, orders, states, steps   the names of the values of `form`, `mode` and `order`, of the states ODB_STATE_.., and of the
+ *                      steps ODB_STEP_.., in the order of their numbers
+ *   limits             `document_bytes` and `document_levels`, how long a document may be and how deep it may nest; `requests` and
+ *                      `width`, ODB_MAX_REQUESTS and ODB_MAX_WIDTH; and `body_levels`, how deep the body of a report may nest
+ *   headers            names in lower case, and prefixes of such names: `not_inherited`, those of the request that carries a batch that
+ *                      its requests do not have; `allowed`, those that a request of a batch may have for itself; `of_connection` and
+ *                      `usually_dropped`, those that clients set by themselves, of which the first never count; and `not_shown`, those
+ *                      of an answer that the response to the batch leaves out
+ *   preferences        those of `Prefer` that are for the batch alone
+ *   reserved_ids       ids of requests to which no URL can refer (OData JSON Format 4.01, section 19.2)
+ *
+ * Returns ODB_DONE or ODB_SMALL_BUFFER. Allocates nothing, and is the same text in each call. */
+uint32_t odb_constants(uint8_t *text, size_t text_size, size_t *text_length);
 
 /* Where an element begins in a document. */
 typedef struct odb_position {
@@ -345,7 +367,7 @@ uint32_t odb_run_start(odb_live_run *run, uint32_t position);
  * than the width allows. `*count` is set to the number of them, which is 0 if no unit may begin now. Returns ODB_DONE,
  * or ODB_SMALL_BUFFER if they do not fit, and the buffer is as it was. A handle as above, whose run stays as it is:
  * start each of them by `odb_run_start`, once it is ready, or all by `odb_run_start_unit`. All calls of a run take
- * O(requests) time together, beside O(positions) for each. */
+ * O(requests and their dependencies) time together, beside O(positions) for each. */
 uint32_t odb_run_next_unit(odb_live_run *run, uint32_t *positions, size_t positions_size, size_t *count);
 
 /* Starts all members of the unit of a request together, to send a group to a service as a batch of its own: the
@@ -356,6 +378,21 @@ uint32_t odb_run_next_unit(odb_live_run *run, uint32_t *positions, size_t positi
  * not succeeded, or ODB_WIDTH_REACHED. A unit that `odb_run_next_unit` gives may start so. A handle as above. Takes
  * O(members and their dependencies) time, and allocates nothing. */
 uint32_t odb_run_start_unit(odb_live_run *run, uint32_t position);
+
+/* Gives the next part of a run as the text of a batch of its own, which the check accepts, and the positions of its requests:
+ * requests that may be sent together, `limit` of them at most, none of which was in a part before. What they need is in the part
+ * or has succeeded: dependencies on what has succeeded are left out, and `$id` in a URL is replaced by the Location that this request
+ * has reported. Each body is the bytes of `batch`, which is the document of the run. `*count` is set to the number of positions; it is
+ * 0 if nothing may be sent now. A run that is not finished gives a part with a request, or has one that is not reported yet.
+ * Returns ODB_DONE, and from now on the requests are in a part: once it is answered, start its units one after another by
+ * `odb_run_start_unit`, and report their requests. Otherwise the run and `positions` are as they were: returns
+ * ODB_SMALL_BUFFER if one of the buffers has too little room, and `*text_length` and `*count` say how much is needed. Else `*count`
+ * is 0, and it returns ODB_WRONG_OPTION if `batch` has not the ids and groups of the run's batch, or if one of its groups has more
+ * than `limit` requests; what `odb_check_as` does if the batch is refused, or by F90 if a request refers to one that has reported no
+ * Location of use; or ODB_OUT_OF_MEMORY. A handle as above. Takes O(n log n) time for n bytes of the document. */
+uint32_t odb_run_part(odb_live_run *run, const uint8_t *batch, size_t batch_size, uint32_t limit,
+                      uint8_t *text, size_t text_size, size_t *text_length,
+                      uint32_t *positions, size_t positions_size, size_t *count, uint64_t seed);
 
 /* Stops a run: from now on no request starts, by ODB_STOPPED. What is running is reported as before, and what has not
  * started is answered 424: then `odb_run_response` writes the response of a finished run. A handle as above. Takes
@@ -431,11 +468,11 @@ static inline uint64_t odb_seed(void)
 #endif
 }
 
-/* The same calls with NULL for an empty document or buffer. A call through this header is one of them. */
+/* The same calls with any pointer for an empty document or buffer. A call through this header is one of them. */
 
 #define ODB_INLINE_IN(at) const uint8_t *at, size_t at##_size
 #define ODB_INLINE_TEXT uint8_t *text, size_t text_size, size_t *text_length
-#define ODB_INLINE_SLICE(at) at ? at : &none, at ? at##_size : 0
+#define ODB_INLINE_SLICE(at) at && at##_size ? at : &none, at ? at##_size : 0
 
 static inline uint32_t odb_inline_check_as(ODB_INLINE_IN(batch), uint32_t form, ODB_INLINE_TEXT, uint64_t seed)
 {
@@ -506,7 +543,7 @@ static inline uint32_t odb_inline_faults(ODB_INLINE_IN(batch), ODB_INLINE_TEXT, 
     uint8_t none = 0;
     odb_fault no_fault = {{0, 0}, {0, 0}, {0, 0}, {0, 0, 0}};
     return odb_faults(ODB_INLINE_SLICE(batch), ODB_INLINE_SLICE(text), text_length,
-                      faults ? faults : &no_fault, faults ? faults_size : 0, count, seed);
+                      faults && faults_size ? faults : &no_fault, faults ? faults_size : 0, count, seed);
 }
 
 static inline uint32_t odb_inline_requests(ODB_INLINE_IN(batch), ODB_INLINE_TEXT, odb_request *requests,
@@ -515,7 +552,7 @@ static inline uint32_t odb_inline_requests(ODB_INLINE_IN(batch), ODB_INLINE_TEXT
     uint8_t none = 0;
     odb_request no_request = {{0, 0}, {0, 0}, {0, 0}, {0, 0}, {0, 0}, {0, 0}, {0, 0}, 0};
     return odb_requests(ODB_INLINE_SLICE(batch), ODB_INLINE_SLICE(text), text_length,
-                        requests ? requests : &no_request, requests ? requests_size : 0, count, seed);
+                        requests && requests_size ? requests : &no_request, requests ? requests_size : 0, count, seed);
 }
 
 static inline uint32_t odb_inline_responses(ODB_INLINE_IN(document), ODB_INLINE_TEXT, odb_response *responses,
@@ -524,13 +561,19 @@ static inline uint32_t odb_inline_responses(ODB_INLINE_IN(document), ODB_INLINE_
     uint8_t none = 0;
     odb_response no_response = {{0, 0}, {0, 0}, {0, 0}, {0, 0}, 0};
     return odb_responses(ODB_INLINE_SLICE(document), ODB_INLINE_SLICE(text), text_length,
-                         responses ? responses : &no_response, responses ? responses_size : 0, count);
+                         responses && responses_size ? responses : &no_response, responses ? responses_size : 0, count);
 }
 
 static inline uint32_t odb_inline_explain(ODB_INLINE_IN(code), ODB_INLINE_TEXT)
 {
     uint8_t none = 0;
     return odb_explain(ODB_INLINE_SLICE(code), ODB_INLINE_SLICE(text), text_length);
+}
+
+static inline uint32_t odb_inline_constants(ODB_INLINE_TEXT)
+{
+    uint8_t none = 0;
+    return odb_constants(ODB_INLINE_SLICE(text), text_length);
 }
 
 static inline uint32_t odb_inline_resolve(ODB_INLINE_IN(base), ODB_INLINE_IN(roots), ODB_INLINE_IN(url),
@@ -557,7 +600,7 @@ static inline uint32_t odb_inline_run_open_requests(ODB_INLINE_IN(batch), ODB_IN
     uint8_t none = 0;
     odb_request no_request = {{0, 0}, {0, 0}, {0, 0}, {0, 0}, {0, 0}, {0, 0}, {0, 0}, 0};
     return odb_run_open_requests(ODB_INLINE_SLICE(batch), ODB_INLINE_SLICE(events), mode, width, run,
-                                 ODB_INLINE_SLICE(text), text_length, requests ? requests : &no_request,
+                                 ODB_INLINE_SLICE(text), text_length, requests && requests_size ? requests : &no_request,
                                  requests ? requests_size : 0, count, seed);
 }
 
@@ -587,6 +630,15 @@ static inline uint32_t odb_inline_run_next_unit(odb_live_run *run, uint32_t *pos
 {
     uint32_t none = 0;
     return odb_run_next_unit(run, ODB_INLINE_SLICE(positions), count);
+}
+
+static inline uint32_t odb_inline_run_part(odb_live_run *run, ODB_INLINE_IN(batch), uint32_t limit, ODB_INLINE_TEXT,
+                                           uint32_t *positions, size_t positions_size, size_t *count, uint64_t seed)
+{
+    uint8_t none = 0;
+    uint32_t no_position = 0;
+    return odb_run_part(run, ODB_INLINE_SLICE(batch), limit, ODB_INLINE_SLICE(text), text_length,
+                        positions && positions_size ? positions : &no_position, positions ? positions_size : 0, count, seed);
 }
 
 static inline uint32_t odb_inline_run_position(odb_live_run *run, ODB_INLINE_IN(id), uint32_t *position)
@@ -625,6 +677,7 @@ static inline uint32_t odb_inline_run_response(odb_live_run *run, ODB_INLINE_TEX
 #define odb_where odb_inline_where
 #define odb_faults odb_inline_faults
 #define odb_explain odb_inline_explain
+#define odb_constants odb_inline_constants
 #define odb_requests odb_inline_requests
 #define odb_responses odb_inline_responses
 #define odb_resolve odb_inline_resolve
@@ -634,6 +687,7 @@ static inline uint32_t odb_inline_run_response(odb_live_run *run, ODB_INLINE_TEX
 #define odb_run_running odb_inline_run_running
 #define odb_run_undone odb_inline_run_undone
 #define odb_run_next_unit odb_inline_run_next_unit
+#define odb_run_part odb_inline_run_part
 #define odb_run_position odb_inline_run_position
 #define odb_run_ids odb_inline_run_ids
 #define odb_run_report odb_inline_run_report

@@ -3,12 +3,13 @@
 
 - Each declaration of include/odb_batch.h is the one that follows from the export in crates/odb_ffi;
   nothing else compares them. The bindings in python/ and node/ call just these functions.
-- Statuses and options have the same numbers in the header as in the source.
+- Statuses and options have the same numbers in the header as in the source, and those of the text of `odb_constants`.
 
 With a built library, `declarations.py FOLDER`, also that libodb_batch.so shows just these functions,
 has its name, and needs the C library alone; and that none is larger than it may be.
 """
 
+import json
 import os
 import re
 import subprocess
@@ -18,7 +19,7 @@ ROOT = os.path.dirname(os.path.dirname(os.path.realpath(__file__)))
 HEADER = "include/odb_batch.h"
 EXPORTS = "crates/odb_ffi/src"
 NAME = "libodb_batch.so.0"
-MOST_BYTES = 780_000
+MOST_BYTES = 820_000
 
 # What a type of Rattle is for C; `alloc` is nothing.
 TYPES = {
@@ -87,6 +88,10 @@ NUMBERS = {
     "ODB_STEP_REPORT": r"Step::Report\(i\) => \((\d+), i\)",
 }
 
+# Lists of `odb_constants`, and how the header begins their names: each has the place in its list as number.
+LISTS = {"forms": "ODB_", "modes": "ODB_", "orders": "ODB_", "states": "ODB_STATE_", "steps": "ODB_STEP_"}
+LIMITS = {"document_bytes": "ODB_MAX_DOCUMENT", "requests": "ODB_MAX_REQUESTS", "width": "ODB_MAX_WIDTH"}
+
 
 def text_of(path):
     with open(os.path.join(ROOT, path), encoding="utf-8") as file:
@@ -123,6 +128,16 @@ def one(pattern, text, what):
     return found[0]
 
 
+def constant_differences(header):
+    """The numbers of the header that are others in the text of `odb_constants`, a line each."""
+    constants = json.loads(one(r'(?s)CONSTANTS: &str = r#"(.*?)"#', source(EXPORTS), EXPORTS))
+    numbers = {prefix + name.upper(): at for member, prefix in LISTS.items() for at, name in enumerate(constants[member])}
+    numbers |= {name: constants["limits"][member] for member, name in LIMITS.items()}
+    for name, number in numbers.items():
+        if int(one(rf"\b{name} (?:= )?(\d+)", header, HEADER)) != number:
+            yield f"{name}: the header and the source have different numbers"
+
+
 def struct_differences(header):
     """The structs that have other fields in the header than in the source, a line each."""
     text = source(EXPORTS)
@@ -150,6 +165,7 @@ def differences():
         kinds = re.findall(r"(?m)^\s*(?:pub(?:\(crate\))? )?\w+: ([^{]*?),$", fields)
         if kinds != ["*mut u8", "Global"]:
             yield f"{name}: its fields are {kinds}, and not those of an odb_live_run"
+    yield from constant_differences(header)
     yield from struct_differences(header)
     if one(r"typedef struct odb_live_run \{\s*([^}]*?)\s*\} odb_live_run;", header, HEADER) != "void *at;":
         yield "odb_live_run: it is another struct in the header"

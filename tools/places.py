@@ -100,8 +100,9 @@ def pairs(texts, pattern):
 def definition(repository, fault):
     """Where a line of definitions says when the rule is broken, by the type of the relation."""
     for enum, variant in repository.variants_of(fault):
+        type_of = re.sub("Rule$", "(?:Rule|Fault)", enum)
         for path, text in repository.specs.items():
-            for relation in re.findall(rf"^abbrev pub (\w+) : .*\b{enum}\b.*Type 0$", text, re.MULTILINE):
+            for relation in re.findall(rf"^abbrev pub (\w+) : .*\b{type_of}\b.*Type 0$", text, re.MULTILINE):
                 found = find({path: text}, rf"^{relation} .*\b{variant}\b.* = ")
                 if found:
                     return found

@@ -1,6 +1,6 @@
 -- The different groups of the first requests: how many they are, and that in the end they are all.
-use Rattle.std.proofs.Common.{◌≡◌, ◌∙◌, ◌||◌, ◌+◌, ◌≤◌, ℕ, zero, suc, Bool, true, false, cond, is_some, Option, None, Some, List, [], ◌∷◌, ◌++◌, length, take, fold, if◌then◌else◌, refl, ap, sym, inl, inr, bytes_eq, arith, length-append}
-use Rattle.std.specs.Prelude.{option_and_then}
+use Rattle.std.proofs.Common.{◌≡◌, ◌∙◌, ◌||◌, ◌+◌, ◌≤◌, ℕ, zero, suc, Bool, true, false, cond, is_some, Option, None, Some, List, [], ◌∷◌, ◌++◌, length, slice_get, take, fold, if◌then◌else◌, refl, ap, sym, inl, inr, bytes_eq, arith, length-append}
+use Rattle.std.specs.Prelude.{Contains, option_and_then}
 use Rattle.std.specs.List.{list_any, filter_map, cons_option}
 use Rattle.std.proofs.Math.Bool.{or-false}
 use Rattle.std.proofs.Math.Seq.{take-suc}
@@ -8,15 +8,15 @@ use Rattle.std.proofs.lemmas.Bool.{cases_Bool}
 use Rattle.std.proofs.lemmas.List.{take_all}
 use Rattle.std.proofs.lemmas.List.Elements.{filter_map-append}
 use Rattle.std.proofs.lemmas.List.Sums.{fold-append}
-use Rattle.std.proofs.lemmas.Option.{slice_get_cases}
+use Rattle.std.proofs.lemmas.Option.{get_or_from_slice_get, option_and_then_some, slice_get_cases, slice_get_within}
 use Rattle.std.proofs.lemmas.Slice.Eq.{bytes_eq-Decides}
 use Rattle.odb_doc.specs.Names.{distinct, with_name}
 use Rattle.odb_doc.specs.batch.Records.{Record}
 use Rattle.odb_check.specs.Firsts.{or_else, is_text}
 use Rattle.odb_check.specs.Units.{groups_of, first_in_group}
-use Rattle.odb_check.specs.Positions.{group_at}
+use Rattle.odb_check.specs.Positions.{group_at, IsGroup}
 use Rattle.odb_check.specs.Tables.{with_group, groups_below}
-use Rattle.odb_check.proofs.AnyLemmas.{any_more}
+use Rattle.odb_check.proofs.AnyLemmas.{any_more, Contains-meaning, Contains-none}
 
 -- ---- a group is among those of the first n requests where one of these is in it
 
@@ -81,3 +81,15 @@ groups_so_far rs (suc n) within =
 -- what is assumed is a law of the names of a list
 pub groups_below-all : (rs : List Record) → ((names : List (List ℕ)) → fold with_name [] names ≡ distinct names) → groups_below rs (length rs) ≡ groups_of rs
 groups_below-all rs law = groups_so_far rs (length rs) (omega arith) ∙ ap (λ xs. fold with_name [] (filter_map (λ (r : Record). r.group) xs)) (take_all (length rs) rs (omega arith)) ∙ law (filter_map (λ (r : Record). r.group) rs)
+
+-- ---- without groups no request is in one
+
+some_distinct : (names : List (List ℕ)) (name : List ℕ) → Contains names name → length (distinct names) ≡ 0 → ⊥
+some_distinct [] name has none = Contains-none name has
+some_distinct (x ∷ names) name has none = omega (arith, none)
+
+pub in_no_group : (rs : List Record) (name : List ℕ) → length (groups_of rs) ≡ 0 → ¬ IsGroup rs name
+in_no_group rs name none (j, here) =
+    option_and_then_some (λ (r : Record). r.group) (slice_get rs j) name here (λ r is grouped.
+    let has : Contains rs r = (j, slice_get_within rs j r is, get_or_from_slice_get rs j r r is) in
+    some_distinct _ name (Contains-meaning (λ (request : Record). request.group) rs r name has grouped) none)

@@ -8,13 +8,12 @@ use Rattle.odb_doc.specs.batch.Records.{Record}
 use Rattle.odb_doc.proofs.ElementLemmas.{Contains-head}
 use Rattle.odb_doc.proofs.ListedLemmas.{NoneBelow, contains_none, first_least, least_at, lists_all, lists_on, lists_push, lists_skip, none_more, number_at}
 use Rattle.odb_check.specs.AllNameFaults.{AreNameFaults, IsNameFault, name_place}
-use Rattle.odb_check.specs.FaultTable.{number, phase}
+use Rattle.odb_check.specs.FaultTable.{number, phase, CheckFault}
 use Rattle.odb_check.specs.LeastNameFault.{HasGoodNames, RefusesNames}
 use Rattle.odb_check.specs.NameFaults.{IsBrokenAt}
 use Rattle.odb_check.specs.PhaseFaults.{IsPhaseFault, ListsPhase}
 use Rattle.odb_check.specs.Walks.{BreaksFirst, BreaksIn, BreaksNone, HasValidIds}
-use Rattle.odb_check.specs.declared.fault.CheckFault.{CheckFault}
-use Rattle.odb_check.specs.declared.fault.CheckFault.TheVariants as faults
+use Rattle.odb_doc.specs.declared.rule_fault.RuleFault.TheVariants as faults
 use Rattle.odb_check.specs.declared.fault.NameRule.{NameRule}
 use Rattle.odb_check.specs.declared.fault.NameRule.TheVariants.{IdTwice, IdIsGroup, GroupSplit, UnknownName, ForwardName, OwnGroup, GroupNotListed, UnknownReference, ForwardReference, ReferenceNotListed}
 use Rattle.odb_check.proofs.WalkLemmas.{broken_inside, two_phases}
@@ -22,8 +21,8 @@ use Rattle.odb_check.proofs.WalkLemmas.{broken_inside, two_phases}
 same_rule : (rule other : NameRule) → number rule ≡ number other → rule ≡ other
 same_rule rule other same = search rules
 
-only_one : (ph : ℕ) (rs : List Record) (at n : ℕ) (rule : NameRule) → number rule ≡ n → (other : CheckFault) → IsPhaseFault ph rs other → name_place other ≡ (at, n) → other ≡ faults.Request at rule
-only_one ph rs at n rule is (faults.Request at' other) bad here =
+only_one : (ph : ℕ) (rs : List Record) (at n : ℕ) (rule : NameRule) → number rule ≡ n → (other : CheckFault) → IsPhaseFault ph rs other → name_place other ≡ (at, n) → other ≡ faults.Broken at rule
+only_one ph rs at n rule is (faults.Broken at' other) bad here =
     let place : at' ≡ at = ap (λ (p : ℕ × ℕ). p.0) here in
     let same : other ≡ rule = same_rule other rule (ap (λ (p : ℕ × ℕ). p.1) here ∙ sym is) in
     cc (place, same)
@@ -32,11 +31,11 @@ only_one ph rs at n rule is faults.OutOfMemory bad here = absurd bad
 -- ---- the rules of a phase, from its first number on
 
 phase_broken : (ph first : ℕ) (table : List NameRule) (rs : List Record) (at k : ℕ) (d : NameRule) (listed more : List CheckFault) → number (get_or table k d) ≡ first + k → BreaksIn ph rs (get_or table k d) at
-    → more ≡ listed ++ faults.Request at (get_or table k d) ∷ [] → ListsPhase ph rs (at, first + k) listed → ListsPhase ph rs (at, first + (k + 1)) more
+    → more ≡ listed ++ faults.Broken at (get_or table k d) ∷ [] → ListsPhase ph rs (at, first + k) listed → ListsPhase ph rs (at, first + (k + 1)) more
 phase_broken ph first table rs at k d listed more is broken items lists =
     let rule = get_or table k d in
     let next : first + (k + 1) ≡ (first + k) + 1 = omega arith in
-    rw (next, items) (lists_push name_place (IsPhaseFault ph rs) at (first + k) listed (faults.Request at rule) lists (λ i. (at, is i)) broken (only_one ph rs at (first + k) rule is))
+    rw (next, items) (lists_push name_place (IsPhaseFault ph rs) at (first + k) listed (faults.Broken at rule) lists (λ i. (at, is i)) broken (only_one ph rs at (first + k) rule is))
 
 phase_passed : (ph first : ℕ) (table : List NameRule) (rs : List Record) (at k : ℕ) (d : NameRule) (listed more : List CheckFault) → number (get_or table k d) ≡ first + k → ¬ BreaksIn ph rs (get_or table k d) at
     → more ≡ listed → ListsPhase ph rs (at, first + k) listed → ListsPhase ph rs (at, first + (k + 1)) more
@@ -64,14 +63,14 @@ id_number k less = number_at number 30 asked_of_ids k IdTwice (refl, (refl, (ref
 dependency_number : (k : ℕ) → k < 7 → number (dependency_rule k) ≡ 40 + k
 dependency_number k less = number_at number 40 asked_of_names k IdTwice (refl, (refl, (refl, (refl, (refl, (refl, (refl, tt))))))) less
 
-pub id_broken : (rs : List Record) (at k : ℕ) (listed more : List CheckFault) → k < 3 → BreaksIn 3 rs (id_rule k) at → more ≡ listed ++ faults.Request at (id_rule k) ∷ []
+pub id_broken : (rs : List Record) (at k : ℕ) (listed more : List CheckFault) → k < 3 → BreaksIn 3 rs (id_rule k) at → more ≡ listed ++ faults.Broken at (id_rule k) ∷ []
     → ListsPhase 3 rs (at, 30 + k) listed → ListsPhase 3 rs (at, 30 + (k + 1)) more
 id_broken rs at k listed more less broken items lists = phase_broken 3 30 asked_of_ids rs at k IdTwice listed more (id_number k less) broken items lists
 
 pub id_passed : (rs : List Record) (at k : ℕ) (listed more : List CheckFault) → k < 3 → ¬ BreaksIn 3 rs (id_rule k) at → more ≡ listed → ListsPhase 3 rs (at, 30 + k) listed → ListsPhase 3 rs (at, 30 + (k + 1)) more
 id_passed rs at k listed more less unbroken items lists = phase_passed 3 30 asked_of_ids rs at k IdTwice listed more (id_number k less) unbroken items lists
 
-pub dependency_broken : (rs : List Record) (at k : ℕ) (listed more : List CheckFault) → k < 7 → BreaksIn 4 rs (dependency_rule k) at → more ≡ listed ++ faults.Request at (dependency_rule k) ∷ []
+pub dependency_broken : (rs : List Record) (at k : ℕ) (listed more : List CheckFault) → k < 7 → BreaksIn 4 rs (dependency_rule k) at → more ≡ listed ++ faults.Broken at (dependency_rule k) ∷ []
     → ListsPhase 4 rs (at, 40 + k) listed → ListsPhase 4 rs (at, 40 + (k + 1)) more
 dependency_broken rs at k listed more less broken items lists = phase_broken 4 40 asked_of_names rs at k IdTwice listed more (dependency_number k less) broken items lists
 
@@ -94,11 +93,11 @@ end_below at high x within (inl less) = elim (cases_order x.0 at) [ inl same ↦
 end_below at high x within (inr less) = absurd (omega (arith, less.1))
 
 id_before : (rs : List Record) (at : ℕ) (other : CheckFault) → IsPhaseFault 3 rs other → IsBefore (name_place other) (at + 1, 0) → IsBefore (name_place other) (at, 33)
-id_before rs at (faults.Request i rule) bad less = end_below at 33 (i, number rule) (id_number_within rule bad.0) less
+id_before rs at (faults.Broken i rule) bad less = end_below at 33 (i, number rule) (id_number_within rule bad.0) less
 id_before rs at faults.OutOfMemory bad less = absurd bad
 
 dependency_before : (rs : List Record) (at : ℕ) (other : CheckFault) → IsPhaseFault 4 rs other → IsBefore (name_place other) (at + 1, 0) → IsBefore (name_place other) (at, 47)
-dependency_before rs at (faults.Request i rule) bad less = end_below at 47 (i, number rule) (number_within rule) less
+dependency_before rs at (faults.Broken i rule) bad less = end_below at 47 (i, number rule) (number_within rule) less
 dependency_before rs at faults.OutOfMemory bad less = absurd bad
 
 number_from : (rule : NameRule) → phase rule ≡ 4 → 40 ≤ number rule
@@ -108,8 +107,8 @@ before_number : (at n : ℕ) (x : ℕ × ℕ) → IsBefore x (at, 0) → IsBefor
 before_number at n x less = elim less [ inl earlier ↦ inl earlier | inr here ↦ absurd (omega (arith, here.1)) ]
 
 dependency_from : (rs : List Record) (at : ℕ) (other : CheckFault) → IsPhaseFault 4 rs other → IsBefore (name_place other) (at, 40) → IsBefore (name_place other) (at, 0)
-dependency_from rs at (faults.Request i rule) bad (inl earlier) = inl earlier
-dependency_from rs at (faults.Request i rule) bad (inr here) = absurd (omega (arith, here.1, number_from rule bad.0))
+dependency_from rs at (faults.Broken i rule) bad (inl earlier) = inl earlier
+dependency_from rs at (faults.Broken i rule) bad (inr here) = absurd (omega (arith, here.1, number_from rule bad.0))
 dependency_from rs at faults.OutOfMemory bad less = absurd bad
 
 pub dependency_begin : (rs : List Record) (at : ℕ) (listed : List CheckFault) → ListsPhase 4 rs (at, 0) listed → ListsPhase 4 rs (at, 40) listed
@@ -122,7 +121,7 @@ pub dependency_end : (rs : List Record) (at : ℕ) (listed : List CheckFault) �
 dependency_end rs at listed lists = lists_on name_place (IsPhaseFault 4 rs) (at, 47) (at + 1, 0) listed lists (below_end at 47) (dependency_before rs at)
 
 phase_inside : (ph : ℕ) (rs : List Record) (n : ℕ) → length rs ≤ n → (other : CheckFault) → IsPhaseFault ph rs other → IsBefore (name_place other) (n, 0)
-phase_inside ph rs n long (faults.Request at rule) bad = inl (omega (arith, broken_inside rs rule at bad.1))
+phase_inside ph rs n long (faults.Broken at rule) bad = inl (omega (arith, broken_inside rs rule at bad.1))
 phase_inside ph rs n long faults.OutOfMemory bad = absurd bad
 
 pub phase_all : (ph : ℕ) (rs : List Record) (n : ℕ) (listed : List CheckFault) → length rs ≤ n → ListsPhase ph rs (n, 0) listed → ListsAll name_place (IsPhaseFault ph rs) listed
@@ -171,24 +170,24 @@ ids_all rs [] some lists = absurd (some refl)
 ids_all rs (first ∷ rest) some lists = record { exact = exact; ordered = lists.ordered }
   where
     stops : (fault : CheckFault) → IsPhaseFault 3 rs fault → ¬ HasValidIds rs
-    stops (faults.Request at rule) bad sound = sound rule at bad
+    stops (faults.Broken at rule) bad sound = sound rule at bad
     stops faults.OutOfMemory bad sound = bad
 
-    in_phase : (rule : NameRule) (at : ℕ) → IsNameFault rs (faults.Request at rule) → phase rule ≡ 3
+    in_phase : (rule : NameRule) (at : ℕ) → IsNameFault rs (faults.Broken at rule) → phase rule ≡ 3
     in_phase rule at bad = elim (two_phases rule) [
       | inl third ↦ third
       | inr fourth ↦ absurd (stops first ((lists.exact first).0 (Contains-head first rest)) (bad.0 3 (omega (arith, fourth))))
     ]
 
     exact : (fault : CheckFault) → Contains (first ∷ rest) fault ↔ IsNameFault rs fault
-    exact (faults.Request at rule) = (
-      λ h. let bad = (lists.exact (faults.Request at rule)).0 h in (none_earlier rs rule bad.0, bad.1),
-      λ bad. (lists.exact (faults.Request at rule)).1 (in_phase rule at bad, bad.1),
+    exact (faults.Broken at rule) = (
+      λ h. let bad = (lists.exact (faults.Broken at rule)).0 h in (none_earlier rs rule bad.0, bad.1),
+      λ bad. (lists.exact (faults.Broken at rule)).1 (in_phase rule at bad, bad.1),
     )
     exact faults.OutOfMemory = lists.exact faults.OutOfMemory
 
 pub ids_none : (rs : List Record) → ListsAll name_place (IsPhaseFault 3 rs) [] → HasValidIds rs
-ids_none rs lists rule at broken = contains_none name_place (IsPhaseFault 3 rs) (faults.Request at rule) ((lists.exact (faults.Request at rule)).1 broken)
+ids_none rs lists rule at broken = contains_none name_place (IsPhaseFault 3 rs) (faults.Broken at rule) ((lists.exact (faults.Broken at rule)).1 broken)
 
 -- and else those of dependencies and references
 pub dependencies_all : (rs : List Record) (listed : List CheckFault) → HasValidIds rs → ListsAll name_place (IsPhaseFault 4 rs) listed → AreNameFaults rs listed
@@ -198,25 +197,25 @@ dependencies_all rs listed sound lists = record { exact = exact; ordered = lists
     in_phase rule at broken = elim (two_phases rule) [ inl third ↦ absurd (sound rule at (third, broken)) | inr fourth ↦ fourth ]
 
     exact : (fault : CheckFault) → Contains listed fault ↔ IsNameFault rs fault
-    exact (faults.Request at rule) = (
-      λ h. let bad = (lists.exact (faults.Request at rule)).0 h in (sound_earlier rs sound rule bad.0, bad.1),
-      λ bad. (lists.exact (faults.Request at rule)).1 (in_phase rule at bad.1, bad.1),
+    exact (faults.Broken at rule) = (
+      λ h. let bad = (lists.exact (faults.Broken at rule)).0 h in (sound_earlier rs sound rule bad.0, bad.1),
+      λ bad. (lists.exact (faults.Broken at rule)).1 (in_phase rule at bad.1, bad.1),
     )
     exact faults.OutOfMemory = lists.exact faults.OutOfMemory
 
 -- ---- the list and the fault that is reported
 
 never_good : (rs : List Record) (fault : CheckFault) → IsNameFault rs fault → ¬ HasGoodNames rs
-never_good rs (faults.Request at rule) bad good = good rule at bad.1
+never_good rs (faults.Broken at rule) bad good = good rule at bad.1
 never_good rs faults.OutOfMemory bad good = bad
 
 good_from_none : (rs : List Record) → AreNameFaults rs [] → HasGoodNames rs
 good_from_none rs lists =
     let none : (fault : CheckFault) → ¬ IsNameFault rs fault = λ fault bad. contains_none name_place (IsNameFault rs) fault ((lists.exact fault).1 bad) in
-    let ids : HasValidIds rs = λ rule at broken. none (faults.Request at rule) (none_earlier rs rule broken.0, broken.1) in
+    let ids : HasValidIds rs = λ rule at broken. none (faults.Broken at rule) (none_earlier rs rule broken.0, broken.1) in
     λ rule at broken. elim (two_phases rule) [
       | inl third ↦ ids rule at (third, broken)
-      | inr fourth ↦ none (faults.Request at rule) (sound_earlier rs ids rule fourth, broken)
+      | inr fourth ↦ none (faults.Broken at rule) (sound_earlier rs ids rule fourth, broken)
     ]
 
 pub name_none : (rs : List Record) (listed : List CheckFault) → AreNameFaults rs listed → (listed ≡ []) ↔ HasGoodNames rs
@@ -224,11 +223,11 @@ name_none rs [] lists = (λ e. good_from_none rs lists, λ good. refl)
 name_none rs (first ∷ rest) lists = (λ e. absurd (cc (e)), λ good. absurd (never_good rs first ((lists.exact first).0 (Contains-head first rest)) good))
 
 name_least : (rs : List Record) (fault : CheckFault) → IsNameFault rs fault → ((other : CheckFault) → IsNameFault rs other → ¬ IsBefore (name_place other) (name_place fault)) → RefusesNames fault rs
-name_least rs (faults.Request at rule) bad least = record {
+name_least rs (faults.Broken at rule) bad least = record {
   earlier = bad.0;
   first = record {
-    here = record { broken = (refl, bad.1); least = λ other less broken. least (faults.Request at other) (subst (λ p. (q : ℕ) → q < p → NoneBroken (BreaksIn q rs)) (sym broken.0) bad.0, broken.1) (inr (refl, less)) };
-    before = λ other i less broken. least (faults.Request i other) (subst (λ p. (q : ℕ) → q < p → NoneBroken (BreaksIn q rs)) (sym broken.0) bad.0, broken.1) (inl less);
+    here = record { broken = (refl, bad.1); least = λ other less broken. least (faults.Broken at other) (subst (λ p. (q : ℕ) → q < p → NoneBroken (BreaksIn q rs)) (sym broken.0) bad.0, broken.1) (inr (refl, less)) };
+    before = λ other i less broken. least (faults.Broken i other) (subst (λ p. (q : ℕ) → q < p → NoneBroken (BreaksIn q rs)) (sym broken.0) bad.0, broken.1) (inl less);
   };
 }
 name_least rs faults.OutOfMemory bad least = tt

@@ -11,12 +11,11 @@ use Rattle.odb_doc.specs.LeastRules.{IsFirst}
 use Rattle.odb_doc.proofs.OneLeast.{by_phase}
 use Rattle.odb_doc.specs.Names.{texts_in}
 use Rattle.odb_doc.specs.batch.Records.{Record}
-use Rattle.odb_check.specs.declared.fault.CheckFault.{CheckFault}
-use Rattle.odb_check.specs.declared.fault.CheckFault.TheVariants as faults
+use Rattle.odb_check.specs.FaultTable.{CheckFault, number, phase}
+use Rattle.odb_doc.specs.declared.rule_fault.RuleFault.TheVariants as faults
 use Rattle.odb_check.specs.declared.fault.NameRule.{NameRule}
 use Rattle.odb_check.specs.declared.fault.NameRule.TheVariants.{UnknownName}
 use Rattle.odb_check.specs.declared.need.Need.{Need}
-use Rattle.odb_check.specs.FaultTable.{number, phase}
 use Rattle.odb_check.specs.LeastNameFault.{HasGoodNames, RefusesNames}
 use Rattle.odb_check.specs.Marks.{ones_with, groups_with, AreMarksOf}
 use Rattle.odb_check.specs.NameFaults.{IsBrokenAt}
@@ -103,7 +102,7 @@ broken_inside rs rule i h = grind (arith, slice_get_cases rs i, Contains-none)
 
 pub names_refused : (rs : List Record) (i : ℕ) → HasValidIds rs → ((rule : NameRule) (k : ℕ) → k < i → ¬ BreaksIn 4 rs rule k) → (fault : CheckFault) → FailsAt 4 rs i fault → RefusesNames fault rs
 names_refused rs i sound before faults.OutOfMemory fails = tt
-names_refused rs i sound before (faults.Request at_place rule) fails =
+names_refused rs i sound before (faults.Broken at_place rule) fails =
     by_phase phase number (λ r k. IsBrokenAt r rs k) 4 at_place rule
     (λ ph less other j broken. elim (two_phases other) [ inl third ↦ sound other j (third, broken.1) | inr fourth ↦ omega (arith, less, fourth, broken.0) ])
     (subst (λ k. IsFirst number (BreaksIn 4 rs) k rule) (sym fails.0) (record { here = fails.1; before = before }))

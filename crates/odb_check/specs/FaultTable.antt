@@ -1,9 +1,9 @@
 -- The rules on the names of a batch and their faults: numbers, phases and names, and what is printed of them.
-use Rattle.std.specs.Prelude.{◌/◌, ℕ, List, Option, Some, None, codes}
+use Rattle.std.specs.Prelude.{◌/◌, ℕ, List, Option, codes}
 use Rattle.odb_doc.specs.Refusals.{Printed, fault_of}
 use Rattle.odb_doc.specs.declared.fault.Place.TheVariants as places
-use Rattle.odb_check.specs.declared.fault.CheckFault.{CheckFault}
-use Rattle.odb_check.specs.declared.fault.CheckFault.TheVariants as faults
+use Rattle.odb_doc.specs.RuleFaults.{fault_row}
+use Rattle.odb_doc.specs.declared.rule_fault.RuleFault.{RuleFault}
 use Rattle.odb_check.specs.declared.fault.NameRule.{NameRule}
 use Rattle.odb_check.specs.declared.fault.NameRule.TheVariants.{IdTwice, IdIsGroup, GroupSplit, UnknownName, ForwardName, OwnGroup, GroupNotListed, UnknownReference, ForwardReference, ReferenceNotListed}
 
@@ -27,6 +27,12 @@ number rule = (rule_label rule).0
 abbrev pub phase : NameRule → ℕ
 phase rule = number rule / 10
 
+-- what is printed of the rule, broken at this position
+abbrev pub rule_row : NameRule → ℕ → Printed
+rule_row rule at = fault_of (rule_label rule) (places.Request at)
+
+abbrev pub CheckFault : Type 0
+CheckFault = RuleFault NameRule
+
 abbrev pub check_row : CheckFault → Option Printed
-check_row (faults.Request at rule) = Some (fault_of (rule_label rule) (places.Request at))
-check_row faults.OutOfMemory = None
+check_row = fault_row rule_row

@@ -6,10 +6,9 @@ use Rattle.odb_doc.specs.LeastRules.{NoneBroken, IsLeast}
 use Rattle.odb_doc.specs.LeastRules as least_rules
 use Rattle.odb_doc.specs.batch.Records.{Record}
 use Rattle.odb_check.specs.declared.fault.NameRule.{NameRule}
-use Rattle.odb_check.specs.declared.fault.CheckFault.{CheckFault}
-use Rattle.odb_check.specs.declared.fault.CheckFault.TheVariants as faults
+use Rattle.odb_check.specs.FaultTable.{CheckFault, number, phase}
+use Rattle.odb_doc.specs.declared.rule_fault.RuleFault.TheVariants as faults
 use Rattle.odb_check.specs.declared.need.Need.{Need}
-use Rattle.odb_check.specs.FaultTable.{number, phase}
 use Rattle.odb_check.specs.NameFaults.{IsBrokenAt}
 use Rattle.odb_check.specs.Needs.{further_names, need_of}
 use Rattle.odb_check.specs.Positions.{names_at, reference_at}
@@ -32,7 +31,7 @@ BreaksFirst ph rs i rule = IsLeast number (λ other. BreaksIn ph rs other i) rul
 
 -- the fault is that of i. Out of memory says nothing about it.
 abbrev pub FailsAt : ℕ → List Record → ℕ → CheckFault → Type 0
-FailsAt ph rs i (faults.Request at rule) = (at ≡ i) × BreaksFirst ph rs i rule
+FailsAt ph rs i (faults.Broken at rule) = (at ≡ i) × BreaksFirst ph rs i rule
 FailsAt ph rs i faults.OutOfMemory = Unit {0}
 
 -- what the names in `dependsOn` resolve to

@@ -34,7 +34,7 @@ fn push_id_faults(
     for rule in ID_RULES {
         if breaks(tables, i, *rule) {
             let at = i as usize;
-            faults.push(CheckFault::Request { at, rule: *rule })?;
+            faults.push(CheckFault::Broken { at, rule: *rule })?;
         }
     }
     Ok(())
@@ -78,7 +78,7 @@ fn push_dependency_faults(
     for rule in DEPENDENCY_RULES {
         if request.breaks(has_unknown, *rule) {
             let at = i as usize;
-            faults.push(CheckFault::Request { at, rule: *rule })?;
+            faults.push(CheckFault::Broken { at, rule: *rule })?;
         }
     }
     Ok(())

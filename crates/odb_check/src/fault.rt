@@ -1,11 +1,8 @@
 //! The rules that names can break, F30 to F46, and where one is broken.
 
-ghost use Rattle.std.specs.Prelude.{◌≡◌};
-ghost use Rattle.odb_check.specs.FaultTable.{check_row};
-ghost use Rattle.odb_check.specs.declared.fault.CheckFault.TheVariants.{OutOfMemory};
+ghost use Rattle.odb_check.specs.FaultTable.{rule_row};
 
-use odb_doc::{Fault, Place, Refusal};
-use std::alloc::{AllocError, AllocFailed};
+use odb_doc::{Place, Refusal, Rule, RuleFault};
 use thiserror::Error;
 
 /// A rule that the names of a batch break at one of its requests (OData JSON Format 4.01, sections
@@ -50,27 +47,14 @@ pub enum NameRule {
     ReferenceNotListed,
 }
 
-/// Why the names of a batch do not fit together.
-#[derive(Clone, Copy, Debug, PartialEq, Eq, Error)]
-pub enum CheckFault {
-    /// The request at this position, counted from 0, breaks this rule.
-    #[error("request {at}: {rule}")]
-    Request { at: usize, rule: NameRule },
-    /// An allocation failed. That says nothing about the batch.
-    #[error("out of memory")]
-    OutOfMemory,
-}
+/// Why the names of a batch do not fit together: the request at a position breaks a rule.
+pub type CheckFault = RuleFault<NameRule>;
 
-impl NameRule {
-    ghost use Rattle.odb_check.specs.FaultTable.{rule_label};
-    ghost use Rattle.odb_doc.specs.Refusals.{code_of};
+impl Rule for NameRule {
+    ghost prints = { rule_row };
 
-    /// Returns the code and the name.
-    fn row(self) -> (&'static str, &'static str)
-        ensures code { result.0.now ≡ code_of (rule_label self).0 }
-        ensures name { result.1.now ≡ (rule_label self).1 }
-    {
-        match self {
+    fn refusal(self, at: usize) -> Refusal {
+        let label = match self {
             NameRule::IdTwice => ("F30", "IdTwice"),
             NameRule::IdIsGroup => ("F31", "IdIsGroup"),
             NameRule::GroupSplit => ("F32", "GroupSplit"),
@@ -81,33 +65,7 @@ impl NameRule {
             NameRule::UnknownReference => ("F44", "UnknownReference"),
             NameRule::ForwardReference => ("F45", "ForwardReference"),
             NameRule::ReferenceNotListed => ("F46", "ReferenceNotListed"),
-        }
-    }
-}
-
-impl Fault for CheckFault {
-    ghost row = { check_row };
-
-    fn refusal(&self) -> Option<Refusal> {
-        match *self {
-            CheckFault::Request { at, rule } => Some(Refusal::new(rule.row(), Place::Request(at))),
-            CheckFault::OutOfMemory => None,
-        }
-    }
-}
-
-impl From<AllocError> for CheckFault {
-    ghost from_gives = { λ _ fault. fault ≡ OutOfMemory };
-
-    fn from(_error: AllocError) -> Self {
-        CheckFault::OutOfMemory
-    }
-}
-
-impl<T: Drop> From<AllocFailed<T>> for CheckFault {
-    ghost from_gives = { λ _ fault. fault ≡ OutOfMemory };
-
-    fn from(_error: AllocFailed<T>) -> Self {
-        CheckFault::OutOfMemory
+        };
+        Refusal::new(label, Place::Request(at))
     }
 }

@@ -37,6 +37,9 @@ fn has_id_of_group(tables: &Tables<'_>, i: u32) -> bool
     requires { i < length (requests tables.now) }
     ensures { IsTrue result ↔ IsBrokenAt rules.IdIsGroup (requests tables.now) i }
 {
+    if tables.group_count() == 0 {
+        return false;
+    }
     tables.unit_of_group(tables.id(i)).is_some()
 }
 
@@ -95,7 +98,7 @@ pub(crate) fn check_ids(tables: &Tables<'_>) -> Result<(), CheckFault>
     for i in 0..tables.len() {
         if let Some(rule) = broken_rule(tables, i) {
             let at = i as usize;
-            return Err(CheckFault::Request { at, rule });
+            return Err(CheckFault::Broken { at, rule });
         }
     }
     Ok(())

@@ -9,7 +9,7 @@ ghost use Rattle.std.specs.Prelude.{◌≡◌, List, IsSome};
 ghost use Rattle.serde_json.specs.Data.{Data};
 ghost use Rattle.odb_doc.specs.batch.LeastFault.{IsWellShaped};
 ghost use Rattle.odb_doc.specs.batch.Records.{IsBatchOf, Record};
-ghost use Rattle.odb_check.specs.declared.fault.CheckFault.{CheckFault};
+ghost use Rattle.odb_check.specs.FaultTable.{CheckFault};
 ghost use Rattle.odb_check.specs.FaultTable.{check_row};
 ghost use Rattle.odb_check.specs.Laws.{HasPositions, HasUnits, NeedsGroups};
 ghost use Rattle.odb_check.specs.LeastNameFault.{HasGoodNames, RefusesNames};

@@ -223,16 +223,27 @@ impl Resolved<'_, '_> {
             && (self.names_later() || self.names_own_group() || self.names_member_alone())
     }
 
+    /// Whether the request that the URL refers to breaks a rule. Most URLs refer to none.
+    fn breaks_by_reference(&self) -> bool
+        ensures unknown { result ≡ false
+            → ¬ IsBrokenAt rules.UnknownReference (batch_of self.now) self.now.i }
+        ensures forward { result ≡ false
+            → ¬ IsBrokenAt rules.ForwardReference (batch_of self.now) self.now.i }
+        ensures unlisted { result ≡ false
+            → ¬ IsBrokenAt rules.ReferenceNotListed (batch_of self.now) self.now.i }
+    {
+        self.tables.reference(self.i).is_some()
+            && (self.has_unknown_reference()
+                || self.has_forward_reference()
+                || self.lacks_reference())
+    }
+
     /// Whether the request breaks one of the rules on names and references.
     fn breaks_any(&self, has_unknown: bool) -> bool
         requires { IsTrue has_unknown ↔ IsBrokenAt rules.UnknownName (batch_of self.now) self.now.i }
         ensures { result ≡ false → BreaksNone 4 (batch_of self.now) self.now.i }
     {
-        has_unknown
-            || self.breaks_by_name()
-            || self.has_unknown_reference()
-            || self.has_forward_reference()
-            || self.lacks_reference()
+        has_unknown || self.breaks_by_name() || self.breaks_by_reference()
     }
 
     /// The first rule on names and references that the request breaks, of which F40 is broken if one of its

@@ -86,7 +86,7 @@ fn resolve_needs(
     };
     if let Some(rule) = resolved.broken_rule(has_unknown) {
         let at = i as usize;
-        return Err(CheckFault::Request { at, rule });
+        return Err(CheckFault::Broken { at, rule });
     }
     if let Some(need) = resolved.further_need() {
         row.push(need)?;

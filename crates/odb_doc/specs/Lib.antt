@@ -11,6 +11,7 @@ pub mod Members
 pub mod Names
 pub mod Nesting
 pub mod Refusals
+pub mod RuleFaults
 pub mod Statuses
 pub mod Texts
 pub mod WholeNumbers

@@ -14,10 +14,11 @@ use Rattle.odb_doc.specs.Refusals.{Printed, printed}
 use Rattle.odb_doc.specs.batch.LeastFault.{IsWellShaped}
 use Rattle.odb_doc.specs.batch.Records.{Record, IsBatchOf}
 use Rattle.odb_doc.specs.batch.ShapeFaults.{AreShapeFaults}
-use Rattle.odb_check.specs.declared.fault.CheckFault.{CheckFault}
+use Rattle.odb_check.specs.FaultTable.{CheckFault, check_row}
 use Rattle.odb_check.specs.AllNameFaults.{AreNameFaults}
-use Rattle.odb_check.specs.FaultTable.{check_row}
 use Rattle.odb_io.specs.Devices.{Writing}
+use Rattle.odb_text.specs.Lines.{printed_at, unlocated}
+use Rattle.odb_text.specs.declared.faults.Located.{Located}
 use Rattle.odb_engine.specs.declared.tasks.answer.Answer.{Answer}
 use Rattle.odb_engine.specs.declared.ending.Ended.{Ended}
 use Rattle.odb_engine.specs.declared.ending.EngineFault.{EngineFault}
@@ -34,6 +35,15 @@ use Rattle.odb_engine.specs.Forms.{fault_text}
 use Rattle.odb_engine.specs.Halts.{Found, Halted, HaltsBy, is_refused}
 use Rattle.odb_engine.specs.Engines.{Ends}
 use Rattle.odb_engine.proofs.EngineLemmas.{Ends-weaker, FoundText, halt_in}
+
+-- one more fault without where it is
+pub unlocated-next : (refusals : List Refusal) (k : ℕ) (d : Refusal) (faults more : List Located) → k < length refusals → map printed_at faults ≡ map unlocated (map printed (take k refusals)) → more ≡ faults ++ (record { refusal = get_or refusals k d; position = None }) ∷ []
+    → map printed_at more ≡ map unlocated (map printed (take (k + 1) refusals))
+unlocated-next refusals k d faults more within are items =
+    let last = get_or refusals k d in
+    let next : map printed (take (k + 1) refusals) ≡ map printed (take k refusals) ++ printed last ∷ [] = ap (map printed) (take_more refusals k d within) ∙ map-append printed (take k refusals) (last ∷ []) in
+    ap (map printed_at) items ∙ map-append printed_at faults ((record { refusal = last; position = None }) ∷ []) ∙ ap (λ before. before ++ unlocated (printed last) ∷ []) are
+    ∙ sym (ap (map unlocated) next ∙ map-append unlocated (map printed (take k refusals)) (printed last ∷ []))
 
 -- a fault that nothing is printed of has no row
 pub no_row : (found : Option Refusal) (row : Option Printed) → ((refusal : Refusal) → found ≡ Some refusal → ⊥) → option_map printed found ≡ row → None ≡ row

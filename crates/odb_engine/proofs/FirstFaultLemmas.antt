@@ -14,10 +14,9 @@ use Rattle.odb_doc.specs.Refusals.{Printed}
 use Rattle.odb_doc.specs.batch.LeastFault.{BreaksRequestAt, IsBatchObject, IsLeastFault, IsWellShaped}
 use Rattle.odb_doc.specs.batch.Records.{IsBatchOf, Record}
 use Rattle.odb_doc.specs.batch.Shapes.{BreaksDocument, elements}
-use Rattle.odb_check.specs.declared.fault.CheckFault.{CheckFault}
-use Rattle.odb_check.specs.declared.fault.CheckFault.TheVariants as check
+use Rattle.odb_check.specs.FaultTable.{CheckFault, check_row}
+use Rattle.odb_doc.specs.declared.rule_fault.RuleFault.TheVariants as check
 use Rattle.odb_check.specs.declared.fault.NameRule.{NameRule}
-use Rattle.odb_check.specs.FaultTable.{check_row}
 use Rattle.odb_check.specs.FaultTable as table
 use Rattle.odb_check.specs.LeastNameFault.{RefusesNames}
 use Rattle.odb_check.specs.NameFaults.{IsBrokenAt}
@@ -100,7 +99,7 @@ module _ (bytes : List ℕ) (value : Data) (document : IsDocument bytes value) w
       let later : 1 < table.phase rule = later_phase rule in
       (no_whole (Names rule) at (omega (arith, later)) first, λ other i bad. first.earlier 1 later (Request other) i (refl, has (Request other) i (omega arith) bad))
 
-  least_name : (rule : NameRule) (at : ℕ) (batch : List Record) → IsBatchOf value batch → IsFirstFault bytes (Names rule) at → IsBrokenAt rule batch at → RefusesNames (check.Request at rule) batch
+  least_name : (rule : NameRule) (at : ℕ) (batch : List Record) → IsBatchOf value batch → IsFirstFault bytes (Names rule) at → IsBrokenAt rule batch at → RefusesNames (check.Broken at rule) batch
   least_name rule at batch is first broken = record {
     earlier = λ ph less other i bad. first.earlier ph less (Names other) i (bad.0, named other i bad.1);
     first = record {
@@ -124,7 +123,7 @@ least_from bytes refusal (Names rule) at first has is =
       value = has.value;
       document = has.document;
       holds = inr (record {
-        fault = check.Request at rule;
+        fault = check.Broken at rule;
         refuses = record {
           batch = batch;
           shaped = well_shaped bytes has.value has.document rule at first;
@@ -219,7 +218,7 @@ module _ (one : IsOneBatch) (bytes : List ℕ) (value : Data) (document : IsDocu
   first_shape refusal doc.OutOfMemory least is = absurd (cc (is))
 
   first_name : (refusal : Printed) (batch : List Record) (fault : CheckFault) → IsWellShaped value → IsBatchOf value batch → RefusesNames fault batch → check_row fault ≡ Some refusal → PrintsFirst bytes refusal
-  first_name refusal batch (check.Request at rule) shaped is_batch first is = record {
+  first_name refusal batch (check.Broken at rule) shaped is_batch first is = record {
     rule = Names rule;
     at = at;
     first = first_of_value (Names rule) at (record {

@@ -12,8 +12,7 @@ use Rattle.odb_doc.specs.Documents.{most_bytes, IsDocument, RefusesDocument}
 use Rattle.odb_doc.specs.Faults.{document_row}
 use Rattle.odb_doc.specs.batch.LeastFault.{IsWellShaped, IsLeastFault}
 use Rattle.odb_doc.specs.batch.Records.{Record, IsBatchOf}
-use Rattle.odb_check.specs.declared.fault.CheckFault.{CheckFault}
-use Rattle.odb_check.specs.FaultTable.{check_row}
+use Rattle.odb_check.specs.FaultTable.{CheckFault, check_row}
 use Rattle.odb_check.specs.LeastNameFault.{HasGoodNames, RefusesNames}
 use Rattle.odb_engine.specs.declared.ending.Ended.{Ended}
 use Rattle.odb_engine.specs.declared.form.Form.{Form}

@@ -16,6 +16,7 @@ mod RestLemmas
 mod CanonLawLemmas
 mod MatchLawLemmas
 mod LiveLemmas
+mod LivePartLemmas
 mod RequestLemmas
 mod LabelLemmas
 mod LiveLawLemmas

@@ -1,5 +1,5 @@
 -- That what is written of a live run is what a run by recorded events writes.
-use Rattle.std.proofs.Common.{◌≡◌, ◌∙◌, ℕ, zero, suc, ◌<◌, true, List, [], ◌∷◌, ◌++◌, All, Option, Some, None, IfSome, IsNone, IsSomeAnd, inl, inr, refl, sym, ap, subst}
+use Rattle.std.proofs.Common.{◌≡◌, ◌∙◌, ℕ, zero, suc, ◌<◌, Bool, true, List, [], ◌∷◌, ◌++◌, All, Option, Some, None, IfSome, IsNone, IsSomeAnd, inl, inr, refl, sym, ap, subst}
 use Rattle.std.specs.List.{AllZip}
 use Rattle.std.proofs.lemmas.Bool.{cases_Bool, both_ways}
 use Rattle.std.proofs.lemmas.List.Elements.{All-nil, All-cons}
@@ -95,17 +95,17 @@ module _ (causes : HaveOneCause) (policy : Policy) (batch : List Record) (good :
   finished-one finished form ended text (inr y) =
       (sym y.ends, ap (λ (l : List Event). response_line (end_of policy batch l)) (same-events causes policy batch good ns es y.events resolved y.resolved) ∙ sym y.result)
 
-  -- the live run after the events, with these texts
-  abbrev pub lived : List (Option (List ℕ)) → Live
-  lived texts = record { labels = labels_of batch; texts = texts; run = without_requests last }
+  -- the live run after the events, with these texts and marks
+  abbrev pub lived : List (Option (List ℕ)) → List Bool → Live
+  lived texts out = record { labels = labels_of batch; texts = texts; out = out; run = without_requests last }
 
-  pub live-one : (texts : List (Option (List ℕ))) → HasNoText texts → (form : Form) (a b : Ended) (s t : List ℕ) → Shows (lived texts) form a s → RunsEvents policy batch ns form b t → (a ≡ b) × (s ≡ t)
-  live-one texts none form a b s t (inl x) y = at x.is
+  pub live-one : (texts : List (Option (List ℕ))) (out : List Bool) → HasNoText texts → (form : Form) (a b : Ended) (s t : List ℕ) → Shows (lived texts out) form a s → RunsEvents policy batch ns form b t → (a ≡ b) × (s ≡ t)
+  live-one texts out none form a b s t (inl x) y = at x.is
     where
-      at : IsLeastOfLive (lived texts) x.refusal → (a ≡ b) × (s ≡ t)
+      at : IsLeastOfLive (lived texts out) x.refusal → (a ≡ b) × (s ≡ t)
       at (AtEnd goes is) = one-run causes policy batch good ns form a b s t (inl (record { refusal = x.refusal; is = OfEnd es resolved run goes is; ends = x.ends; prints = x.prints })) y
       at (OfBody i finished body row) = absurd (body.holds (subst (λ text. HasWholeValue (answer (without_requests last) i) text) (sym (none i)) (whole i body.within)))
-  live-one texts none form a b s t (inr (finished, (ends, is))) y =
+  live-one texts out none form a b s t (inr (finished, (ends, is))) y =
       let same = finished-one finished form b t y in
       let untexted = ap (λ bs. bs ++ newline ∷ []) (text_with-none (labels_of batch) texts (answer last) none) in
       let lines = ap (λ (rs : List Record). text_of (labels_of rs) (answer last) ++ newline ∷ []) (sym (requests-after_all first es)) in
@@ -127,8 +127,8 @@ module _ (law : AreFunctional) (causes : HaveOneCause) (history : AreOneHistory)
           let in_document : AreEventsIn events ns = record { value = has.value; document = has.document; holds = lists } in
           let same = second.one_reading event_faults.event_row RefusesEvents IsEventsDocument AreEventsOf history events ns opened.after.named in_document opened.after.named_in in
           let sound = well-formed (elements opened.after.named_in.value) opened.after.named opened.after.named_in.holds.0.1 opened.after.named_in.holds.1 in
-          live-one causes policy batch good opened.after.named opened.after.events opened.after.resolved opened.after.may_come (whole-bodies policy batch opened.after.named opened.after.events opened.after.resolved sound) live.texts opened.texts form a b s t
-          (subst (λ (x : Live). Shows x form a s) (λ k. record { labels = opened.labels k; texts = live.texts; run = opened.after.state k }) shows)
+          live-one causes policy batch good opened.after.named opened.after.events opened.after.resolved opened.after.may_come (whole-bodies policy batch opened.after.named opened.after.events opened.after.resolved sound) live.texts live.out opened.texts form a b s t
+          (subst (λ (x : Live). Shows x form a s) (λ k. record { labels = opened.labels k; texts = live.texts; out = live.out; run = opened.after.state k }) shows)
           (subst (λ xs. RunsEvents policy batch xs form b t) same writes)
 
   pub live-text : (batch events : List ℕ) (live : Live) (form : Form) (a b : Ended) (s t : List ℕ) → Opens policy batch events live → Shows live form a s → Answers (Runs policy (Some events)) batch form b t → (a ≡ b) × (s ≡ t)
@@ -178,6 +178,6 @@ module _ (law : AreFunctional) (history : AreOneHistory) (policy : Policy) where
           batch = batched.batch;
           shaped = batched.shaped;
           is_batch = batched.is_batch;
-          holds = (batched.holds.0, record { labels = is.labels; texts = is.texts; places = is.places; after = after-next batched.batch events more live.run e is.after (subst (λ rs. RecordsOneMore rs events more e) (same_batch law batch _ _ next opens) next.holds.holds.1) within may });
+          holds = (batched.holds.0, record { labels = is.labels; texts = is.texts; places = is.places; out = is.out; after = after-next batched.batch events more live.run e is.after (subst (λ rs. RecordsOneMore rs events more e) (same_batch law batch _ _ next opens) next.holds.holds.1) within may });
         };
       }

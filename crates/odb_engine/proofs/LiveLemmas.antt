@@ -16,9 +16,9 @@ use Rattle.odb_sched.specs.declared.event.Event.{Event}
 use Rattle.odb_sched.specs.declared.policy.Policy.{Policy}
 use Rattle.odb_sched.specs.declared.refusal.RunRefusal.{RunRefusal}
 use Rattle.odb_sched.specs.declared.refusal.RunRefusal.TheVariants as refusals
-use Rattle.odb_sched.specs.declared.event.ResolveFault.{ResolveFault}
-use Rattle.odb_sched.specs.declared.event.ResolveFault.TheVariants as faults
-use Rattle.odb_sched.specs.run.Refusals.{run_row, resolve_row}
+use Rattle.odb_sched.specs.run.Refusals.{ResolveFault, run_row, resolve_row}
+use Rattle.odb_doc.specs.declared.rule_fault.RuleFault.TheVariants as faults
+use Rattle.odb_sched.specs.declared.event.ResolveRule.TheVariants.{UnknownEvent}
 use Rattle.odb_sched.specs.run.Resolving.{RefusesNamed}
 use Rattle.odb_sched.specs.run.Runs.{Refuses}
 use Rattle.odb_sched.specs.run.State.{State, first_state}
@@ -42,7 +42,7 @@ use Rattle.odb_engine.proofs.EngineLemmas.{Halted-weaker, accepted-value, report
 -- an event that names no request
 pub unknown-after : (policy : Policy) (batch : List Record) (bytes : List ℕ) (named : List EventValue) → AreEventsIn bytes named → (cause : ResolveFault) → RefusesNamed cause batch named
     → (shown : Printed) → resolve_row cause ≡ Some shown → IsLeastAfter policy batch bytes shown
-unknown-after policy batch bytes named are (faults.UnknownEvent at) first shown row = OfIds named are at first row
+unknown-after policy batch bytes named are (faults.Broken at UnknownEvent) first shown row = OfIds named are at first row
 unknown-after policy batch bytes named are faults.OutOfMemory first shown row = absurd (cc row)
 
 -- an event that may not come
@@ -66,7 +66,7 @@ refused live form halt = Halted-weaker (IsLeastOfLive live) (λ refusal. Shows l
 pub kept-with : (kept : Inside) (run : State) → run.plan_graph ≡ kept.run.plan_graph → IsOfOneBatch kept → IsOfOneBatch (record kept { run = run })
 kept-with kept run same of =
     let count = ap (λ (g : PlanGraph). length g.units) (sym same) in
-    record { batch = of.batch; good = of.good; labels = of.labels; plan_graph = same ∙ of.plan_graph; each = of.each ∙ count; places = of.places ∙ count }
+    record { batch = of.batch; good = of.good; labels = of.labels; plan_graph = same ∙ of.plan_graph; each = of.each ∙ count; places = of.places ∙ count; marks = of.marks ∙ count }
 
 -- there is no text where each is absent
 pub no-text : (count : ℕ) → HasNoText (replicate count None)

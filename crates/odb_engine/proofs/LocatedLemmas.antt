@@ -1,5 +1,5 @@
 -- Faults with where they are, and what is written of two documents.
-use Rattle.std.proofs.Common.{◌≡◌, ◌∙◌, ◌↔◌, ◌<◌, ◌+◌, ℕ, zero, suc, arith, Bool, true, false, List, [], ◌∷◌, ◌++◌, length, take, get_or, map, cond, Option, None, Some, Result, Ok, Err, IfErr, IfOk, option_map, inl, inr, refl, sym, ap, subst}
+use Rattle.std.proofs.Common.{◌≡◌, ◌∙◌, ◌↔◌, ◌<◌, ◌+◌, ℕ, zero, suc, arith, Bool, true, false, List, [], ◌∷◌, ◌++◌, length, take, get_or, map, cond, Option, None, Some, Result, Ok, Err, IfErr, IfOk, option_map, IsSomeAnd, inl, inr, refl, sym, ap, subst}
 use Rattle.std.specs.List.{All, AllZip}
 use Rattle.std.proofs.lemmas.List.{map-append, take_more}
 use Rattle.std.proofs.lemmas.List.Elements.{All-nil, All-append, All-cons}
@@ -11,13 +11,12 @@ use Rattle.odb_doc.specs.declared.fault.Place.TheVariants.{Batch}
 use Rattle.odb_doc.specs.declared.refusal.Refusal.{Refusal}
 use Rattle.odb_doc.specs.Faults.{document_row}
 use Rattle.odb_doc.specs.Refusals.{Printed, printed}
-use Rattle.odb_check.specs.declared.fault.CheckFault.{CheckFault}
-use Rattle.odb_check.specs.declared.fault.CheckFault.TheVariants as check_faults
-use Rattle.odb_check.specs.FaultTable.{check_row}
+use Rattle.odb_check.specs.FaultTable.{CheckFault, check_row}
+use Rattle.odb_doc.specs.declared.rule_fault.RuleFault.TheVariants as check_faults
 use Rattle.odb_spans.specs.Positions.{Stands, is_in_batch}
 use Rattle.odb_spans.specs.declared.position.Position.{Position}
 use Rattle.odb_text.specs.Lines.{PrintedAt, printed_at}
-use Rattle.odb_text.specs.declared.located.Located.{Located}
+use Rattle.odb_text.specs.declared.faults.Located.{Located}
 use Rattle.odb_doc.specs.batch.Records.{Record}
 use Rattle.odb_engine.specs.declared.ending.Ended.{Ended}
 use Rattle.odb_engine.specs.declared.ending.Ended.TheVariants.{Done, Refused}
@@ -35,11 +34,11 @@ use Rattle.odb_engine.proofs.RestLemmas.{least-answers}
 
 -- one more fault that is located
 pub located-next : (number : Option ℕ) (document : List ℕ) (refusals : List Refusal) (k : ℕ) (d : Refusal) (faults more : List Located) (fault : Located) → k < length refusals
-    → AreLocated number document (map printed (take k refusals)) (map printed_at faults) → fault.refusal ≡ get_or refusals k d → HasPosition number false document (get_or refusals k d).place fault.position → more ≡ faults ++ fault ∷ []
+    → AreLocated number document (map printed (take k refusals)) (map printed_at faults) → fault.refusal ≡ get_or refusals k d → IsSomeAnd fault.position (HasPosition number false document (get_or refusals k d).place) → more ≡ faults ++ fault ∷ []
     → AreLocated number document (map printed (take (k + 1) refusals)) (map printed_at more)
 located-next number document refusals k d faults more fault within before is position items =
-    let IsPlaced : PrintedAt → Type 0 = λ shown. HasPosition number false document shown.refusal.place shown.position in
-    let here : IsPlaced (printed_at fault) = subst (λ (r : Refusal). HasPosition number false document r.place fault.position) (sym is) position in
+    let IsPlaced : PrintedAt → Type 0 = λ shown. IsSomeAnd shown.position (HasPosition number false document shown.refusal.place) in
+    let here : IsPlaced (printed_at fault) = subst (λ (r : Refusal). IsSomeAnd fault.position (HasPosition number false document r.place)) (sym is) position in
     let all : map printed_at more ≡ map printed_at faults ++ printed_at fault ∷ [] = ap (map printed_at) items ∙ map-append printed_at faults (fault ∷ []) in
     let named : map printed (take (k + 1) refusals) ≡ map printed (take k refusals) ++ printed (get_or refusals k d) ∷ [] = ap (map printed) (take_more refusals k d within) ∙ map-append printed (take k refusals) (get_or refusals k d ∷ []) in
     record {
@@ -63,7 +62,7 @@ position-at number document refusals positions k d e shown stand within is = rec
 
 -- no fault yet
 pub located-none : (number : Option ℕ) (document : List ℕ) → AreLocated number document [] []
-located-none number document = record { are = refl; positions = All-nil (λ (shown : PrintedAt). HasPosition number false document shown.refusal.place shown.position) }
+located-none number document = record { are = refl; positions = All-nil (λ (shown : PrintedAt). IsSomeAnd shown.position (HasPosition number false document shown.refusal.place)) }
 
 -- in a document that is no line the position is printed as it is
 pub has-position : (document : List ℕ) (place : Place) (position : Position) → HasPosition None false document place position → Stands document place position
@@ -89,7 +88,7 @@ shape-place (doc_faults.Request at rule) = refl
 shape-place doc_faults.OutOfMemory = refl
 
 name-place : (fault : CheckFault) → is_in_batch (place_of (check_row fault)) ≡ true
-name-place (check_faults.Request at rule) = refl
+name-place (check_faults.Broken at rule) = refl
 name-place check_faults.OutOfMemory = refl
 
 value-place : (value : Data) (refusal : Printed) → IsLeastOfBatch value refusal → is_in_batch refusal.place ≡ true
@@ -106,9 +105,10 @@ least-place bytes refusal (inr has) = value-place has.value refusal has.holds
 pub locates-fault : (P : WritesIn) (form : Form) (batch_name batch second_name second : List ℕ) (refusal : Printed) (ended : Ended) (text : List ℕ) → P form Refused (fault_text form refusal)
     → LocatesEither form batch_name batch second_name second refusal ended text → Locates P (IsInEither batch_name batch second_name second) form ended text
 locates-fault P form batch_name batch second_name second refusal ended text reported is = inr (record {
-  fault = record { refusal = refusal; position = is.position };
+  refusal = refusal;
   reported = reported;
   name = _;
+  position = is.position;
   is_at = (refl, is.is_at);
   ends = is.ends;
   prints = is.prints;

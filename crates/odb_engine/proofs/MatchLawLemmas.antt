@@ -8,15 +8,14 @@ use Rattle.odb_check.specs.PlanGraph.{PlanGraph}
 use Rattle.odb_check.specs.Plans.{batch_plan_graph}
 use Rattle.odb_sched.specs.declared.policy.Mode.{Mode}
 use Rattle.odb_sched.specs.run.Possible.{IsPossible}
-use Rattle.odb_reply.specs.declared.status_fault.StatusFault.{StatusFault}
-use Rattle.odb_reply.specs.declared.match_fault.MatchFault.{MatchFault}
+use Rattle.odb_reply.specs.StatusFaults.{StatusFault, RefusesStatuses, status_at, status_row}
+use Rattle.odb_reply.specs.MatchFaults.{MatchFault}
 use Rattle.odb_reply.specs.declared.response_fault.ResponseFault.{ResponseFault}
 use Rattle.odb_reply.specs.Fits.{Fits, IsTableOf}
 use Rattle.odb_reply.specs.LeastMatchFault.{RefusesMatch}
 use Rattle.odb_reply.specs.MatchFaults as match_faults
 use Rattle.odb_reply.specs.ResponseDocuments.{Entry, IsResponseDocument, RefusesResponses, ReadsAs, responses_in}
 use Rattle.odb_reply.specs.ResponseDocuments as response_documents
-use Rattle.odb_reply.specs.StatusFaults.{RefusesStatuses, status_at, status_row}
 use Rattle.odb_doc.specs.Refusals.{Printed}
 use Rattle.odb_engine.specs.Cascade.{IsOne}
 use Rattle.odb_engine.specs.Forms.{fault_text}

@@ -9,16 +9,15 @@ use Rattle.odb_doc.specs.batch.LeastFault.{IsWellShaped}
 use Rattle.serde_json.specs.Data.{Data}
 use Rattle.odb_doc.specs.batch.Records.{Record, IsBatchOf}
 use Rattle.odb_sched.specs.declared.policy.Mode.{Mode}
-use Rattle.odb_reply.specs.declared.match_fault.MatchFault.{MatchFault}
+use Rattle.odb_reply.specs.MatchFaults.{MatchFault}
 use Rattle.odb_reply.specs.declared.response_fault.ResponseFault.{ResponseFault}
 use Rattle.odb_reply.specs.Fits.{Fits, IsTableOf}
 use Rattle.odb_reply.specs.LeastMatchFault.{RefusesMatch}
 use Rattle.odb_reply.specs.MatchFaults as match_faults
 use Rattle.odb_reply.specs.ResponseDocuments.{Entry, RefusesResponses}
 use Rattle.odb_reply.specs.ResponseDocuments as response_documents
-use Rattle.odb_send.specs.declared.fault.RestFault.{RestFault}
+use Rattle.odb_send.specs.Faults.{RestFault, RefusesRest, rest_row}
 use Rattle.odb_send.specs.declared.rest.Rest.{Rest}
-use Rattle.odb_send.specs.Faults.{RefusesRest, rest_row}
 use Rattle.odb_send.specs.Locations.{recorded}
 use Rattle.odb_send.specs.Rests.{IsRestOf}
 use Rattle.odb_send.specs.Texts.{IsTextOf}

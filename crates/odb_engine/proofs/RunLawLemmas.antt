@@ -15,8 +15,9 @@ use Rattle.odb_sched.specs.declared.event.Event.TheVariants as event
 use Rattle.odb_sched.specs.declared.policy.Policy.{Policy}
 use Rattle.odb_sched.specs.declared.refusal.RunRefusal.{RunRefusal}
 use Rattle.odb_sched.specs.declared.refusal.RunRefusal.TheVariants as refusal
-use Rattle.odb_sched.specs.declared.event.ResolveFault.{ResolveFault}
-use Rattle.odb_sched.specs.declared.event.ResolveFault.TheVariants.{UnknownEvent}
+use Rattle.odb_sched.specs.run.Refusals.{ResolveFault}
+use Rattle.odb_doc.specs.declared.rule_fault.RuleFault.TheVariants.{Broken}
+use Rattle.odb_sched.specs.declared.event.ResolveRule.TheVariants.{UnknownEvent}
 use Rattle.odb_sched.specs.run.Refusals as refusals
 use Rattle.odb_sched.specs.run.Resolving.{IsFirstUnknown, IsKnown, IsResolved, RefusesNamed}
 use Rattle.odb_sched.specs.run.Runs.{IsRunFrom, RefusesEvent, Refuses, StopsAt, after_all}
@@ -68,8 +69,8 @@ pub record HaveOneCause : Type 0 where
   pub one_refusal : (state : State) (events : List Event) (cause other : RunRefusal) → refusals.IsNumberedRefusal cause → refusals.IsNumberedRefusal other → Refuses state events cause → Refuses state events other → cause ≡ other
   pub one_unknown : (requests : List Record) (events : List EventValue) (fault other : ResolveFault) → refusals.IsNumberedResolve fault → refusals.IsNumberedResolve other → RefusesNamed fault requests events → RefusesNamed other requests events → fault ≡ other
 
-one-unknown : HaveOneCause → (batch : List Record) (ns : List EventValue) (a b : ℕ) → IsFirstUnknown batch ns a → IsFirstUnknown batch ns b → UnknownEvent a ≡ UnknownEvent b
-one-unknown law batch ns a b x y = law.one_unknown batch ns (UnknownEvent a) (UnknownEvent b) (λ is. cc (is)) (λ is. cc (is)) x y
+one-unknown : HaveOneCause → (batch : List Record) (ns : List EventValue) (a b : ℕ) → IsFirstUnknown batch ns a → IsFirstUnknown batch ns b → Broken a UnknownEvent ≡ Broken b UnknownEvent
+one-unknown law batch ns a b x y = law.one_unknown batch ns (Broken a UnknownEvent) (Broken b UnknownEvent) (λ is. cc (is)) (λ is. cc (is)) x y
 
 -- ---- events that may not come
 

@@ -15,8 +15,9 @@ use Rattle.odb_sched.specs.declared.phase.Phase.TheVariants.{Unstarted, Running,
 use Rattle.odb_sched.specs.declared.policy.Policy.{Policy}
 use Rattle.odb_sched.specs.declared.refusal.RunRefusal.{RunRefusal}
 use Rattle.odb_sched.specs.declared.refusal.RunRefusal.TheVariants as refusal
-use Rattle.odb_sched.specs.declared.event.ResolveFault.{ResolveFault}
-use Rattle.odb_sched.specs.declared.event.ResolveFault.TheVariants as fault
+use Rattle.odb_sched.specs.run.Refusals.{ResolveFault}
+use Rattle.odb_doc.specs.declared.rule_fault.RuleFault.TheVariants as fault
+use Rattle.odb_sched.specs.declared.event.ResolveRule.TheVariants.{UnknownEvent}
 use Rattle.odb_sched.specs.run.Answers.{answer, answer_of, outcome_of}
 use Rattle.odb_doc.specs.Refusals.{Printed}
 use Rattle.odb_sched.specs.run.Refusals as refusals
@@ -117,7 +118,7 @@ readable-answers policy batch recorded events is sound can i outcome within answ
 -- an event that names no request
 pub unknown-event : (policy : Policy) (batch : List Record) (recorded : List EventValue) (cause : ResolveFault) → RefusesNamed cause batch recorded
     → (shown : Printed) → refusals.resolve_row cause ≡ Some shown → IsLeastOfRun policy batch recorded shown
-unknown-event policy batch recorded (fault.UnknownEvent at) first shown row = OfIds at first row
+unknown-event policy batch recorded (fault.Broken at UnknownEvent) first shown row = OfIds at first row
 unknown-event policy batch recorded fault.OutOfMemory first shown row = absurd (cc row)
 
 -- an event that may not come

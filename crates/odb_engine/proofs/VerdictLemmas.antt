@@ -20,10 +20,9 @@ use Rattle.odb_doc.specs.batch.ShapeFaults.{AreShapeFaults, IsShapeFault}
 use Rattle.odb_doc.proofs.ElementLemmas.{Contains-head}
 use Rattle.odb_doc.proofs.OneLeast.{by_phase}
 use Rattle.odb_doc.proofs.ShapeFaultLemmas.{shape_first, shape_none}
-use Rattle.odb_check.specs.declared.fault.CheckFault.{CheckFault}
-use Rattle.odb_check.specs.declared.fault.CheckFault.TheVariants as check
+use Rattle.odb_check.specs.FaultTable.{CheckFault, check_row}
+use Rattle.odb_doc.specs.declared.rule_fault.RuleFault.TheVariants as check
 use Rattle.odb_check.specs.AllNameFaults.{AreNameFaults, IsNameFault}
-use Rattle.odb_check.specs.FaultTable.{check_row}
 use Rattle.odb_check.specs.LeastNameFault.{HasGoodNames, RefusesNames}
 use Rattle.odb_check.proofs.PhaseLemmas.{name_first, name_none}
 use Rattle.odb_engine.specs.AllFaults.{AreFaultsIn, AreFaultsOf}
@@ -146,7 +145,7 @@ module _ (one : IsOneBatch) (bytes : List ℕ) (value : Data) (document : IsDocu
           cc ((name_none batch (fault ∷ rest) are).1 good)
 
       at : (other : CheckFault) → fault ≡ other → IsNameFault batch other → RefusesNames fault batch → HasLeast bytes refusals
-      at (check.Request i rule) same name least =
+      at (check.Broken i rule) same name least =
           headed bytes _ (filter_map check_row rest) refusals (is ∙ ap (λ f. filter_map check_row (f ∷ rest)) same)
           (inr (record { value = value; document = document; holds = inr (record { fault = fault; refuses = record { batch = batch; shaped = shaped; is_batch = is_batch; holds = least }; is = ap check_row same }) })) never
       at check.OutOfMemory same name least = absurd name

@@ -1,5 +1,5 @@
 -- For private clauses: what is written of an answer in memory, of all faults, and of a fault with where it is.
-use Rattle.std.specs.Prelude.{◌≡◌, ℕ, Bool, true, false, List, Result, Ok, Err, String, string_bytes, if◌then◌else◌}
+use Rattle.std.specs.Prelude.{◌≡◌, ℕ, Bool, true, false, List, Some, Result, Ok, Err, String, string_bytes, if◌then◌else◌}
 use Rattle.std.specs.declared.alloc.Global.{Global}
 use Rattle.odb_doc.specs.Refusals.{Printed, printed}
 use Rattle.odb_doc.specs.batch.Records.{Record}
@@ -15,8 +15,7 @@ use Rattle.odb_engine.specs.declared.halt.Halt.{Halt}
 use Rattle.odb_engine.specs.declared.halt.Halt.TheVariants as halts
 use Rattle.odb_engine.specs.AllFaults.{ArePrinted}
 use Rattle.odb_engine.specs.Cascade.{Prints, Writes}
-use Rattle.odb_engine.specs.Forms.{fault_text, faults_text}
-use Rattle.odb_engine.specs.Located.{located_text}
+use Rattle.odb_engine.specs.Forms.{fault_text, faults_text, located_text}
 
 -- what is written of an answer, if there is one
 abbrev pub answer_found : Result Answer Halt → Writes
@@ -44,7 +43,7 @@ pub record LocatesFault (IsAt : Position → Type 0) (form : Form) (name : List 
   pub position : Position
   pub is_at : IsAt position
   pub ends : ended ≡ Refused
-  pub prints : text ≡ located_text form name (record { refusal = refusal; position = position })
+  pub prints : text ≡ located_text form name (record { refusal = refusal; position = Some position })
 
 -- a fault of one of two documents is printed with where it is
 abbrev pub LocatesEither : Form → List ℕ → List ℕ → List ℕ → List ℕ → Printed → Writes

@@ -10,7 +10,7 @@ use Rattle.odb_doc.specs.Refusals.{Printed}
 use Rattle.odb_doc.specs.batch.LeastFault.{BreaksRequestAt}
 use Rattle.odb_doc.specs.batch.Records.{IsBatchOf, Record}
 use Rattle.odb_doc.specs.batch.Shapes.{BreaksDocument, elements}
-use Rattle.odb_check.specs.declared.fault.CheckFault.TheVariants as check
+use Rattle.odb_doc.specs.declared.rule_fault.RuleFault.TheVariants as check
 use Rattle.odb_check.specs.declared.fault.NameRule.{NameRule}
 use Rattle.odb_check.specs.FaultTable.{check_row}
 use Rattle.odb_check.specs.FaultTable as table
@@ -33,7 +33,7 @@ order (Names rule) = (table.phase rule, table.number rule)
 abbrev pub row : Rule → ℕ → Option Printed
 row (Document rule) at = document_row (doc.Document rule)
 row (Request rule) at = document_row (doc.Request at rule)
-row (Names rule) at = check_row (check.Request at rule)
+row (Names rule) at = check_row (check.Broken at rule)
 
 -- The bytes break the rule at the position. The document as a whole has position 0. A request is an element of `requests`. Names
 -- are compared between requests, so all elements must read as requests.

@@ -1,5 +1,5 @@
 -- A run that goes on after recorded events, and what is written of it.
-use Rattle.std.specs.Prelude.{◌≡◌, ◌⊎◌, ℕ, List, [], ◌∷◌, ◌++◌, length, Option, Some, None, true, false, slice_set, if◌then◌else◌}
+use Rattle.std.specs.Prelude.{◌≡◌, ◌⊎◌, ℕ, Bool, List, [], ◌∷◌, ◌++◌, length, Option, Some, None, true, false, replicate, slice_set, if◌then◌else◌}
 use Rattle.odb_check.specs.Texts.{newline}
 use Rattle.odb_doc.specs.declared.fault.TextFault.TheVariants.{NotWhole}
 use Rattle.odb_doc.specs.batch.Records.{Record}
@@ -9,7 +9,8 @@ use Rattle.odb_doc.specs.recorded.Events.{EventValue}
 use Rattle.odb_sched.specs.declared.event.Event.{Event}
 use Rattle.odb_sched.specs.declared.policy.Policy.{Policy}
 use Rattle.odb_sched.specs.declared.refusal.RunRefusal.{RunRefusal}
-use Rattle.odb_sched.specs.declared.event.ResolveFault.TheVariants.{UnknownEvent}
+use Rattle.odb_doc.specs.declared.rule_fault.RuleFault.TheVariants.{Broken}
+use Rattle.odb_sched.specs.declared.event.ResolveRule.TheVariants.{UnknownEvent}
 use Rattle.odb_sched.specs.run.Refusals.{run_row, resolve_row}
 use Rattle.odb_sched.specs.run.Resolving.{IsFirstUnknown, IsResolved}
 use Rattle.odb_sched.specs.run.Runs.{IsRunFrom, StopsAt}
@@ -22,10 +23,12 @@ use Rattle.odb_reply.specs.Responses.{LabelValue, labels_of}
 use Rattle.odb_engine.specs.Cascade.{WritesIn, Prints, Reports, IsLeast, Accepts}
 use Rattle.odb_engine.specs.Runs.{AreEventsIn, AreResolved, IsLeastOfEvents, end_of, unfinished}
 
--- a run, the ids and groups of the requests of its batch, and by position the bodies that were reported as text
+-- a run, the ids and groups of the requests of its batch, and by position the bodies that were reported as text, and which
+-- requests are in a part that was given
 pub record Live : Type 0 where
   pub labels : List LabelValue
   pub texts : List (Option (List ℕ))
+  pub out : List Bool
   pub run : State
 
 -- the same with its run in this state
@@ -49,15 +52,16 @@ pub record IsAfter (policy : Policy) (batch : List Record) (bytes : List ℕ) (r
 -- else the first that may not come, with its first cause.
 pub data IsLeastAfter (policy : Policy) (batch : List Record) (bytes : List ℕ) (refusal : Printed) : Type 0 where
   OfDocument : IsLeastOfEvents bytes refusal → IsLeastAfter policy batch bytes refusal
-  OfIds : (named : List EventValue) → AreEventsIn bytes named → (at : ℕ) → IsFirstUnknown batch named at → resolve_row (UnknownEvent at) ≡ Some refusal → IsLeastAfter policy batch bytes refusal
+  OfIds : (named : List EventValue) → AreEventsIn bytes named → (at : ℕ) → IsFirstUnknown batch named at → resolve_row (Broken at UnknownEvent) ≡ Some refusal → IsLeastAfter policy batch bytes refusal
   OfEvent : (named : List EventValue) → AreEventsIn bytes named → (events : List Event) (cause : RunRefusal) → AreResolved batch named events → StopsAt (first_state batch policy) events cause → run_row cause ≡ Some refusal → IsLeastAfter policy batch bytes refusal
 
--- the ids and groups are those of the batch, the run is that after the events in these bytes, and each request has a place for a
--- text of its body, with none in it
+-- the ids and groups are those of the batch, the run is that after the events in these bytes, no request is in a part, and each
+-- has a place for a text of its body, with none in it
 pub record IsOpened (policy : Policy) (batch : List Record) (bytes : List ℕ) (live : Live) : Type 0 where
   pub labels : live.labels ≡ labels_of batch
   pub texts : HasNoText live.texts
   pub places : length live.texts ≡ length batch
+  pub out : live.out ≡ replicate (length batch) false
   pub after : IsAfter policy batch bytes live.run
 
 -- the live run of the batch in a document, after the events in another

@@ -8,10 +8,10 @@ use Rattle.odb_engine.specs.declared.live.LiveRun.TheInside.{Inside}
 use Rattle.odb_engine.specs.Live.{Live}
 
 abbrev pub live_of : Inside → Live
-live_of kept = record { labels = kept.labels; texts = kept.texts.items; run = kept.run }
+live_of kept = record { labels = kept.labels; texts = kept.texts.items; out = kept.out.items; run = kept.run }
 
 -- there is a batch that the check accepts, whose ids and groups these are, and whose units and needs the run has; and each of
--- its positions has a place for a text
+-- its positions has a place for a text and a mark
 pub record IsOfOneBatch (kept : Inside) : Type 0 where
   pub batch : List Record
   pub good : HasGoodNames batch
@@ -19,3 +19,4 @@ pub record IsOfOneBatch (kept : Inside) : Type 0 where
   pub plan_graph : kept.run.plan_graph ≡ batch_plan_graph batch
   pub each : length kept.labels ≡ size kept.run
   pub places : length kept.texts.items ≡ size kept.run
+  pub marks : length kept.out.items ≡ size kept.run

@@ -1,33 +1,21 @@
 -- What is written of documents whose faults are reported with where they are: a result as it is, and a fault with the position
 -- that odb_spans finds for its place.
-use Rattle.std.specs.Prelude.{◌≡◌, ◌⊎◌, ℕ, List, Bool, true, false, Option, Some, None, if◌then◌else◌, map}
+use Rattle.std.specs.Prelude.{◌≡◌, ◌⊎◌, ℕ, List, Bool, true, false, Option, Some, None, if◌then◌else◌, map, IsSomeAnd}
 use Rattle.std.specs.List.{All}
 use Rattle.odb_doc.specs.declared.fault.Place.{Place}
 use Rattle.odb_doc.specs.Refusals.{Printed}
 use Rattle.odb_spans.specs.declared.position.Position.{Position}
 use Rattle.odb_spans.specs.Positions.{Stands, StandsInPair, is_in_batch}
-use Rattle.odb_text.specs.Lines.{PrintedAt, located_line, located_lines}
-use Rattle.odb_text.specs.Results.{all_located_value, json_line, located_value}
+use Rattle.odb_text.specs.Lines.{PrintedAt}
 use Rattle.odb_engine.specs.declared.ending.Ended.{Ended}
 use Rattle.odb_engine.specs.declared.ending.Ended.TheVariants.{Done, Refused}
 use Rattle.odb_engine.specs.declared.form.Form.{Form}
-use Rattle.odb_engine.specs.declared.form.Form.TheVariants.{Lines, Json}
 use Rattle.odb_engine.specs.AllFaults.{AreFaultsIn}
 use Rattle.odb_engine.specs.Cascade.{Answers, WritesIn}
 use Rattle.odb_engine.specs.Contents.Given.{InMemory}
-use Rattle.odb_engine.specs.Forms.{fault_text}
+use Rattle.odb_engine.specs.Forms.{all_located_text, fault_text, located_text}
 use Rattle.odb_engine.specs.declared.tasks.task.Task.{Task}
 use Rattle.odb_engine.specs.Tasks.{OfLine, OfTask, lists_all, takes_second}
-
--- what is printed of a fault with where it is, in the document of this name
-abbrev pub located_text : Form → List ℕ → PrintedAt → List ℕ
-located_text Lines name fault = located_line name fault
-located_text Json name fault = json_line (located_value fault)
-
--- the same of several faults
-abbrev pub all_located_text : Form → List ℕ → List PrintedAt → List ℕ
-all_located_text Lines name faults = located_lines name faults
-all_located_text Json name faults = json_line (all_located_value faults)
 
 -- where a fault with this place is: in the document of this name, at this position
 abbrev pub Whereabouts : Type 1
@@ -35,12 +23,13 @@ Whereabouts = Place → List ℕ → Position → Type 0
 
 -- the fault that a command reports is printed with where it is
 pub record ReportsAt (P : WritesIn) (IsAt : Whereabouts) (form : Form) (ended : Ended) (text : List ℕ) : Type 0 where
-  pub fault : PrintedAt
-  pub reported : P form Refused (fault_text form fault.refusal)
+  pub refusal : Printed
+  pub reported : P form Refused (fault_text form refusal)
   pub name : List ℕ
-  pub is_at : IsAt fault.refusal.place name fault.position
+  pub position : Position
+  pub is_at : IsAt refusal.place name position
   pub ends : ended ≡ Refused
-  pub prints : text ≡ located_text form name fault
+  pub prints : text ≡ located_text form name (record { refusal = refusal; position = Some position })
 
 -- the result that a command writes, or its fault with where it is
 abbrev pub Locates : WritesIn → Whereabouts → WritesIn
@@ -71,7 +60,7 @@ IsInDocument name number is_pair document place shown position = (shown ≡ name
 -- the faults are those, each with where it is in a document
 pub record AreLocated (number : Option ℕ) (document : List ℕ) (refusals : List Printed) (faults : List PrintedAt) : Type 0 where
   pub are : map (λ fault. fault.refusal) faults ≡ refusals
-  pub positions : All (λ fault. HasPosition number false document fault.refusal.place fault.position) faults
+  pub positions : All (λ fault. IsSomeAnd fault.position (HasPosition number false document fault.refusal.place)) faults
 
 -- faults of a document are printed with where they are
 pub record PrintsAll (name : List ℕ) (number : Option ℕ) (document : List ℕ) (form : Form) (refusals : List Printed) (ended : Ended) (text : List ℕ) : Type 0 where

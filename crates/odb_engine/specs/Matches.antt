@@ -7,15 +7,13 @@ use Rattle.odb_doc.specs.batch.Records.{Record}
 use Rattle.odb_check.specs.Plans.{batch_plan_graph}
 use Rattle.odb_sched.specs.declared.policy.Mode.{Mode}
 use Rattle.odb_sched.specs.declared.policy.Mode.TheVariants.{Continue, Stop}
-use Rattle.odb_reply.specs.declared.match_fault.MatchFault.{MatchFault}
+use Rattle.odb_reply.specs.MatchFaults.{MatchFault, match_row}
 use Rattle.odb_sched.specs.run.Possible.{IsPossible}
-use Rattle.odb_reply.specs.declared.status_fault.StatusFault.{StatusFault}
+use Rattle.odb_reply.specs.StatusFaults.{StatusFault, RefusesStatuses, status_at, status_row}
 use Rattle.odb_reply.specs.Completed.{completed}
 use Rattle.odb_reply.specs.Fits.{Fits, IsTableOf}
 use Rattle.odb_reply.specs.LeastMatchFault.{RefusesMatch}
-use Rattle.odb_reply.specs.MatchFaults.{match_row}
 use Rattle.odb_reply.specs.ResponseDocuments.{Entry, IsResponseDocument, RefusesResponses, ReadsAs, responses_in, responses_row}
-use Rattle.odb_reply.specs.StatusFaults.{RefusesStatuses, status_at, status_row}
 use Rattle.odb_engine.specs.declared.ending.Ended.{Ended}
 use Rattle.odb_engine.specs.declared.form.Form.{Form}
 use Rattle.odb_engine.specs.declared.form.Form.TheVariants.{Lines, Json}

@@ -6,9 +6,8 @@ use Rattle.odb_doc.specs.batch.Records.{Record}
 use Rattle.odb_doc.specs.Refusals.{Printed}
 use Rattle.odb_check.specs.Texts.{newline}
 use Rattle.odb_sched.specs.declared.policy.Mode.{Mode}
-use Rattle.odb_send.specs.declared.fault.RestFault.{RestFault}
+use Rattle.odb_send.specs.Faults.{RestFault, RefusesRest, rest_row}
 use Rattle.odb_send.specs.declared.rest.Rest.{Rest}
-use Rattle.odb_send.specs.Faults.{RefusesRest, rest_row}
 use Rattle.odb_send.specs.Locations.{recorded}
 use Rattle.odb_send.specs.Rests.{IsRestOf}
 use Rattle.odb_send.specs.Texts.{IsTextOf}

@@ -10,7 +10,8 @@ use Rattle.odb_doc.specs.batch.Records.{Record}
 use Rattle.odb_sched.specs.declared.event.Event.{Event}
 use Rattle.odb_sched.specs.declared.policy.Policy.{Policy}
 use Rattle.odb_sched.specs.declared.refusal.RunRefusal.{RunRefusal}
-use Rattle.odb_sched.specs.declared.event.ResolveFault.TheVariants.{UnknownEvent}
+use Rattle.odb_doc.specs.declared.rule_fault.RuleFault.TheVariants.{Broken}
+use Rattle.odb_sched.specs.declared.event.ResolveRule.TheVariants.{UnknownEvent}
 use Rattle.odb_sched.specs.run.Laws.{StartsAfterDependencies}
 use Rattle.odb_sched.specs.run.Refusals.{run_row, resolve_row}
 use Rattle.odb_sched.specs.run.Resolving.{IsResolved, IsFirstUnknown}
@@ -57,7 +58,7 @@ end_of policy batch events = after_all (first_state batch policy) events
 -- The least fault of recorded events on a batch: the first that names no request; or else the first that may not come,
 -- with its first cause; or else that the run is not finished after all of them.
 pub data IsLeastOfRun (policy : Policy) (batch : List Record) (named : List EventValue) (refusal : Printed) : Type 0 where
-  OfIds : (at : ℕ) → IsFirstUnknown batch named at → resolve_row (UnknownEvent at) ≡ Some refusal → IsLeastOfRun policy batch named refusal
+  OfIds : (at : ℕ) → IsFirstUnknown batch named at → resolve_row (Broken at UnknownEvent) ≡ Some refusal → IsLeastOfRun policy batch named refusal
   OfEvent : (events : List Event) (cause : RunRefusal) → AreResolved batch named events → StopsAt (first_state batch policy) events cause → run_row cause ≡ Some refusal → IsLeastOfRun policy batch named refusal
   OfEnd : (events : List Event) → AreResolved batch named events → IsRunFrom (first_state batch policy) events → is_finished (end_of policy batch events) ≡ false → refusal ≡ unfinished → IsLeastOfRun policy batch named refusal
 

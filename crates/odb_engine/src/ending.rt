@@ -6,14 +6,15 @@ ghost use Rattle.odb_engine.specs.declared.ending.EngineFault.TheVariants as fau
 ghost use Rattle.odb_engine.specs.declared.halt.Halt.TheVariants as halts;
 ghost use Rattle.odb_engine.specs.Engines.{Ends};
 ghost use Rattle.odb_engine.specs.Answered.{answer_found, refused_text};
-ghost use Rattle.odb_engine.specs.Forms.{fault_text, faults_text};
+ghost use Rattle.odb_engine.specs.Forms.{all_located_text, fault_text, faults_text, located_text};
+ghost use Rattle.odb_text.specs.Lines.{printed_at};
 
 use crate::form::Form;
 use crate::halt::Halt;
 use crate::tasks::answer::Answer;
 use odb_doc::Refusal;
 use odb_io::{DeviceFault, Output};
-use odb_text::{fault_json, fault_line, fault_lines, faults_json};
+use odb_text::{Located, fault_json, fault_line, fault_lines, faults_json};
 use std::alloc::{AllocError, Global};
 use std::io::Write;
 use thiserror::Error;
@@ -57,24 +58,60 @@ impl From<AllocError> for EngineFault {
     }
 }
 
+/// Returns a fault in a form, with where it is in the document of this name if it has a position.
+pub(crate) fn located_text(
+    alloc: Global,
+    form: Form,
+    name: &str,
+    fault: Located,
+) -> Result<String, AllocError>
+    ensures { IfOk result (λ text. string_bytes text ≡ located_text form name.now (printed_at fault)) }
+{
+    match form {
+        Form::Lines => fault_line(alloc, name, fault),
+        Form::Json => fault_json(alloc, fault),
+    }
+}
+
+/// Returns faults in a form, each with where it is in the document of this name if it has a position.
+pub(crate) fn all_located_text(
+    alloc: Global,
+    form: Form,
+    name: &str,
+    faults: &[Located],
+) -> Result<String, AllocError>
+    ensures { IfOk result (λ text. string_bytes text
+        ≡ all_located_text form name.now (map printed_at faults.now)) }
+{
+    match form {
+        Form::Lines => fault_lines(alloc, name, faults),
+        Form::Json => faults_json(alloc, faults),
+    }
+}
+
 /// Returns a fault in a form.
 pub fn fault_text(alloc: Global, form: Form, refusal: Refusal) -> Result<String, AllocError>
     ensures { IfOk result (λ text. string_bytes text ≡ fault_text form (printed refusal)) }
 {
-    match form {
-        Form::Lines => fault_line(alloc, refusal.code, refusal.name, refusal.place),
-        Form::Json => fault_json(alloc, refusal),
-    }
+    let fault = Located {
+        refusal,
+        position: None,
+    };
+    located_text(alloc, form, "", fault)
 }
 
 /// Returns faults in a form.
 fn faults_text(alloc: Global, form: Form, refusals: &[Refusal]) -> Result<String, AllocError>
     ensures { IfOk result (λ text. string_bytes text ≡ faults_text form (map printed refusals.now)) }
 {
-    match form {
-        Form::Lines => fault_lines(alloc, refusals),
-        Form::Json => faults_json(alloc, refusals),
+    let mut faults = Vec::with_capacity(alloc, refusals.len())?;
+    for refusal in refusals {
+        faults.push(Located {
+            refusal: *refusal,
+            position: None,
+        })?;
     }
+    all_located_text(alloc, form, "", &faults)
 }
 
 /// Returns what is written of a refused document: its fault, or all faults if they are listed.

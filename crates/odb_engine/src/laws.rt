@@ -32,6 +32,7 @@ ghost use Rattle.odb_engine.specs.Replayed.{RunsAgain};
 ghost use Rattle.odb_engine.specs.Replays.{Replays};
 ghost use Rattle.odb_engine.specs.Runs.{Runs};
 
+pub mod parts;
 pub mod written;
 
 /// The first fault of a batch document, in one order over its rules F01 to F46: by phase, then by position, then by

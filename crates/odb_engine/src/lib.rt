@@ -33,7 +33,7 @@ pub use ending::{Ended, EngineFault};
 pub use form::Form;
 pub use halt::Halt;
 pub use lines::{EachLine, LineCommand, LineInput, answer_lines};
-pub use live::{LiveRun, Opened, open_run, open_with_requests, requests_in, responses_in};
+pub use live::{LiveRun, Opened, Part, open_run, open_with_requests, requests_in, responses_in};
 pub use setup::{Faults, Setup};
 pub use tasks::{
     Answer, Command, Document, Names, Slice, Source, Task, answer_documents, answer_in_memory,

@@ -37,19 +37,22 @@ use odb_doc::{Batch, Events, Outcome, Place};
 use odb_reply::{JsonText, response_of};
 use odb_sched::{OwnedRun, Policy, ReportRefusal, StartRefusal, resolve, run};
 pub use opened::{Opened, open_with_requests};
+pub use parts::Part;
 pub use requests::requests_in;
 pub use responses::responses_in;
 use std::alloc::{AllocError, Global};
 use std::marker::Model;
 
-/// A run of a batch that the check accepts, the ids and groups of its requests, and the bodies that were
-/// reported as text. It borrows nothing of the batch.
+/// A run of a batch that the check accepts, the ids and groups of its requests, the bodies that were
+/// reported as text, and which requests are in a part. It borrows nothing of the batch.
 #[derive(Drop)]
 pub struct LiveRun {
     run: OwnedRun,
     labels: OwnedLabels,
     /// The bodies that were reported as text, by position.
     texts: Vec<Option<JsonText>>,
+    /// Whether each request is in a part that was given, by position.
+    out: Vec<bool>,
 }
 
 impl Model for LiveRun {
@@ -109,7 +112,13 @@ pub(crate) fn open_on(
     let run = run_after(alloc, plan, events, policy)?;
     let labels = OwnedLabels::of(alloc, plan)?;
     let texts = none_for_each(alloc, plan.len())?;
-    Ok(LiveRun { run, labels, texts })
+    let out = vec![in alloc; false; plan.len() as usize]?;
+    Ok(LiveRun {
+        run,
+        labels,
+        texts,
+        out,
+    })
 }
 
 /// Returns the run of the batch in a document after the recorded events in another, which may be none:

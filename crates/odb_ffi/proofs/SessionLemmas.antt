@@ -23,7 +23,7 @@ use Rattle.odb_ffi.specs.Live.Takes.{Taken as OutcomeTaken, Refused as OutcomeRe
 use Rattle.odb_ffi.specs.Live.TakesBody.{Taken as BodyTaken, Refused as BodyRefused, OutOfMemory as BodyOutOfMemory}
 use Rattle.odb_ffi.specs.Units.{StartsUnit}
 use Rattle.odb_ffi.specs.Units.StartsUnit.{Started as UnitStarted, Refused as UnitRefused, NoRequest as UnitUnknown}
-use Rattle.odb_ffi.specs.Sessions.{AreTaken, Call, Start, StartUnit, Report, Stop, Ask, Does, IsNoEvent, IsOfCall, IsSession, IsTakenAs}
+use Rattle.odb_ffi.specs.Sessions.{AreTaken, Call, Start, StartUnit, Report, Stop, Part, Ask, Does, IsNoEvent, IsOfCall, IsSession, IsTakenAs}
 use Rattle.odb_ffi.specs.Sessions.AreTaken.{None as NoneTaken, Taken as OneTaken, Passed}
 
 -- ---- the texts of bodies
@@ -105,8 +105,17 @@ same-count : (call : Call) (event : LiveEvent) (old new : Live) → length old.t
 same-count call event old new count same (Same texts other) = ap (λ (texts : List (Option (List ℕ))). length texts) texts ∙ count ∙ sym same
 same-count call event old new count same (Notes i status headers body outcome text called is reported bodied within set) = ap (λ (texts : List (Option (List ℕ))). length texts) set ∙ length-set old.texts i text ∙ count ∙ sym same
 
-passed-by : (call : Call) (calls : List Call) (events : List LiveEvent) (first next last : Live) (i : ℕ) → next ≡ first → TextOf calls events next last i → TextOf (call ∷ calls) events first last i
-passed-by call calls events first next last i same (Kept kept none) = Kept (kept ∙ ap (λ (l : Live). text_at l.texts i) same) none
+-- but for marks nothing has changed
+record Keeps (old new : Live) : Type 0 where
+  run : new.run ≡ old.run
+  labels : new.labels ≡ old.labels
+  texts : new.texts ≡ old.texts
+
+keeps-same : (old new : Live) → new ≡ old → Keeps old new
+keeps-same old new same = record { run = ap (λ (l : Live). l.run) same; labels = ap (λ (l : Live). l.labels) same; texts = ap (λ (l : Live). l.texts) same }
+
+passed-by : (call : Call) (calls : List Call) (events : List LiveEvent) (first next last : Live) (i : ℕ) → Keeps first next → TextOf calls events next last i → TextOf (call ∷ calls) events first last i
+passed-by call calls events first next last i same (Kept kept none) = Kept (kept ∙ ap (λ (texts : List (Option (List ℕ))). text_at texts i) same.texts) none
 passed-by call calls events first next last i same (Told outcome has is) = Told outcome has (one-more call calls i outcome (text_at last.texts i) is)
 
 -- ---- the calls that are taken
@@ -158,12 +167,17 @@ module _ (requests : List Record) where
   reported old new i status headers body returned (ReportUnknown past done same) = inr ((λ none. omega (arith, done, none)), same)
   reported old new i status headers body returned (ReportOutOfMemory within some done same) = inr ((λ none. omega (arith, done, none)), same)
 
-  by_call : (call : Call) (old new : Live) → IsPlan old.run.plan_graph → IsPlanGraphOf requests old.run.plan_graph → Does call old new → IsEvent requests call old new ⊎ (IsNoEvent call × (new ≡ old))
-  by_call (Start i status) old new laws graph does = started old new i status does
-  by_call (StartUnit i status) old new laws graph does = sent old new i status laws graph does
-  by_call (Report i status headers body returned) old new laws graph does = reported old new i status headers body returned does
+  or_same : (call : Call) (old new : Live) → IsEvent requests call old new ⊎ (IsNoEvent call × (new ≡ old)) → IsEvent requests call old new ⊎ (IsNoEvent call × Keeps old new)
+  or_same call old new (inl event) = inl event
+  or_same call old new (inr (none, same)) = inr (none, keeps-same old new same)
+
+  by_call : (call : Call) (old new : Live) → IsPlan old.run.plan_graph → IsPlanGraphOf requests old.run.plan_graph → Does call old new → IsEvent requests call old new ⊎ (IsNoEvent call × Keeps old new)
+  by_call (Start i status) old new laws graph does = or_same (Start i status) old new (started old new i status does)
+  by_call (StartUnit i status) old new laws graph does = or_same (StartUnit i status) old new (sent old new i status laws graph does)
+  by_call (Report i status headers body returned) old new laws graph does = or_same (Report i status headers body returned) old new (reported old new i status headers body returned does)
   by_call Stop old new laws graph does = inl (record { event = live_event.Stop; is = refl; known = tt; may = refl; run = ap (λ (l : Live). l.run) does; labels = ap (λ (l : Live). l.labels) does; texts = Same (ap (λ (l : Live). l.texts) does) (λ no. no) })
-  by_call Ask old new laws graph does = inr (tt, does)
+  by_call (Part positions) old new laws graph does = inr (tt, record { run = ap (λ (l : Live). l.run) does; labels = ap (λ (l : Live). l.labels) does; texts = ap (λ (l : Live). l.texts) does })
+  by_call Ask old new laws graph does = inr (tt, keeps-same old new does)
 
   -- the events of the calls that are taken
   pub record IsDriven (first : Live) (calls : List Call) (last : Live) : Type 0 where
@@ -197,15 +211,15 @@ module _ (requests : List Record) where
           texts = λ i. text-by call event.event calls rest.events first next last i count event.texts (rest.texts i);
         }
     | inr passed ↦
-        let same : next.run.plan_graph ≡ first.run.plan_graph = ap (λ (l : Live). l.run.plan_graph) passed.1 in
-        let counted = subst (λ (l : Live). length l.texts ≡ size l.run) (sym passed.1) count in
+        let same : next.run.plan_graph ≡ first.run.plan_graph = ap (λ (s : State). s.plan_graph) passed.1.run in
+        let counted : length next.texts ≡ size next.run = ap (λ (texts : List (Option (List ℕ))). length texts) passed.1.texts ∙ count ∙ ap size (sym passed.1.run) in
         let rest = driven next calls last (subst IsPlan (sym same) laws) (subst (IsPlanGraphOf requests) (sym same) graph) counted more in
         record {
           events = rest.events;
           taken = Passed call calls rest.events passed.0 rest.taken;
-          live = subst (λ (l : Live). IsLiveRunFrom l.run rest.events) passed.1 rest.live;
-          run = rest.run ∙ ap (λ (l : Live). after_all_live l.run rest.events) passed.1;
-          labels = rest.labels ∙ ap (λ (l : Live). l.labels) passed.1;
+          live = subst (λ (s : State). IsLiveRunFrom s rest.events) passed.1.run rest.live;
+          run = rest.run ∙ ap (λ (s : State). after_all_live s rest.events) passed.1.run;
+          labels = rest.labels ∙ passed.1.labels;
           texts = λ i. passed-by call calls rest.events first next last i passed.1 (rest.texts i);
         }
   ]

@@ -6,10 +6,12 @@ pub mod Live
 pub mod Openings
 pub mod Next
 pub mod Units
+pub mod Parts
 pub mod Lists
 pub mod Requests
 pub mod Responses
 pub mod Explanations
+pub mod Constants
 pub mod Faults
 pub mod Targets
 pub mod Places

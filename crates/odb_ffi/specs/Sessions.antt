@@ -20,16 +20,18 @@ use Rattle.odb_reply.specs.Readable.{HasShallowValues}
 use Rattle.odb_reply.specs.ResponseDocuments.{IsResponseDocument}
 use Rattle.odb_reply.specs.Responses.{labels_of}
 use Rattle.odb_engine.specs.Live.{IsAfter, Live, with_run}
+use Rattle.odb_engine.specs.LiveParts.{with_part}
 use Rattle.odb_ffi.specs.Live.{IsReported, IsReportedBody, Reports, Starts}
 use Rattle.odb_ffi.specs.Units.{StartsUnit}
 
--- A call on a handle that was opened: what it is passed, and what it returns. `Ask` is each call that asks something of the run, as
--- which requests are ready.
+-- A call on a handle that was opened: what it is passed, and what it returns. `Part` is a call that gives a part, whose requests are
+-- marked, and `Ask` each call that asks something of the run, as which requests are ready.
 pub data Call : Type 0 where
   Start : (position returned : ℕ) → Call
   StartUnit : (position returned : ℕ) → Call
   Report : (position status : ℕ) (headers body : List ℕ) (returned : ℕ) → Call
   Stop : Call
+  Part : (positions : List ℕ) → Call
   Ask : Call
 
 -- what a call does, as the clause of its export has it
@@ -38,6 +40,7 @@ Does (Start position returned) old new = Starts old new position returned
 Does (StartUnit position returned) old new = StartsUnit old new position returned
 Does (Report position status headers body returned) old new = Reports old new position status headers body returned
 Does Stop old new = new ≡ with_run old (stopped old.run)
+Does (Part positions) old new = new ≡ with_part old positions
 Does Ask old new = new ≡ old
 
 -- the calls lead from the one run to the other
@@ -51,14 +54,16 @@ IsTakenAs requests (Start position returned) event = (returned ≡ 0) × (event 
 IsTakenAs requests (StartUnit position returned) event = (returned ≡ 0) × (event ≡ live_event.StartUnit (unit_at requests position))
 IsTakenAs requests (Report position status headers body returned) event = (returned ≡ 0) × (outcome : Outcome) × IsReported status headers outcome × (event ≡ Single (single.Report position outcome))
 IsTakenAs requests Stop event = event ≡ live_event.Stop
+IsTakenAs requests (Part positions) event = ⊥
 IsTakenAs requests Ask event = ⊥
 
--- the call is no event: it is refused, or asks
+-- the call is no event: it is refused, gives a part, or asks
 abbrev pub IsNoEvent : Call → Type 0
 IsNoEvent (Start position returned) = returned ≢ 0
 IsNoEvent (StartUnit position returned) = returned ≢ 0
 IsNoEvent (Report position status headers body returned) = returned ≢ 0
 IsNoEvent Stop = ⊥
+IsNoEvent (Part positions) = Unit {0}
 IsNoEvent Ask = Unit {0}
 
 -- the events are those of the calls that are taken, in order

@@ -1,23 +1,10 @@
 //! How the explanation of a fault reaches the buffer of the caller.
 
 ghost use Rattle.odb_ffi.specs.Explanations.{Explains};
-ghost use Rattle.odb_ffi.specs.Returns.{Fills};
 
-use crate::buffer::copy_to;
-use crate::status::{DONE, SMALL_BUFFER, WRONG_OPTION};
+use crate::buffer::give_text;
+use crate::status::WRONG_OPTION;
 use odb_explain::explanation_of;
-
-/// Copies a text to the buffer if it fits, sets its length, and returns the status.
-fn give_text(found: &str, text: &mut [u8], text_length: &mut usize) -> u32
-    ensures { Fills found.now 0 result text_length.new text.old text.new }
-{
-    *text_length = found.len();
-    if found.len() > text.len() {
-        return SMALL_BUFFER;
-    }
-    copy_to(text, found.as_bytes());
-    DONE
-}
 
 /// Copies the explanation of a code to the buffer if it fits, sets its length, and returns the status.
 pub fn give_explanation(code: &[u8], text: &mut [u8], text_length: &mut usize) -> u32

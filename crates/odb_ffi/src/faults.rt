@@ -16,7 +16,7 @@ use crate::status::{DONE, REFUSED, SMALL_BUFFER};
 use odb_doc::Refusal;
 use odb_engine::{Form, faults_in};
 use odb_spans::{Position as Found, positions_of};
-use odb_text::fault_line;
+use odb_text::{Located, fault_line};
 use std::alloc::{AllocError, Global};
 
 /// What the line of a fault begins with.
@@ -43,7 +43,11 @@ fn push_fault(
     ensures words { IfOk result (calls.HasWords (string_bytes text.new) (printed refusal)) }
     ensures position { IfOk result (λ fault. fault.position ≡ position_in found) }
 {
-    let line = fault_line(alloc, refusal.code, refusal.name, refusal.place)?;
+    let fault = Located {
+        refusal,
+        position: None,
+    };
+    let line = fault_line(alloc, "", fault)?;
     let code = text.len() + FAULT.len();
     let name = code + refusal.code.len() + 1;
     let place = name + refusal.name.len() + 1;

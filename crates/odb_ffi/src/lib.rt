@@ -5,10 +5,10 @@
 //! engine states. A call of a command keeps nothing; a live run is a handle that its caller closes.
 //! `include/odb_batch.h` declares the exports for C.
 //!
-//! [`exports`], [`explain_exports`], [`fault_exports`], [`open_exports`], [`place_exports`], [`request_exports`],
+//! [`exports`], [`constant_exports`], [`explain_exports`], [`fault_exports`], [`open_exports`], [`part_exports`], [`place_exports`], [`request_exports`],
 //! [`resolve_exports`], [`response_exports`], [`run_exports`] and [`unit_exports`] have the exports alone. What they do over slices and numbers is beside them: `options` and `status` name the
 //! numbers, `answer` does a task and copies a text to the caller's buffer, `live` and `units` drive a run, `next` says which step it
-//! takes next, `requests` copies what is to be sent, `responses` what a service has answered, `faults` all faults, `explanations` what a fault means, and `targets` says where a
+//! takes next, `parts` gives what may be sent together, `requests` copies what is to be sent, `responses` what a service has answered, `faults` all faults, `explanations` what a fault means, [`constants`] what packages need to know, and `targets` says where a
 //! request is sent. [`request`] is one request, [`response`] one response, [`fault`] one fault, and [`position`] where an element begins. What needs a pointer is in `address`, [`handle`], `lent` and [`slot`].
 //! What holds of every list of calls on a live run is in [`laws`].
 #![tactic(auto)]
@@ -16,6 +16,8 @@
 mod address;
 mod answer;
 mod buffer;
+pub mod constant_exports;
+pub mod constants;
 pub mod explain_exports;
 mod explanations;
 pub mod exports;
@@ -31,6 +33,8 @@ mod next;
 pub mod open_exports;
 pub mod options;
 mod outcome;
+pub mod part_exports;
+mod parts;
 pub mod place_exports;
 pub mod position;
 mod positions;

@@ -17,7 +17,7 @@ use crate::units;
 ///
 /// Sets `count` to the number of them, which is 0 if no unit may begin now. Returns 0, and `positions`
 /// begins with them; or 5 if there are more than `positions` has room for, and `positions` is as it was.
-/// All calls of a run together take O(requests), beside O(positions) for each.
+/// All calls of a run together take O(requests + dependencies), beside O(positions) for each.
 #[unsafe(no_mangle)]
 pub extern "C" fn odb_run_next_unit(
     run: &mut Handle,

@@ -9,12 +9,11 @@ use Rattle.odb_check.specs.declared.need.Need.TheVariants.{One, Group}
 use Rattle.odb_check.specs.Positions.{id_at, group_at}
 use Rattle.odb_doc.specs.Statuses.{is_success}
 use Rattle.odb_reply.specs.declared.match_fault.MatchRule.TheVariants.{UnknownResponse, ResponseTwice, ResponseMissing, GroupDiffers, UnsoundSuccess}
-use Rattle.odb_reply.specs.declared.match_fault.MatchFault.{MatchFault}
-use Rattle.odb_reply.specs.declared.match_fault.MatchFault.TheVariants as faults
+use Rattle.odb_reply.specs.MatchFaults.{MatchFault, Breaks, HasFailed, match_row, number}
+use Rattle.odb_doc.specs.declared.rule_fault.RuleFault.TheVariants as faults
 use Rattle.odb_reply.specs.ResponseDocuments.{Entry}
 use Rattle.odb_reply.specs.Fits.{id_in, IsOnlyOne, IsSatisfied, Fits}
 use Rattle.odb_reply.specs.LeastMatchFault.{phase, HasNoMisfit, RefusesMatch}
-use Rattle.odb_reply.specs.MatchFaults.{Breaks, HasFailed, match_row, number}
 use Rattle.odb_reply.specs.Places.{HasAllPlaces, IsFirstOfLast, NoneIn}
 use Rattle.odb_check.proofs.PositionLemmas.{id_within}
 use Rattle.odb_reply.proofs.PlaceLemmas.{some_phase}
@@ -115,7 +114,7 @@ HasNoMisfit-Fits rs es fits UnsoundSuccess i broken =
 
 -- if a fault is reported, the responses do not fit
 pub no_fit : (rs : List Record) (es : List Entry) (fault : MatchFault) → IsSome (match_row fault) → RefusesMatch fault rs es → ¬ Fits rs es
-no_fit rs es (faults.Misfit at_place rule) numbered refused fits = HasNoMisfit-Fits rs es fits rule at_place refused.first.here.broken.1
+no_fit rs es (faults.Broken at_place rule) numbered refused fits = HasNoMisfit-Fits rs es fits rule at_place refused.first.here.broken.1
 no_fit rs es faults.OutOfMemory numbered refused fits = false≢true numbered
 
 -- ---- the last phase
@@ -134,5 +133,5 @@ HasNoMisfit-from rs es before last rule i broken = elim (cases_lt (phase rule) 3
 ]
 
 pub RefusesMatch-last : (rs : List Record) (es : List Entry) (fault : MatchFault) → HasAllPlaces rs es → IsFirstOfLast rs es fault → RefusesMatch fault rs es
-RefusesMatch-last rs es (faults.Misfit at_place rule) before first = by_phase phase number (Breaks rs es) 3 at_place rule before first
+RefusesMatch-last rs es (faults.Broken at_place rule) before first = by_phase phase number (Breaks rs es) 3 at_place rule before first
 RefusesMatch-last rs es faults.OutOfMemory before first = tt

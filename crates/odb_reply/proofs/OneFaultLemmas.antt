@@ -7,15 +7,14 @@ use Rattle.std.proofs.lemmas.Grind.{same_number_lists}
 use Rattle.serde_json.specs.Data.{Data, string}
 use Rattle.odb_doc.proofs.OneLeast as one
 use Rattle.odb_doc.specs.batch.Records.{Record}
-use Rattle.odb_reply.specs.declared.match_fault.MatchFault.{MatchFault}
-use Rattle.odb_reply.specs.declared.match_fault.MatchFault.TheVariants as misfits
+use Rattle.odb_reply.specs.MatchFaults.{MatchFault, Breaks, number}
+use Rattle.odb_doc.specs.declared.rule_fault.RuleFault.TheVariants as misfits
 use Rattle.odb_reply.specs.declared.match_fault.MatchRule.{MatchRule}
 use Rattle.odb_reply.specs.declared.response_fault.ResponseFault.{ResponseFault}
 use Rattle.odb_reply.specs.declared.response_fault.ResponseFault.TheVariants as faults
 use Rattle.odb_reply.specs.Fits.{Fits, IsRow, IsTableOf}
 use Rattle.odb_reply.specs.LeastMatchFault.{RefusesMatch, phase}
 use Rattle.odb_reply.specs.MatchFaults as match_faults
-use Rattle.odb_reply.specs.MatchFaults.{Breaks, number}
 use Rattle.odb_reply.specs.ResponseDocuments.{Entry, ReadsAs, IsResponse, IsResponseDocument, IsFirstBad, RefusesResponses, responses_in}
 use Rattle.odb_reply.specs.ResponseDocuments as response_documents
 
@@ -80,10 +79,10 @@ same_rule : (rule other : MatchRule) → number rule ≡ number other → rule �
 same_rule rule other same = search rules
 
 pub one_match_fault : (rs : List Record) (es : List Entry) (fault other : MatchFault) → IsSome (match_faults.match_row fault) → IsSome (match_faults.match_row other) → RefusesMatch fault rs es → RefusesMatch other rs es → fault ≡ other
-one_match_fault rs es (misfits.Misfit i rule) (misfits.Misfit j other) numbered also first second =
+one_match_fault rs es (misfits.Broken i rule) (misfits.Broken j other) numbered also first second =
     let same : (i ≡ j) × (rule ≡ other) = one.one_by_phase phase number (Breaks rs es) same_rule i j rule other first second in
-    ap (λ r. misfits.Misfit i r) same.1 ∙ ap (λ k. misfits.Misfit k other) same.0
-one_match_fault rs es (misfits.Misfit i rule) misfits.OutOfMemory numbered also first second = absurd (false≢true also)
+    ap (λ r. misfits.Broken i r) same.1 ∙ ap (λ k. misfits.Broken k other) same.0
+one_match_fault rs es (misfits.Broken i rule) misfits.OutOfMemory numbered also first second = absurd (false≢true also)
 one_match_fault rs es misfits.OutOfMemory other numbered also first second = absurd (false≢true numbered)
 
 -- ---- the table of a match

@@ -8,7 +8,7 @@ use Rattle.odb_doc.specs.batch.Records.{Record}
 use Rattle.odb_check.specs.Positions.{id_at}
 use Rattle.odb_reply.specs.declared.match_fault.MatchRule.{MatchRule}
 use Rattle.odb_reply.specs.declared.match_fault.MatchRule.TheVariants.{UnknownResponse, ResponseTwice, ResponseMissing, GroupDiffers, UnsoundSuccess}
-use Rattle.odb_reply.specs.declared.match_fault.MatchFault.TheVariants as faults
+use Rattle.odb_doc.specs.declared.rule_fault.RuleFault.TheVariants as faults
 use Rattle.odb_reply.specs.ResponseDocuments.{Entry}
 use Rattle.odb_reply.specs.Fits.{id_in}
 use Rattle.odb_reply.specs.LeastMatchFault.{phase, RefusesMatch}
@@ -117,7 +117,7 @@ pub some_phase : (rule : MatchRule) → (phase rule ≡ 1) ⊎ ((phase rule ≡ 
 some_phase rule = search rules
 
 pub RefusesMatch-misplaced : (rs : List Record) (es : List Entry) (n : ℕ) (id : List ℕ) (found : Places) (rule : MatchRule) → IsOnce rs → AreNoted rs es n found → id_in es n ≡ Some id
-    → IsMisplaced rs id found rule → RefusesMatch (faults.Misfit n rule) rs es
+    → IsMisplaced rs id found rule → RefusesMatch (faults.Broken n rule) rs es
 RefusesMatch-misplaced rs es n id found rule once noted has misplaced = by_phase phase number (Breaks rs es) 1 n rule (λ p less other j broken. grind (arith, some_phase other, less, broken.0)) (record {
   here = record {
     broken = misplaced_breaks rs es n id found rule noted has misplaced;

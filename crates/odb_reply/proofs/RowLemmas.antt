@@ -8,7 +8,7 @@ use Rattle.odb_doc.specs.batch.Records.{Record}
 use Rattle.odb_check.specs.Positions.{id_at}
 use Rattle.odb_reply.specs.declared.match_fault.MatchRule.{MatchRule}
 use Rattle.odb_reply.specs.declared.match_fault.MatchRule.TheVariants.{ResponseMissing}
-use Rattle.odb_reply.specs.declared.match_fault.MatchFault.TheVariants as faults
+use Rattle.odb_doc.specs.declared.rule_fault.RuleFault.TheVariants as faults
 use Rattle.odb_reply.specs.ResponseDocuments.{Entry}
 use Rattle.odb_reply.specs.Fits.{id_in}
 use Rattle.odb_reply.specs.LeastMatchFault.{phase, RefusesMatch}
@@ -99,7 +99,7 @@ number_73 rule of_phase = absurd (omega (arith, of_phase))
 
 -- the first request without a place is the first misfit
 pub RefusesMatch-missing : (rs : List Record) (es : List Entry) (found : Places) (n : ℕ) (places statuses : List ℕ) → IsOnce rs → AreNoted rs es (length es) found → AreListed es found n places statuses
-    → slice_get found n ≡ Some None → RefusesMatch (faults.Misfit n ResponseMissing) rs es
+    → slice_get found n ≡ Some None → RefusesMatch (faults.Broken n ResponseMissing) rs es
 RefusesMatch-missing rs es found n places statuses once noted listed none = by_phase phase number (Breaks rs es) 2 n ResponseMissing
     (λ p less rule i broken. elim (some_phase rule) [ inl one ↦ none_of_responses rs es found once noted i rule (one, broken.1) | inr (inl two) ↦ omega (arith, less, broken.0, two) | inr (inr three) ↦ omega (arith, less, broken.0, three) ])
     (record {

@@ -14,9 +14,8 @@ use Rattle.odb_sched.specs.run.Possible.{CanHaveSucceeded, CanHaveStarted, IsPos
 use Rattle.odb_sched.proofs.BelowLemmas.{list_all-from, list_all-each}
 use Rattle.odb_reply.specs.Fits.{AreUnits}
 use Rattle.odb_reply.specs.Starts.{can_have_succeeded, can_start, AreStarts, IsSound, IsFirstAt}
-use Rattle.odb_reply.specs.StatusFaults.{status_at, BreaksStatus, status_number, status_row, RefusesStatuses}
-use Rattle.odb_reply.specs.declared.status_fault.StatusFault.{StatusFault}
-use Rattle.odb_reply.specs.declared.status_fault.StatusFault.TheVariants as faults
+use Rattle.odb_reply.specs.StatusFaults.{status_at, BreaksStatus, status_number, status_row, RefusesStatuses, StatusFault}
+use Rattle.odb_doc.specs.declared.rule_fault.RuleFault.TheVariants as faults
 use Rattle.odb_reply.specs.declared.status_fault.StatusRule.{StatusRule}
 use Rattle.odb_reply.specs.declared.status_fault.StatusRule.TheVariants.{NotFinal, PartialGroup, NotStarted}
 
@@ -193,12 +192,12 @@ same_rule : (rule other : StatusRule) → status_number rule ≡ status_number o
 same_rule rule other same = search rules
 
 pub one_status_fault : (plan : PlanGraph) (statuses : ℕ → ℕ) (fault other : StatusFault) → IsSome (status_row fault) → IsSome (status_row other) → RefusesStatuses fault plan statuses → RefusesStatuses other plan statuses → fault ≡ other
-one_status_fault plan statuses (faults.Impossible i rule) (faults.Impossible j other) numbered also first second =
+one_status_fault plan statuses (faults.Broken i rule) (faults.Broken j other) numbered also first second =
     let same : (i ≡ j) × (rule ≡ other) = one_first status_number (BreaksStatus plan statuses) same_rule i j rule other first second in
-    ap (λ r. faults.Impossible i r) same.1 ∙ ap (λ k. faults.Impossible k other) same.0
-one_status_fault plan statuses (faults.Impossible i rule) faults.OutOfMemory numbered also first second = absurd (false≢true also)
+    ap (λ r. faults.Broken i r) same.1 ∙ ap (λ k. faults.Broken k other) same.0
+one_status_fault plan statuses (faults.Broken i rule) faults.OutOfMemory numbered also first second = absurd (false≢true also)
 one_status_fault plan statuses faults.OutOfMemory other numbered also first second = absurd (false≢true numbered)
 
 pub no_status_fault : (plan : PlanGraph) (statuses : ℕ → ℕ) (fault : StatusFault) → IsSome (status_row fault) → RefusesStatuses fault plan statuses → ¬ IsPossible plan statuses
-no_status_fault plan statuses (faults.Impossible i rule) numbered first = not_possible plan statuses rule i first.here.broken
+no_status_fault plan statuses (faults.Broken i rule) numbered first = not_possible plan statuses rule i first.here.broken
 no_status_fault plan statuses faults.OutOfMemory numbered first = absurd (false≢true numbered)

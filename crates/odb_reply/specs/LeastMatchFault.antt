@@ -4,10 +4,9 @@ use Rattle.odb_doc.specs.LeastRules.{NoneBroken, IsFirstByPhase}
 use Rattle.odb_doc.specs.batch.Records.{Record}
 use Rattle.odb_reply.specs.declared.match_fault.MatchRule.{MatchRule}
 use Rattle.odb_reply.specs.declared.match_fault.MatchRule.TheVariants.{UnknownResponse, ResponseTwice, ResponseMissing, GroupDiffers, UnsoundSuccess}
-use Rattle.odb_reply.specs.declared.match_fault.MatchFault.{MatchFault}
-use Rattle.odb_reply.specs.declared.match_fault.MatchFault.TheVariants as faults
+use Rattle.odb_reply.specs.MatchFaults.{MatchFault, Breaks, number}
+use Rattle.odb_doc.specs.declared.rule_fault.RuleFault.TheVariants as faults
 use Rattle.odb_reply.specs.ResponseDocuments.{Entry}
-use Rattle.odb_reply.specs.MatchFaults.{Breaks, number}
 
 -- unknown and repeated responses come first, then missing ones, and then the groups and the statuses of the responses
 abbrev pub phase : MatchRule → ℕ
@@ -23,5 +22,5 @@ HasNoMisfit rs es = NoneBroken (Breaks rs es)
 
 -- the fault is the least of the match. Out of memory says nothing.
 abbrev pub RefusesMatch : MatchFault → List Record → List Entry → Type 0
-RefusesMatch (faults.Misfit at rule) rs es = IsFirstByPhase phase number (Breaks rs es) at rule
+RefusesMatch (faults.Broken at rule) rs es = IsFirstByPhase phase number (Breaks rs es) at rule
 RefusesMatch faults.OutOfMemory rs es = Unit {0}

@@ -1,6 +1,6 @@
 -- How responses do not fit a batch, over all pairs of responses and requests (OData JSON Format 4.01, section 19.5), and
 -- what is printed of it.
-use Rattle.std.specs.Prelude.{◌≡◌, ◌<◌, ℕ, List, Option, Some, None, Contains, IsSomeAnd, IsTrue, codes}
+use Rattle.std.specs.Prelude.{◌≡◌, ◌<◌, ℕ, List, Option, Some, Contains, IsSomeAnd, IsTrue, codes}
 use Rattle.odb_doc.specs.batch.Records.{Record}
 use Rattle.odb_doc.specs.Refusals.{Printed, fault_at}
 use Rattle.odb_doc.specs.declared.fault.Place.{Place}
@@ -13,8 +13,8 @@ use Rattle.odb_check.specs.Units.{unit_at}
 use Rattle.odb_doc.specs.Statuses.{is_success}
 use Rattle.odb_reply.specs.declared.match_fault.MatchRule.{MatchRule}
 use Rattle.odb_reply.specs.declared.match_fault.MatchRule.TheVariants.{UnknownResponse, ResponseTwice, ResponseMissing, GroupDiffers, UnsoundSuccess}
-use Rattle.odb_reply.specs.declared.match_fault.MatchFault.{MatchFault}
-use Rattle.odb_reply.specs.declared.match_fault.MatchFault.TheVariants as faults
+use Rattle.odb_doc.specs.RuleFaults.{fault_row}
+use Rattle.odb_doc.specs.declared.rule_fault.RuleFault.{RuleFault}
 use Rattle.odb_reply.specs.ResponseDocuments.{Entry}
 use Rattle.odb_reply.specs.Fits.{id_in, Responds}
 
@@ -65,6 +65,8 @@ number rule = (rule_label rule).0
 abbrev pub rule_row : MatchRule → ℕ → Printed
 rule_row rule at = fault_at (rule_label rule).0 (rule_label rule).1 ((rule_label rule).2 at)
 
+abbrev pub MatchFault : Type 0
+MatchFault = RuleFault MatchRule
+
 abbrev pub match_row : MatchFault → Option Printed
-match_row (faults.Misfit at rule) = Some (rule_row rule at)
-match_row faults.OutOfMemory = None
+match_row = fault_row rule_row

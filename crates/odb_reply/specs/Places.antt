@@ -9,13 +9,12 @@ use Rattle.odb_check.specs.Positions.{id_at, IsId}
 use Rattle.odb_doc.specs.Statuses.{is_success}
 use Rattle.odb_reply.specs.declared.match_fault.MatchRule.{MatchRule}
 use Rattle.odb_reply.specs.declared.match_fault.MatchRule.TheVariants.{UnknownResponse, ResponseTwice}
-use Rattle.odb_reply.specs.declared.match_fault.MatchFault.{MatchFault}
-use Rattle.odb_reply.specs.declared.match_fault.MatchFault.TheVariants as faults
+use Rattle.odb_reply.specs.MatchFaults.{MatchFault, Breaks, number}
+use Rattle.odb_doc.specs.declared.rule_fault.RuleFault.TheVariants as faults
 use Rattle.odb_reply.specs.ResponseDocuments.{Entry}
 use Rattle.odb_reply.specs.Completed.{is_answered}
 use Rattle.odb_reply.specs.Fits.{id_in, Responds, IsTableOf}
 use Rattle.odb_reply.specs.LeastMatchFault.{phase}
-use Rattle.odb_reply.specs.MatchFaults.{Breaks, number}
 
 -- the place of the response to each request, by position; none if no response was found
 abbrev pub Places : Type 0
@@ -99,5 +98,5 @@ IsFirstIn ph rs es at rule = IsLeast number (λ other. BreaksIn phase (Breaks rs
 
 -- the fault is the first of the last phase. Out of memory says nothing.
 abbrev pub IsFirstOfLast : List Record → List Entry → MatchFault → Type 0
-IsFirstOfLast rs es (faults.Misfit at_place rule) = IsFirst number (BreaksIn phase (Breaks rs es) 3) at_place rule
+IsFirstOfLast rs es (faults.Broken at_place rule) = IsFirst number (BreaksIn phase (Breaks rs es) 3) at_place rule
 IsFirstOfLast rs es faults.OutOfMemory = Unit {0}

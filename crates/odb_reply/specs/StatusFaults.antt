@@ -1,6 +1,6 @@
 -- Statuses that no finished run answers, rule by rule (OData JSON Format 4.01, sections 19.1, 19.4 and 19.5; OData Protocol
 -- 4.01, section 11.7), and what is printed of them.
-use Rattle.std.specs.Prelude.{◌≡◌, ◌≢◌, ◌<◌, ℕ, Bool, false, List, length, slice_index_or, Option, Some, None, IsTrue, codes}
+use Rattle.std.specs.Prelude.{◌≡◌, ◌≢◌, ◌<◌, ℕ, Bool, false, List, length, slice_index_or, Option, IsTrue, codes}
 use Rattle.odb_doc.specs.LeastRules.{IsFirst}
 use Rattle.odb_doc.specs.Refusals.{Printed, fault_at}
 use Rattle.odb_doc.specs.Statuses.{is_success, is_status}
@@ -9,8 +9,9 @@ use Rattle.odb_check.specs.PlanGraph.{PlanGraph, unit_of}
 use Rattle.odb_sched.specs.run.Possible.{CanHaveStarted}
 use Rattle.odb_reply.specs.declared.status_fault.StatusRule.{StatusRule}
 use Rattle.odb_reply.specs.declared.status_fault.StatusRule.TheVariants.{NotFinal, PartialGroup, NotStarted}
-use Rattle.odb_reply.specs.declared.status_fault.StatusFault.{StatusFault}
-use Rattle.odb_reply.specs.declared.status_fault.StatusFault.TheVariants as faults
+use Rattle.odb_doc.specs.RuleFaults.{fault_row}
+use Rattle.odb_doc.specs.declared.rule_fault.RuleFault.{RuleFault}
+use Rattle.odb_doc.specs.declared.rule_fault.RuleFault.TheVariants as faults
 
 -- the status at each position
 abbrev pub status_at : List ℕ → ℕ → ℕ
@@ -47,11 +48,13 @@ status_number rule = (status_label rule).0
 abbrev pub status_rule_row : StatusRule → ℕ → Printed
 status_rule_row rule at = fault_at (status_label rule).0 (status_label rule).1 (places.Request at)
 
+abbrev pub StatusFault : Type 0
+StatusFault = RuleFault StatusRule
+
 abbrev pub status_row : StatusFault → Option Printed
-status_row (faults.Impossible at rule) = Some (status_rule_row rule at)
-status_row faults.OutOfMemory = None
+status_row = fault_row status_rule_row
 
 -- the fault is the least by position and number. Out of memory says nothing.
 abbrev pub RefusesStatuses : StatusFault → PlanGraph → (ℕ → ℕ) → Type 0
-RefusesStatuses (faults.Impossible at rule) plan statuses = IsFirst status_number (BreaksStatus plan statuses) at rule
+RefusesStatuses (faults.Broken at rule) plan statuses = IsFirst status_number (BreaksStatus plan statuses) at rule
 RefusesStatuses faults.OutOfMemory plan statuses = Unit {0}

@@ -101,7 +101,7 @@ fn check_requests(
 {
     for i in 0..plan.len() {
         if let Some(rule) = broken_rule(plan, responses, table, units, i) {
-            return Err(MatchFault::Misfit {
+            return Err(MatchFault::Broken {
                 at: i as usize,
                 rule,
             });

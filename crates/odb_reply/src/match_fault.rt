@@ -1,11 +1,8 @@
 //! The rules by which responses fit a batch, F71 to F75, and where one is broken.
 
-ghost use Rattle.std.specs.Prelude.{◌≡◌};
-ghost use Rattle.odb_reply.specs.MatchFaults.{match_row};
-ghost use Rattle.odb_reply.specs.declared.match_fault.MatchFault.TheVariants.{OutOfMemory};
+ghost use Rattle.odb_reply.specs.MatchFaults.{rule_row};
 
-use odb_doc::{Fault, Place, Refusal};
-use std::alloc::{AllocError, AllocFailed};
+use odb_doc::{Place, Refusal, Rule, RuleFault};
 use thiserror::Error;
 
 /// A rule that responses break if they do not fit a batch (OData JSON Format 4.01, section 19.5).
@@ -29,26 +26,14 @@ pub enum MatchRule {
     UnsoundSuccess,
 }
 
-/// Why the responses of a service do not fit a batch.
-#[derive(Clone, Copy, Debug, PartialEq, Eq, Error)]
-pub enum MatchFault {
-    /// The response (F71, F72) or the request (F73 to F75) at this position, counted from 0, breaks
-    /// this rule.
-    #[error("position {at}: {rule}")]
-    Misfit { at: usize, rule: MatchRule },
-    /// Out of memory. That says nothing about the responses.
-    #[error("out of memory")]
-    OutOfMemory,
-}
+/// Why the responses of a service do not fit a batch: the response (F71, F72) or the request (F73 to F75) at a position
+/// breaks a rule.
+pub type MatchFault = RuleFault<MatchRule>;
 
-impl MatchRule {
-    ghost use Rattle.odb_doc.specs.Refusals.{printed};
-    ghost use Rattle.odb_reply.specs.MatchFaults.{rule_row};
+impl Rule for MatchRule {
+    ghost prints = { rule_row };
 
-    /// Returns what is printed of the rule, broken at this position.
-    fn refusal(self, at: usize) -> Refusal
-        ensures { printed result ≡ rule_row self at }
-    {
+    fn refusal(self, at: usize) -> Refusal {
         let (code, name, place) = match self {
             MatchRule::UnknownResponse => ("F71", "UnknownResponse", Place::Response(at)),
             MatchRule::ResponseTwice => ("F72", "ResponseTwice", Place::Response(at)),
@@ -57,32 +42,5 @@ impl MatchRule {
             MatchRule::UnsoundSuccess => ("F75", "UnsoundSuccess", Place::Request(at)),
         };
         Refusal { code, name, place }
-    }
-}
-
-impl Fault for MatchFault {
-    ghost row = { match_row };
-
-    fn refusal(&self) -> Option<Refusal> {
-        match *self {
-            MatchFault::Misfit { at, rule } => Some(rule.refusal(at)),
-            MatchFault::OutOfMemory => None,
-        }
-    }
-}
-
-impl From<AllocError> for MatchFault {
-    ghost from_gives = { λ _ fault. fault ≡ OutOfMemory };
-
-    fn from(_error: AllocError) -> Self {
-        MatchFault::OutOfMemory
-    }
-}
-
-impl<T: Drop> From<AllocFailed<T>> for MatchFault {
-    ghost from_gives = { λ _ fault. fault ≡ OutOfMemory };
-
-    fn from(_error: AllocFailed<T>) -> Self {
-        MatchFault::OutOfMemory
     }
 }

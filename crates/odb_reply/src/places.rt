@@ -51,7 +51,7 @@ pub(crate) fn places_of(
     let mut places: Vec<Option<usize>> = vec![in alloc; None; plan.len() as usize]?;
     for at in 0..responses.len() {
         if let Err(rule) = note_place(plan, &mut places, responses.entry(at).id, at) {
-            return Err(MatchFault::Misfit { at, rule });
+            return Err(MatchFault::Broken { at, rule });
         }
     }
     Ok(places)

@@ -133,7 +133,7 @@ fn check_each(
 {
     for i in 0..plan.len() {
         if let Some(rule) = broken_status(plan, table, units, started, i) {
-            return Err(StatusFault::Impossible {
+            return Err(StatusFault::Broken {
                 at: i as usize,
                 rule,
             });

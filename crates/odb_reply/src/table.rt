@@ -86,7 +86,7 @@ pub(crate) fn table_of(
     for (at, place) in found.iter().enumerate() {
         let Some(k) = *place else {
             let rule = MatchRule::ResponseMissing;
-            return Err(MatchFault::Misfit { at, rule });
+            return Err(MatchFault::Broken { at, rule });
         };
         places.push(k)?;
         statuses.push(responses.entry(k).status)?;

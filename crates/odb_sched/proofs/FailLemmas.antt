@@ -13,6 +13,7 @@ use Rattle.odb_sched.specs.run.Failing.{own}
 use Rattle.odb_sched.specs.run.Steps.{failed_in}
 use Rattle.odb_dense.specs.Marks.{is_marked, is_visited, marked}
 use Rattle.odb_sched.specs.invariants.Counts.{ArePropagated, AreCounts, HasReady}
+use Rattle.odb_sched.specs.invariants.Openings.{AreOpenings}
 use Rattle.odb_sched.specs.invariants.Propagation.{NeedsUnit, HaveMarked, ArePropagating}
 use Rattle.odb_sched.proofs.FailingLemmas.{Fails-from_fails, fails-from_Fails, Fails-as}
 use Rattle.odb_sched.proofs.PropagateLemmas.{own_fails, need_fails}
@@ -117,13 +118,14 @@ propagating_failed plan phases units i laws within failed are = record {
 
 -- the counts are right again
 pub counts_failed : (plan : PlanGraph) (phases : List Phase) (i : ℕ) (before t : Counts) → has_failed (get_or phases i Unstarted) ≡ true → AreCounts plan (set phases i Running) before
-    → t.unmet.items ≡ before.unmet.items → t.pending.items ≡ before.pending.items → t.running ≡ map is_running phases → ArePropagated plan phases t.failed → HasReady plan phases t → AreCounts plan phases t
-counts_failed plan phases i before t failed counts unmet pending running units ready = record {
+    → t.unmet.items ≡ before.unmet.items → t.pending.items ≡ before.pending.items → t.running ≡ map is_running phases → ArePropagated plan phases t.failed → HasReady plan phases t → AreOpenings plan phases t.unmet.items t.openings → AreCounts plan phases t
+counts_failed plan phases i before t failed counts unmet pending running units ready openings = record {
   ready = ready;
   unmet = λ j below. ap (λ xs. get_or xs j 0) unmet ∙ counts.unmet j below ∙ unmet_same plan (set phases i Running) phases same j;
   pending = λ u below. ap (λ xs. get_or xs u 0) pending ∙ counts.pending u below ∙ pending_same plan (set phases i Running) phases same u;
   units = units;
   running = running;
+  openings = openings;
 }
   where
     same : (j : ℕ) → has_succeeded (get_or (set phases i Running) j Unstarted) ≡ has_succeeded (get_or phases j Unstarted)

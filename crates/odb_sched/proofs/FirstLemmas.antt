@@ -16,6 +16,7 @@ use Rattle.odb_sched.specs.declared.counts.Counts.{Counts}
 use Rattle.odb_sched.specs.run.State.{is_running, is_unstarted, has_succeeded, has_failed}
 use Rattle.odb_sched.specs.run.Failing.{Fails, own, propagated, unit_needed}
 use Rattle.odb_sched.specs.invariants.Counts.{needs_in, members_in, need_counts, member_counts, AreCounts, ArePropagated, is_skipped, pending_in, unmet_in}
+use Rattle.odb_sched.specs.invariants.Openings.{AreOpenings}
 use Rattle.odb_sched.specs.run.Steps.{satisfied_in, failed_in}
 use Rattle.odb_sched.proofs.CountLemmas.{count_same, count_none}
 use Rattle.odb_sched.proofs.FailingLemmas.{Fails-from_fails}
@@ -125,8 +126,8 @@ none_running (suc n) = ap (λ (bs : List Bool). false ∷ bs) (none_running n)
 -- the counts of needs and members are right before any event
 pub first_counts : (plan : PlanGraph) (t : Counts) → IsPlan plan → t.unmet.items ≡ need_counts plan → t.pending.items ≡ member_counts plan → All (λ count. 0 < count) t.pending.items → t.failed ≡ replicate plan.unit_count Unvisited
     → length t.ready ≡ length plan.units → ((i : ℕ) → i < length plan.units → get_or t.ready i false ≡ (get_or t.unmet.items i 0 == 0)) → t.running ≡ replicate (length plan.units) false
-    → AreCounts plan (fresh plan) t
-first_counts plan t laws unmet pending some units each exact running = record {
+    → AreOpenings plan (fresh plan) t.unmet.items t.openings → AreCounts plan (fresh plan) t
+first_counts plan t laws unmet pending some units each exact running openings = record {
   ready = record {
     entries = record {
       phased = length-replicate (length plan.units) Unstarted;
@@ -141,6 +142,7 @@ first_counts plan t laws unmet pending some units each exact running = record {
   pending = λ u inside. member_count u inside ∙ sym (pending_first plan u);
   units = rw units (propagated_first plan);
   running = running ∙ none_running (length plan.units);
+  openings = openings;
 }
   where
     member_count : (u : ℕ) → u < plan.unit_count → get_or t.pending.items u 0 ≡ members_in plan u

@@ -8,8 +8,9 @@ use Rattle.odb_sched.specs.declared.event.Event.{Event}
 use Rattle.odb_sched.specs.declared.event.Event.TheVariants as event
 use Rattle.odb_sched.specs.declared.refusal.RunRefusal.{RunRefusal}
 use Rattle.odb_sched.specs.declared.refusal.RunRefusal.TheVariants as refusal
-use Rattle.odb_sched.specs.declared.event.ResolveFault.{ResolveFault}
-use Rattle.odb_sched.specs.declared.event.ResolveFault.TheVariants.{UnknownEvent, OutOfMemory}
+use Rattle.odb_sched.specs.run.Refusals.{ResolveFault}
+use Rattle.odb_doc.specs.declared.rule_fault.RuleFault.TheVariants.{Broken, OutOfMemory}
+use Rattle.odb_sched.specs.declared.event.ResolveRule.TheVariants.{UnknownEvent}
 use Rattle.odb_sched.specs.run.State.{State, after}
 use Rattle.odb_sched.specs.run.Steps.{may_come}
 use Rattle.odb_sched.specs.run.Runs.{after_all, IsRunFrom, RefusesEvent, StopsAt, Refuses}
@@ -70,6 +71,6 @@ one_place batch ns a b x y = at (cases_order a b)
     at (inr (inr less)) = absurd (known_before batch ns b a less x.before y.unknown)
 
 pub one_unknown : (batch : List Record) (ns : List EventValue) (fault other : ResolveFault) → refusals.IsNumberedResolve fault → refusals.IsNumberedResolve other → RefusesNamed fault batch ns → RefusesNamed other batch ns → fault ≡ other
-one_unknown batch ns (UnknownEvent a) (UnknownEvent b) numbered also x y = ap (λ k. UnknownEvent k) (one_place batch ns a b x y)
-one_unknown batch ns (UnknownEvent a) OutOfMemory numbered also x y = absurd (also refl)
+one_unknown batch ns (Broken a UnknownEvent) (Broken b UnknownEvent) numbered also x y = ap (λ k. Broken k UnknownEvent) (one_place batch ns a b x y)
+one_unknown batch ns (Broken a UnknownEvent) OutOfMemory numbered also x y = absurd (also refl)
 one_unknown batch ns OutOfMemory other numbered also x y = absurd (numbered refl)

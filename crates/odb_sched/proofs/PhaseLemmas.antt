@@ -49,6 +49,13 @@ succeeded_idle phase e = rw (Reported-from phase e).1 refl
 pub failed_idle : (phase : Phase) → has_failed phase ≡ true → is_running phase ≡ false
 failed_idle phase e = rw (Failed-from phase e).1 refl
 
+-- what has reported has started
+pub succeeded_begun : (phase : Phase) → has_succeeded phase ≡ true → is_unstarted phase ≡ false
+succeeded_begun phase e = rw (Reported-from phase e).1 refl
+
+pub failed_begun : (phase : Phase) → has_failed phase ≡ true → is_unstarted phase ≡ false
+failed_begun phase e = rw (Failed-from phase e).1 refl
+
 pub succeeded_not_failed : (phase : Phase) → has_succeeded phase ≡ true → has_failed phase ≡ false
 succeeded_not_failed phase e = let (outcome, is, good) = Reported-from phase e in rw (is, good) refl
 

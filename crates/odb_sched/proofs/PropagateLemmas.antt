@@ -107,8 +107,9 @@ all_propagated plan phases units are none = record {
 }
 
 -- two fields have changed at most
-pub others_kept : (before t : Counts) → t.unmet ≡ before.unmet → t.pending ≡ before.pending → t.running ≡ before.running → t ≡ record before { failed = t.failed; ready = t.ready }
-others_kept before t unmet pending running =
+pub others_kept : (before t : Counts) → t.unmet ≡ before.unmet → t.pending ≡ before.pending → t.running ≡ before.running → t.openings ≡ before.openings → t ≡ record before { failed = t.failed; ready = t.ready }
+others_kept before t unmet pending running openings =
     ap (λ x. record t { unmet = x }) unmet
     ∙ ap (λ x. record t { unmet = before.unmet; pending = x }) pending
     ∙ ap (λ x. record t { unmet = before.unmet; pending = before.pending; running = x }) running
+    ∙ ap (λ x. record t { unmet = before.unmet; pending = before.pending; running = before.running; openings = x }) openings

@@ -4,6 +4,7 @@ use Rattle.std.proofs.lemmas.Bool.{cases_eq}
 use Rattle.odb_check.specs.PlanGraph.{PlanGraph, unit_of}
 use Rattle.odb_dense.specs.declared.worklist.Mark.{Mark}
 use Rattle.odb_sched.specs.declared.counts.Counts.{Counts}
+use Rattle.odb_sched.specs.declared.openings.Openings.{Openings}
 use Rattle.odb_sched.specs.declared.phase.Phase.{Phase}
 use Rattle.odb_sched.specs.declared.phase.Phase.TheVariants.{Unstarted}
 use Rattle.odb_sched.specs.run.State.{is_unstarted}
@@ -29,10 +30,10 @@ ready_marked plan phases t units marks are = record {
 }
 
 -- one request is ready no longer
-pub ready_without : (plan : PlanGraph) (skipped other : ℕ → Bool) (phases later : List Phase) (t : Counts) (i : ℕ) (running : List Bool) → length later ≡ length plan.units → i < length plan.units
+pub ready_without : (plan : PlanGraph) (skipped other : ℕ → Bool) (phases later : List Phase) (t : Counts) (i : ℕ) (running : List Bool) (openings : Openings) → length later ≡ length plan.units → i < length plan.units
     → (is_unstarted (get_or later i Unstarted) && not (other i)) ≡ false → ((j : ℕ) → j ≢ i → (get_or phases j Unstarted ≡ get_or later j Unstarted) × (skipped j ≡ other j)) → AreReady plan skipped phases t
-    → AreReady plan other later (record t { ready = set t.ready i false; running = running })
-ready_without plan skipped other phases later t i running long within out same are = record {
+    → AreReady plan other later (record t { ready = set t.ready i false; running = running; openings = openings })
+ready_without plan skipped other phases later t i running openings long within out same are = record {
   entries = record { phased = long; unmet = are.entries.unmet; pending = are.entries.pending; units = are.entries.units; ready = length-set t.ready i false ∙ are.entries.ready };
   exact = λ j below. elim (cases_eq j i) [
     | inl here ↦ rw (here, get_or-set_same t.ready i false false (rw are.entries.ready within), out) refl

@@ -1,17 +1,14 @@
 -- Counts that fall by one for each entry of a list.
-use Rattle.std.proofs.Common.{◌≡◌, ℕ, Bool, true, ◌<◌, ◌≤◌, ◌+◌, ◌-◌, ◌==◌, refl, sym, subst, arith, cond, eq-eqb, ne_eqb, List, length, get_or, set, take, inl, inr, count_by, get_or-set_same, get_or-set_other}
+use Rattle.std.proofs.Common.{◌≡◌, ℕ, ◌<◌, ◌≤◌, ◌+◌, ◌-◌, ◌==◌, refl, sym, subst, arith, cond, eq-eqb, ne_eqb, List, length, get_or, set, take, inl, inr, count_by, get_or-set_same, get_or-set_other}
 use Rattle.std.proofs.lemmas.Bool.{cases_eq}
 use Rattle.std.proofs.lemmas.List.Sums.{sum_by_more_le, count_by_more_yes, count_by_more_no}
 
 -- an entry that was not taken off yet is still counted
-pub some_entry : (before now k : ℕ) (test : ℕ → Bool) (list : List ℕ) → k < length list → test (get_or list k 0) ≡ true → now + count_by test (take k list) ≡ before → count_by test list ≤ before → 0 < now
-some_entry before now k test list within passes fallen enough =
-    let more : count_by test (take k list) + 1 ≤ count_by test list =
-    subst (λ b. count_by test (take k list) + cond b 1 0 ≤ count_by test list) passes (sum_by_more_le (λ j. cond (test j) 1 0) list k 0 within)
-    in omega arith
-
 pub some_left : (before now k : ℕ) (list : List ℕ) → k < length list → now + count_by (λ j. j == get_or list k 0) (take k list) ≡ before → count_by (λ j. j == get_or list k 0) list ≤ before → 0 < now
-some_left before now k list within fallen enough = some_entry before now k (λ j. j == get_or list k 0) list within (eq-eqb (get_or list k 0) (get_or list k 0) refl) fallen enough
+some_left before now k list within fallen enough =
+    let more : count_by (λ j. j == get_or list k 0) (take k list) + 1 ≤ count_by (λ j. j == get_or list k 0) list =
+    subst (λ b. count_by (λ j. j == get_or list k 0) (take k list) + cond b 1 0 ≤ count_by (λ j. j == get_or list k 0) list) (eq-eqb (get_or list k 0) (get_or list k 0) refl) (sum_by_more_le (λ j. cond (j == get_or list k 0) 1 0) list k 0 within)
+    in omega arith
 
 -- one entry more is taken off
 pub fallen_more : (before k i : ℕ) (now list : List ℕ) → k < length list → get_or list k 0 < length now → 0 < get_or now (get_or list k 0) 0 → get_or now i 0 + count_by (λ j. j == i) (take k list) ≡ before

@@ -37,7 +37,7 @@ pub record AreSkipped (plan : PlanGraph) (phases : List Phase) (u i : ℕ) (befo
 pub skipped_more : (plan : PlanGraph) (phases : List Phase) (u i : ℕ) (before t : Counts) (ready : List Bool) → i < length plan.units → unit_of plan i ≡ u → is_visited (get_or before.failed u Unvisited) ≡ true → AreSkipped plan phases u i before t
     → ready ≡ set t.ready i false → AreSkipped plan phases u (i + 1) before (record t { ready = ready })
 skipped_more plan phases u i before t ready within here visited were out = record {
-  ready = rw out (ready_without plan (is_skipped_until plan before.failed u i) (is_skipped_until plan before.failed u (i + 1)) phases phases t i t.running were.ready.entries.phased within (and_right _ _ (not_from_true _ (skipped_now plan before.failed u i here visited)))
+  ready = rw out (ready_without plan (is_skipped_until plan before.failed u i) (is_skipped_until plan before.failed u (i + 1)) phases phases t i t.running t.openings were.ready.entries.phased within (and_right _ _ (not_from_true _ (skipped_now plan before.failed u i here visited)))
       (λ j elsewhere. (refl, skipped_other plan before.failed u i j elsewhere)) were.ready);
   rest = ap (λ (x : Counts). record x { ready = ready }) were.rest;
 }

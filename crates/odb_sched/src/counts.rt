@@ -6,7 +6,6 @@ ghost use Rattle.odb_dense.specs.Lists.{ListsOnce};
 ghost use Rattle.odb_sched.specs.declared.phase.Phase.TheVariants.{Unstarted};
 ghost use Rattle.odb_sched.specs.invariants.Ends.{IsEndOf};
 ghost use Rattle.odb_sched.specs.invariants.Counts as counted;
-ghost use Rattle.odb_sched.specs.invariants.Openings.{is_passed, IsFirstFree};
 ghost use Rattle.odb_check.specs.PlanGraph.{IsNeed};
 ghost use Rattle.odb_sched.specs.invariants.Kept.{first_of};
 ghost use Rattle.odb_sched.specs.run.Steps.{satisfied_in};
@@ -34,6 +33,8 @@ pub(crate) struct Counts {
     pub(crate) ready: MinMaxSet,
     /// The running requests.
     pub(crate) running: MinMaxSet,
+    /// What is counted of the units, to find those that may begin.
+    pub(crate) openings: Openings,
 }
 
 /// Returns for each request the number of its dependencies.
@@ -60,12 +61,8 @@ fn member_counts(alloc: Global, graph: &Graph) -> Result<Vec<u32>, AllocError>
     Ok(counts)
 }
 
-/// Returns the requests or units whose count is 0.
-pub(crate) fn without_any(
-    alloc: Global,
-    len: u32,
-    counts: &[usize],
-) -> Result<MinMaxSet, AllocError>
+/// Returns the requests whose count is 0.
+fn without_any(alloc: Global, len: u32, counts: &[usize]) -> Result<MinMaxSet, AllocError>
     requires { length counts.now ≡ len }
     ensures each { IfOk result (λ free. length free ≡ len) }
     ensures exact { IfOk result (λ free. (i : ℕ) → i < len
@@ -99,6 +96,7 @@ impl Counts {
             pending: member_counts(alloc, graph)?,
             failed: Worklist::new(alloc, graph.unit_count())?,
             running: MinMaxSet::new(alloc, graph.len())?,
+            openings: Openings::new(alloc, graph)?,
         })
     }
 }
@@ -114,13 +112,12 @@ fn all_unstarted(alloc: Global, count: u32) -> Result<Vec<Phase>, AllocError>
     Ok(phases)
 }
 
-/// How far a run has come: the phases of its requests, what is counted beside them and of the units,
-/// which units were sent as one, and whether it is stopped.
+/// How far a run has come: the phases of its requests, what is counted beside them, which units were
+/// sent as one, and whether it is stopped.
 #[derive(Drop)]
 pub(crate) struct Progress {
     pub(crate) phases: Vec<Phase>,
     pub(crate) counts: Counts,
-    pub(crate) openings: Openings,
     pub(crate) lanes: Lanes,
     pub(crate) stopped: bool,
     /// Whether the caller has stopped it.
@@ -144,7 +141,6 @@ impl Progress {
         Ok(Progress {
             phases: all_unstarted(alloc, graph.len())?,
             counts: Counts::new(alloc, graph)?,
-            openings: Openings::new(alloc, graph)?,
             lanes: Lanes::new(alloc, graph.unit_count())?,
             stopped: false,
             closed: false,
@@ -211,7 +207,7 @@ impl Progress {
 
     /// Returns whether nothing may start now: the run is stopped, or as many requests are running
     /// as the width allows.
-    fn is_closed(&self, policy: Policy) -> bool
+    pub(crate) fn is_closed(&self, policy: Policy) -> bool
         ensures { result ≡ (self.now.stopped
             || not (nat_lt (count_by (λ runs. runs) self.now.counts.running)
             (policy.width + self.now.lanes.spare))) }
@@ -258,33 +254,19 @@ impl Progress {
         end.of(&mut self.counts.ready)
     }
 
-    /// Returns the first unit that may begin, or `None` if there is none.
-    pub(crate) fn next_unit(&mut self, policy: Policy) -> Option<u32>
-        requires begun { length self.old.openings.begun.items ≡ length self.old.openings.free }
-        requires failed { length self.old.counts.failed ≡ length self.old.openings.free }
+    /// Begins to keep which units are free, if it does not.
+    pub(crate) fn ask(&mut self, graph: &Graph)
+        requires { counted.AreCounts graph.now.plan_graph self.old.phases.items self.old.counts }
+        ensures counts { counted.AreCounts graph.now.plan_graph self.new.phases.items self.new.counts }
+        ensures asked { self.new.counts.openings.asked ≡ true }
         ensures rest { self.new ≡ record self.old {
-          openings = record self.old.openings {
-            free = self.new.openings.free;
+          counts = record self.old.counts {
+            openings = self.new.counts.openings;
           };
         } }
-        ensures each { length self.new.openings.free ≡ length self.old.openings.free }
-        ensures sound { (u : ℕ) → slice_index_or self.new.openings.free u false ≡ true
-            → slice_index_or self.old.openings.free u false ≡ true }
-        ensures kept { (u : ℕ) → slice_index_or self.old.openings.free u false ≡ true
-            → is_passed self.old.openings self.old.counts.failed u ≡ false
-            → slice_index_or self.new.openings.free u false ≡ true }
-        ensures none { result ≡ None → (u : ℕ) → (slice_index_or self.old.openings.free u false
-            && not (is_passed self.old.openings self.old.counts.failed u) && not self.old.stopped
-            && nat_lt (count_by (λ runs. runs) self.old.counts.running)
-            (policy.width + self.old.lanes.spare)) ≡ false }
-        ensures some { IfSome result (IsFirstFree self.old.openings self.old.counts.failed) }
-        ensures allowed { IsSome result → (self.old.stopped ≡ false)
-            × (nat_lt (count_by (λ runs. runs) self.old.counts.running)
-            (policy.width + self.old.lanes.spare) ≡ true) }
     {
-        if self.is_closed(policy) {
-            return None;
+        if !self.counts.openings.asked {
+            self.counts.openings.ask(graph, &self.counts.unmet);
         }
-        self.openings.first(&self.counts.failed)
     }
 }

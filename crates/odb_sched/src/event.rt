@@ -12,8 +12,9 @@ ghost use Rattle.odb_doc.specs.recorded.EventLists.{entries};
 ghost use Rattle.odb_doc.specs.recorded.Events.{event_value};
 ghost use Rattle.odb_doc.specs.batch.Records.{Record};
 ghost use Rattle.odb_check.specs.Positions.{id_at};
-ghost use Rattle.odb_sched.specs.declared.event.ResolveFault.TheVariants.{UnknownEvent, OutOfMemory};
-ghost use Rattle.odb_sched.specs.run.Refusals.{resolve_row};
+ghost use Rattle.odb_doc.specs.declared.rule_fault.RuleFault.TheVariants.{Broken, OutOfMemory};
+ghost use Rattle.odb_sched.specs.declared.event.ResolveRule.TheVariants.{UnknownEvent};
+ghost use Rattle.odb_sched.specs.run.Refusals.{resolve_rule_row};
 ghost use Rattle.odb_sched.specs.run.Resolving.{IsKnown, IsResolved, RefusesNamed, named_id};
 
 use crate::laws::every_run;
@@ -21,8 +22,8 @@ use crate::policy::Policy;
 use crate::refusal::RunRefusal;
 use crate::scheduler::Scheduler;
 use odb_check::Plan;
-use odb_doc::{Events, Fault, NamedEvent, Outcome, Place, Refusal};
-use std::alloc::{AllocError, AllocFailed, Global};
+use odb_doc::{Events, NamedEvent, Outcome, Place, Refusal, Rule, RuleFault};
+use std::alloc::Global;
 use thiserror::Error;
 
 /// An event of a run, at the position of its request, counted from 0.
@@ -117,43 +118,24 @@ pub enum Step {
     Report(u32),
 }
 
-/// Why recorded events are not events of a batch.
+/// A rule that recorded events break if they are not events of a batch.
 #[derive(Clone, Copy, Debug, PartialEq, Eq, Error)]
-pub enum ResolveFault {
-    /// F65: the batch has no request with the id of the event at this index.
-    #[error("event {at}: the batch has no such request")]
-    UnknownEvent { at: usize },
-    /// An allocation failed. That says nothing about the events.
-    #[error("out of memory")]
-    OutOfMemory,
+pub enum ResolveRule {
+    /// F65: the batch has no request with the id of the event.
+    #[error("the batch has no such request")]
+    UnknownEvent,
 }
 
-impl Fault for ResolveFault {
-    ghost row = { resolve_row };
+/// Why recorded events are not events of a batch: the event at an index breaks a rule.
+pub type ResolveFault = RuleFault<ResolveRule>;
 
-    fn refusal(&self) -> Option<Refusal> {
-        match *self {
-            ResolveFault::UnknownEvent { at } => {
-                Some(Refusal::new(("F65", "UnknownEvent"), Place::Event(at)))
-            }
-            ResolveFault::OutOfMemory => None,
+impl Rule for ResolveRule {
+    ghost prints = { resolve_rule_row };
+
+    fn refusal(self, at: usize) -> Refusal {
+        match self {
+            ResolveRule::UnknownEvent => Refusal::new(("F65", "UnknownEvent"), Place::Event(at)),
         }
-    }
-}
-
-impl From<AllocError> for ResolveFault {
-    ghost from_gives = { λ _ fault. fault ≡ OutOfMemory };
-
-    fn from(_error: AllocError) -> Self {
-        ResolveFault::OutOfMemory
-    }
-}
-
-impl<T: Drop> From<AllocFailed<T>> for ResolveFault {
-    ghost from_gives = { λ _ fault. fault ≡ OutOfMemory };
-
-    fn from(_error: AllocFailed<T>) -> Self {
-        ResolveFault::OutOfMemory
     }
 }
 
@@ -182,12 +164,15 @@ fn at_position(event: NamedEvent, i: u32) -> Event
 fn resolved(plan: &Plan<'_>, at: usize, event: NamedEvent) -> Result<Event, ResolveFault>
     ensures resolved { IfOk result (IsResolved (plan_records plan.now) (event_value event)) }
     ensures within { IfOk result (λ found. event_position found < length (plan_records plan.now)) }
-    ensures place { IfErr result (λ fault. fault ≡ UnknownEvent at) }
+    ensures place { IfErr result (λ fault. fault ≡ Broken at UnknownEvent) }
     ensures unknown { IsErr result → ¬ IsKnown (plan_records plan.now) (event_value event) }
 {
     match plan.position_of(id_of(&event)) {
         Some(i) => Ok(at_position(event, i)),
-        None => Err(ResolveFault::UnknownEvent { at }),
+        None => Err(ResolveFault::Broken {
+            at,
+            rule: ResolveRule::UnknownEvent,
+        }),
     }
 }
 

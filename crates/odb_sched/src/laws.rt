@@ -17,7 +17,7 @@ ghost use Rattle.odb_sched.specs.declared.refusal.ReportRefusal.{ReportRefusal};
 ghost use Rattle.odb_sched.specs.declared.refusal.RunRefusal.{RunRefusal};
 ghost use Rattle.odb_sched.specs.run.Refusals as refusals;
 ghost use Rattle.odb_doc.specs.recorded.Events.{EventValue};
-ghost use Rattle.odb_sched.specs.declared.event.ResolveFault.{ResolveFault};
+ghost use Rattle.odb_sched.specs.run.Refusals.{ResolveFault};
 ghost use Rattle.odb_sched.specs.run.Resolving.{RefusesNamed};
 ghost use Rattle.odb_sched.specs.run.State.{State, size, plan_graph, phase_at, initial};
 ghost use Rattle.odb_sched.specs.run.Failing.{Fails, fails};

@@ -1,21 +1,13 @@
-//! Which units may begin: what is counted of each unit beside its requests.
+//! Which units may begin: what is counted of each unit beside its requests, once a unit is asked for.
 
-ghost use Rattle.std.specs.Prelude.{◌≡◌, ◌<◌, ◌≤◌, ◌+◌, ◌-◌, ◌++◌, ◌==◌, ◌||◌, ℕ, Bool, true, false, length, replicate, slice_index_or, slice_set, count_by, IfOk, IfSome, OnOk, None, All};
-ghost use Rattle.odb_check.specs.Firsts.{list_below};
-ghost use Rattle.odb_check.specs.PlanGraph.{IsNeed, unit_of, needs_of};
-ghost use Rattle.odb_dense.specs.declared.worklist.Mark.TheVariants.{Unvisited};
-ghost use Rattle.odb_dense.specs.Marks.{is_visited};
-ghost use Rattle.odb_sched.specs.declared.phase.Phase.TheVariants.{Unstarted, Running};
-ghost use Rattle.odb_sched.specs.invariants.Counts.{AreCounts, members_in};
-ghost use Rattle.odb_sched.specs.invariants.Openings.{outer_satisfied_by, is_entry, is_passed, HaveUnits, AreFree, AreOpenings, IsFirstFree};
+ghost use Rattle.std.specs.Prelude.{◌≡◌, ◌<◌, ◌-◌, ℕ, Bool, List, true, false, length, slice_index_or, slice_set, replicate, IfOk, IfSome, None};
+ghost use Rattle.odb_check.specs.PlanGraph.{IsNeed};
+ghost use Rattle.odb_sched.specs.declared.phase.Phase.TheVariants.{Unstarted};
+ghost use Rattle.odb_sched.specs.invariants.Openings.{is_passed, HaveUnits, AreWaiting, AreFree, AreOpenings, IsFirstFree};
 ghost use Rattle.odb_sched.specs.invariants.Openings as openings;
 ghost use Rattle.odb_sched.specs.run.Failing as failing;
-ghost use Rattle.odb_sched.specs.run.State as state;
-ghost use Rattle.odb_sched.specs.run.Units as units;
 
-use crate::counts::{Counts, without_any};
 use crate::graph::Graph;
-use crate::phase::Phase;
 use odb_check::Need;
 use odb_dense::{MinMaxSet, Worklist};
 use std::alloc::{AllocError, Global};
@@ -23,11 +15,16 @@ use std::alloc::{AllocError, Global};
 /// What is counted of the units of a run, to find the first that may begin.
 #[derive(Drop)]
 pub(crate) struct Openings {
-    /// Of each unit, how many needs of its members on other units are not satisfied.
-    pub(crate) unmet: Vec<usize>,
     /// Of each unit, whether one of its members has started.
     pub(crate) begun: Vec<bool>,
-    /// The units without such needs. One that has begun or failed may be missing.
+    /// Whether a unit was asked for. Until then the rest is not kept.
+    pub(crate) asked: bool,
+    /// Of each request, how many of its needs are on its own unit.
+    pub(crate) inner: Vec<usize>,
+    /// Of each unit, how many of its members have more open needs than those. If the unit has not begun, they
+    /// wait for other units.
+    pub(crate) waiting: Vec<u32>,
+    /// The units without such members. One that has begun or failed may be missing.
     pub(crate) free: MinMaxSet,
 }
 
@@ -42,66 +39,41 @@ pub(crate) fn unit_needed(graph: &Graph, need: Need) -> u32
     }
 }
 
-/// Returns how many needs of a member of a unit are on other units.
-fn outer_count_at(graph: &Graph, u: u32, i: u32) -> usize
-    requires request { i < length graph.now.plan_graph.units }
-    requires member { unit_of graph.now.plan_graph i ≡ u }
-    ensures { result ≡ length (units.outer_needs_at graph.now.plan_graph u i) }
+/// Returns how many needs of a request are on its own unit.
+fn inner_count(graph: &Graph, i: u32) -> usize
+    requires { i < length graph.now.plan_graph.units }
+    ensures { result ≡ openings.inner_count graph.now.plan_graph i }
 {
+    let u = graph.unit_of(i);
     let mut count = 0;
     for need in graph.needs(i) {
-        if unit_needed(graph, *need) != u {
+        if unit_needed(graph, *need) == u {
             count += 1;
         }
     }
     count
 }
 
-/// Returns how many needs of the members of a unit are on other units: all of a request that is alone.
-fn outer_count(graph: &Graph, u: u32) -> Result<usize, AllocError>
-    requires { u < graph.now.plan_graph.unit_count }
-    ensures { IfOk result (λ count. count ≡ openings.outer_count graph.now.plan_graph u) }
-{
-    graph.laws();
-    let members = graph.members(u);
-    if members.end - members.start == 1 {
-        return Ok(graph.needs(members.start).len());
-    }
-    let mut count = 0_usize;
-    for i in members.start..members.end {
-        let more = outer_count_at(graph, u, i);
-        count = count.checked_add(more).ok_or(AllocError)?;
-    }
-    Ok(count)
-}
-
-/// Returns for each unit the number of its needs on other units.
-fn outer_counts(alloc: Global, graph: &Graph) -> Result<Vec<usize>, AllocError>
-    ensures { IfOk result (λ counts. counts.items
-        ≡ list_below graph.now.plan_graph.unit_count (openings.outer_count graph.now.plan_graph)) }
-{
-    let mut counts = Vec::with_capacity(alloc, graph.unit_count() as usize)?;
-    for u in 0..graph.unit_count() {
-        counts.push(outer_count(graph, u)?)?;
-    }
-    Ok(counts)
-}
-
 impl Openings {
-    /// Returns the counts before the first event of a run.
+    /// Returns the counts before the first event of a run, in which no unit was asked for.
     ///
     /// # Errors
     ///
-    /// If memory for the units and their needs cannot be allocated.
+    /// If memory for the requests and the units cannot be allocated.
     pub(crate) fn new(alloc: Global, graph: &Graph) -> Result<Openings, AllocError>
-        ensures { IfOk result (AreOpenings graph.now.plan_graph
-            (replicate (length graph.now.plan_graph.units) Unstarted)) }
+        ensures { IfOk result (λ t. (unmet : List ℕ) → AreOpenings graph.now.plan_graph
+            (replicate (length graph.now.plan_graph.units) Unstarted) unmet t) }
     {
-        graph.laws();
-        let unmet = outer_counts(alloc, graph)?;
-        let free = without_any(alloc, graph.unit_count(), &unmet)?;
         let begun = vec![in alloc; false; graph.unit_count() as usize]?;
-        Ok(Openings { unmet, begun, free })
+        let inner = vec![in alloc; 0_usize; graph.len() as usize]?;
+        let waiting = vec![in alloc; 0_u32; graph.unit_count() as usize]?;
+        Ok(Openings {
+            begun,
+            asked: false,
+            inner,
+            waiting,
+            free: MinMaxSet::new(alloc, graph.unit_count())?,
+        })
     }
 
     /// Notes that a member of a unit has started.
@@ -113,87 +85,93 @@ impl Openings {
         self.begun[u as usize] = true;
     }
 
-    /// Counts one need of a unit on another unit as satisfied. After the last one the unit is free.
-    fn satisfy(&mut self, graph: &Graph, u: u32)
-        requires unit { u < graph.now.plan_graph.unit_count }
+    /// Counts the members of each unit that have more open needs than those on the unit.
+    fn count(&mut self, graph: &Graph, unmet: &[usize])
+        requires each { length unmet.now ≡ length graph.now.plan_graph.units }
         requires entries { HaveUnits graph.now.plan_graph self.old }
-        requires some { 0 < slice_index_or self.old.unmet.items u 0 }
-        ensures unmet { self.new.unmet.items
-            ≡ slice_set self.old.unmet.items u (slice_index_or self.old.unmet.items u 0 - 1) }
-        ensures free { (skipped : ℕ → Bool) → AreFree graph.now.plan_graph skipped self.old
-            → AreFree graph.now.plan_graph skipped self.new }
+        ensures waiting { AreWaiting graph.now.plan_graph unmet.now self.new }
         ensures entries { HaveUnits graph.now.plan_graph self.new }
-        ensures rest { self.new ≡ record self.old { unmet = self.new.unmet; free = self.new.free } }
+        ensures rest { self.new ≡ record self.old { inner = self.new.inner; waiting = self.new.waiting } }
     {
-        let at = u as usize;
-        self.unmet[at] -= 1;
-        if self.unmet[at] == 0 {
-            self.free.insert(u);
-        }
-    }
-
-    /// Counts one need on something of unit `needed` as satisfied, for the unit of each request of a
-    /// list.
-    fn satisfy_each(&mut self, graph: &Graph, needed: u32, list: &[u32])
-        requires within { All (λ i. i < length graph.now.plan_graph.units) list.now }
-        requires entries { HaveUnits graph.now.plan_graph self.old }
-        requires enough { (u : ℕ) → u < graph.now.plan_graph.unit_count
-            → count_by (is_entry graph.now.plan_graph needed u) list.now
-            ≤ slice_index_or self.old.unmet.items u 0 }
-        ensures fallen { (u : ℕ) → u < graph.now.plan_graph.unit_count
-            → slice_index_or self.new.unmet.items u 0
-            + count_by (is_entry graph.now.plan_graph needed u) list.now
-            ≡ slice_index_or self.old.unmet.items u 0 }
-        ensures free { (skipped : ℕ → Bool) → AreFree graph.now.plan_graph skipped self.old
-            → AreFree graph.now.plan_graph skipped self.new }
-        ensures entries { HaveUnits graph.now.plan_graph self.new }
-        ensures rest { self.new ≡ record self.old { unmet = self.new.unmet; free = self.new.free } }
-    {
-        for i in list {
-            let u = graph.unit_of(*i);
-            if u != needed {
-                self.satisfy(graph, u);
+        graph.laws();
+        self.waiting.fill(0);
+        for i in 0..graph.len() {
+            let own = inner_count(graph, i);
+            self.inner[i as usize] = own;
+            if own < unmet[i as usize] {
+                self.waiting[graph.unit_of(i) as usize] += 1;
             }
         }
     }
 
-    /// Handles the report of a request. `phases[i]` already holds the outcome, and `counts` are those
-    /// after it.
-    pub(crate) fn take_report(&mut self, graph: &Graph, phases: &[Phase], i: u32, counts: &Counts)
-        requires request { i < length graph.now.plan_graph.units }
-        requires reported { state.is_reported (slice_index_or phases.now i Unstarted) ≡ true }
-        requires counts { AreCounts graph.now.plan_graph phases.now counts.now }
-        requires openings { AreOpenings graph.now.plan_graph (slice_set phases.now i Running) self.old }
-        ensures { AreOpenings graph.now.plan_graph phases.now self.new }
+    /// Finds the units without such members.
+    fn find_free(&mut self, graph: &Graph)
+        requires { HaveUnits graph.now.plan_graph self.old }
+        ensures free { (skipped : ℕ → Bool) → AreFree graph.now.plan_graph skipped self.new }
+        ensures entries { HaveUnits graph.now.plan_graph self.new }
+        ensures rest { self.new ≡ record self.old { free = self.new.free } }
     {
-        graph.laws();
-        if phases[i as usize].has_succeeded() {
-            let unit = graph.unit_of(i);
-            self.satisfy_each(graph, unit, graph.dependents_of(i));
-            self.satisfy_unit(graph, phases, unit, counts);
+        for u in 0..graph.unit_count() {
+            if self.waiting[u as usize] == 0 {
+                self.free.insert(u);
+            } else {
+                self.free.remove(u);
+            }
         }
     }
 
-    /// Counts the needs of other units on a unit as satisfied, if all its members have succeeded.
-    fn satisfy_unit(&mut self, graph: &Graph, phases: &[Phase], u: u32, counts: &Counts)
-        requires unit { u < graph.now.plan_graph.unit_count }
-        requires counts { AreCounts graph.now.plan_graph phases.now counts.now }
+    /// Begins to keep which units are free.
+    pub(crate) fn ask(&mut self, graph: &Graph, unmet: &[usize])
+        requires each { length unmet.now ≡ length graph.now.plan_graph.units }
         requires entries { HaveUnits graph.now.plan_graph self.old }
-        requires enough { (v : ℕ) → v < graph.now.plan_graph.unit_count
-            → outer_satisfied_by graph.now.plan_graph phases.now u v
-            ≤ slice_index_or self.old.unmet.items v 0 }
-        ensures fallen { (v : ℕ) → v < graph.now.plan_graph.unit_count
-            → slice_index_or self.new.unmet.items v 0
-            + outer_satisfied_by graph.now.plan_graph phases.now u v
-            ≡ slice_index_or self.old.unmet.items v 0 }
+        ensures asked { self.new.asked ≡ true }
+        ensures waiting { AreWaiting graph.now.plan_graph unmet.now self.new }
+        ensures free { (skipped : ℕ → Bool) → AreFree graph.now.plan_graph skipped self.new }
+        ensures entries { HaveUnits graph.now.plan_graph self.new }
+        ensures begun { self.new.begun ≡ self.old.begun }
+    {
+        self.count(graph, unmet);
+        self.find_free(graph);
+        self.asked = true;
+    }
+
+    /// Counts one member of a unit less. After the last one the unit is free.
+    fn take_member(&mut self, graph: &Graph, u: u32)
+        requires unit { u < graph.now.plan_graph.unit_count }
+        requires entries { HaveUnits graph.now.plan_graph self.old }
+        requires some { 0 < slice_index_or self.old.waiting.items u 0 }
+        ensures waiting { self.new.waiting.items
+            ≡ slice_set self.old.waiting.items u (slice_index_or self.old.waiting.items u 0 - 1) }
         ensures free { (skipped : ℕ → Bool) → AreFree graph.now.plan_graph skipped self.old
             → AreFree graph.now.plan_graph skipped self.new }
         ensures entries { HaveUnits graph.now.plan_graph self.new }
-        ensures rest { self.new ≡ record self.old { unmet = self.new.unmet; free = self.new.free } }
+        ensures rest { self.new ≡ record self.old { waiting = self.new.waiting; free = self.new.free } }
+    {
+        let at = u as usize;
+        self.waiting[at] -= 1;
+        if self.waiting[at] == 0 {
+            self.free.insert(u);
+        }
+    }
+
+    /// Counts one need of a request as satisfied, of those that `unmet` still has.
+    pub(crate) fn satisfy(&mut self, graph: &Graph, i: u32, unmet: &[usize])
+        requires request { i < length graph.now.plan_graph.units }
+        requires each { length unmet.now ≡ length graph.now.plan_graph.units }
+        requires some { 0 < slice_index_or unmet.now i 0 }
+        requires entries { HaveUnits graph.now.plan_graph self.old }
+        requires waiting { self.old.asked ≡ true
+            → AreWaiting graph.now.plan_graph unmet.now self.old }
+        ensures waiting { self.new.asked ≡ true → AreWaiting graph.now.plan_graph
+            (slice_set unmet.now i (slice_index_or unmet.now i 0 - 1)) self.new }
+        ensures free { (skipped : ℕ → Bool) → AreFree graph.now.plan_graph skipped self.old
+            → AreFree graph.now.plan_graph skipped self.new }
+        ensures entries { HaveUnits graph.now.plan_graph self.new }
+        ensures rest { self.new ≡ record self.old { waiting = self.new.waiting; free = self.new.free } }
     {
         graph.laws();
-        if counts.pending[u as usize] == 0 {
-            self.satisfy_each(graph, u, graph.dependents_of_unit(u));
+        if self.asked && unmet[i as usize] - 1 == self.inner[i as usize] {
+            self.take_member(graph, graph.unit_of(i));
         }
     }
 

@@ -8,6 +8,7 @@ ghost use Rattle.odb_sched.specs.declared.phase.Phase.TheVariants.{Unstarted, Ru
 ghost use Rattle.odb_sched.specs.run.State as state;
 ghost use Rattle.odb_sched.specs.invariants.Kept.{state_of};
 ghost use Rattle.odb_sched.specs.invariants.Counts as counted;
+ghost use Rattle.odb_sched.specs.invariants.Openings.{AreOpenings};
 ghost use Rattle.odb_sched.specs.invariants.Propagation as propagation;
 ghost use Rattle.odb_sched.specs.run.Steps.{stops};
 
@@ -23,11 +24,20 @@ fn satisfy(graph: &Graph, phases: &[Phase], i: u32, counts: &mut Counts)
     requires request { i < length graph.now.plan_graph.units }
     requires some { 0 < slice_index_or counts.old.unmet.items i 0 }
     requires ready { counted.HasReady graph.now.plan_graph phases.now counts.old }
+    requires openings { AreOpenings graph.now.plan_graph phases.now counts.old.unmet.items
+        counts.old.openings }
     ensures ready { counted.HasReady graph.now.plan_graph phases.now counts.new }
+    ensures openings { AreOpenings graph.now.plan_graph phases.now counts.new.unmet.items
+        counts.new.openings }
     ensures unmet { counts.new.unmet.items
         ≡ slice_set counts.old.unmet.items i (slice_index_or counts.old.unmet.items i 0 - 1) }
-    ensures rest { counts.new ≡ record counts.old { unmet = counts.new.unmet; ready = counts.new.ready } }
+    ensures rest { counts.new ≡ record counts.old {
+      unmet = counts.new.unmet;
+      ready = counts.new.ready;
+      openings = counts.new.openings;
+    } }
 {
+    counts.openings.satisfy(graph, i, &counts.unmet);
     let at = i as usize;
     counts.unmet[at] -= 1;
     if counts.unmet[at] == 0
@@ -44,11 +54,19 @@ fn satisfy_each(graph: &Graph, phases: &[Phase], list: &[u32], counts: &mut Coun
     requires enough { (i : ℕ) → i < length graph.now.plan_graph.units
         → count_by (λ j. j == i) list.now ≤ slice_index_or counts.old.unmet.items i 0 }
     requires ready { counted.HasReady graph.now.plan_graph phases.now counts.old }
+    requires openings { AreOpenings graph.now.plan_graph phases.now counts.old.unmet.items
+        counts.old.openings }
     ensures ready { counted.HasReady graph.now.plan_graph phases.now counts.new }
+    ensures openings { AreOpenings graph.now.plan_graph phases.now counts.new.unmet.items
+        counts.new.openings }
     ensures fallen { (i : ℕ) → i < length graph.now.plan_graph.units
         → slice_index_or counts.new.unmet.items i 0 + count_by (λ j. j == i) list.now
         ≡ slice_index_or counts.old.unmet.items i 0 }
-    ensures rest { counts.new ≡ record counts.old { unmet = counts.new.unmet; ready = counts.new.ready } }
+    ensures rest { counts.new ≡ record counts.old {
+      unmet = counts.new.unmet;
+      ready = counts.new.ready;
+      openings = counts.new.openings;
+    } }
 {
     for i in list {
         satisfy(graph, phases, *i, counts);
@@ -64,12 +82,20 @@ fn satisfy_unit(graph: &Graph, phases: &[Phase], u: u32, counts: &mut Counts)
         → counted.satisfied_by_unit graph.now.plan_graph phases.now u i
         ≤ slice_index_or counts.old.unmet.items i 0 }
     requires ready { counted.HasReady graph.now.plan_graph phases.now counts.old }
+    requires openings { AreOpenings graph.now.plan_graph phases.now counts.old.unmet.items
+        counts.old.openings }
     ensures ready { counted.HasReady graph.now.plan_graph phases.now counts.new }
+    ensures openings { AreOpenings graph.now.plan_graph phases.now counts.new.unmet.items
+        counts.new.openings }
     ensures fallen { (i : ℕ) → i < length graph.now.plan_graph.units
         → slice_index_or counts.new.unmet.items i 0
         + counted.satisfied_by_unit graph.now.plan_graph phases.now u i
         ≡ slice_index_or counts.old.unmet.items i 0 }
-    ensures rest { counts.new ≡ record counts.old { unmet = counts.new.unmet; ready = counts.new.ready } }
+    ensures rest { counts.new ≡ record counts.old {
+      unmet = counts.new.unmet;
+      ready = counts.new.ready;
+      openings = counts.new.openings;
+    } }
 {
     graph.laws();
     if counts.pending[u as usize] == 0 {
@@ -229,8 +255,6 @@ impl Progress {
     {
         self.put(i, Phase::Reported(outcome));
         take_report(graph, &self.phases, i, &mut self.counts);
-        self.openings
-            .take_report(graph, &self.phases, i, &self.counts);
         self.lanes.take_report(graph.unit_of(i));
         self.stopped = is_stopped(self.stopped, policy, &self.phases[i as usize]);
     }

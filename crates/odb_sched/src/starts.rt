@@ -6,7 +6,6 @@ ghost use Rattle.odb_sched.specs.declared.phase.Phase.TheVariants.{Unstarted, Ru
 ghost use Rattle.odb_sched.specs.declared.policy.Mode.{Mode};
 ghost use Rattle.odb_sched.specs.invariants.Counts.{AreCounts};
 ghost use Rattle.odb_sched.specs.invariants.Lanes.{AreLanes};
-ghost use Rattle.odb_sched.specs.invariants.Openings.{AreOpenings};
 ghost use Rattle.odb_sched.specs.run.State.{is_unstarted, is_running, members_in, running_members};
 ghost use Rattle.odb_sched.specs.run.Steps.{satisfied_in, stopped_in};
 ghost use Rattle.odb_sched.specs.run.Units.{has_begun_in, outer_needs, outer_needs_at};
@@ -56,10 +55,8 @@ impl Progress {
         requires request { i < length graph.now.plan_graph.units }
         requires fresh { is_unstarted (slice_index_or self.old.phases.items i Unstarted) ≡ true }
         requires counts { AreCounts graph.now.plan_graph self.old.phases.items self.old.counts }
-        requires openings { AreOpenings graph.now.plan_graph self.old.phases.items self.old.openings }
         ensures phases { self.new.phases.items ≡ slice_set self.old.phases.items i Running }
         ensures counts { AreCounts graph.now.plan_graph self.new.phases.items self.new.counts }
-        ensures openings { AreOpenings graph.now.plan_graph self.new.phases.items self.new.openings }
         ensures running { count_by is_running self.new.phases.items
             ≡ count_by is_running self.old.phases.items + 1 }
         ensures stopped { (mode : Mode) → stopped_in mode self.new.phases.items
@@ -67,13 +64,12 @@ impl Progress {
         ensures rest { self.new ≡ record self.old {
           phases = self.new.phases;
           counts = self.new.counts;
-          openings = self.new.openings;
         } }
     {
         graph.laws();
         self.counts.ready.remove(i);
         self.counts.running.insert(i);
-        self.openings.begin(graph.unit_of(i));
+        self.counts.openings.begin(graph.unit_of(i));
         self.put(i, Phase::Running);
     }
 
@@ -82,14 +78,12 @@ impl Progress {
         requires unit { u < graph.now.plan_graph.unit_count }
         requires fresh { has_begun_in graph.now.plan_graph self.old.phases.items u ≡ false }
         requires counts { AreCounts graph.now.plan_graph self.old.phases.items self.old.counts }
-        requires openings { AreOpenings graph.now.plan_graph self.old.phases.items self.old.openings }
         requires units { length self.old.lanes.awaited.items ≡ graph.now.plan_graph.unit_count }
         requires lanes { AreLanes self.old.lanes.awaited.items self.old.lanes }
         requires apart { slice_index_or self.old.lanes.awaited.items u 0 ≡ 0 }
         ensures phases { self.new.phases.items
             ≡ running_members graph.now.plan_graph self.old.phases.items u }
         ensures counts { AreCounts graph.now.plan_graph self.new.phases.items self.new.counts }
-        ensures openings { AreOpenings graph.now.plan_graph self.new.phases.items self.new.openings }
         ensures awaited { self.new.lanes.awaited.items ≡ slice_set self.old.lanes.awaited.items u
             (members_in graph.now.plan_graph u) }
         ensures lanes { AreLanes self.new.lanes.awaited.items self.new.lanes }
@@ -101,7 +95,6 @@ impl Progress {
         ensures rest { self.new ≡ record self.old {
           phases = self.new.phases;
           counts = self.new.counts;
-          openings = self.new.openings;
           lanes = self.new.lanes;
         } }
     {

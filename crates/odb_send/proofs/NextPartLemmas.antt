@@ -1,11 +1,11 @@
 -- The next part of a batch: what its units are, and that it is determined.
-use Rattle.std.proofs.Common.{◌≡◌, ◌∙◌, ◌⊎◌, ◌+◌, ◌-◌, ◌<◌, ◌≤◌, ◌==◌, ◌&&◌, ◌||◌, ℕ, zero, suc, Bool, true, false, not, cond, List, length, set, replicate, inl, inr, refl, ap, sym, subst, arith, eq-eqb, get_or-set_other}
+use Rattle.std.proofs.Common.{◌≡◌, ◌∙◌, ◌⊎◌, ◌+◌, ◌-◌, ◌<◌, ◌≤◌, ◌==◌, ◌&&◌, ◌||◌, ℕ, zero, suc, Bool, true, false, not, cond, if◌then◌else◌, List, [], ◌∷◌, ◌++◌, length, set, replicate, inl, inr, refl, ap, sym, subst, arith, eq-eqb, get_or-set_other, append-nil}
 use Rattle.std.specs.Prelude.{Result, Ok, Err, IfOk, IfErr}
 use Rattle.std.specs.List.{list_any}
 use Rattle.std.proofs.lemmas.Bool.{cases_Bool, cases_eq, eqb-true, ne_eqb, true≢false, false≢true}
 use Rattle.std.proofs.lemmas.List.{length-set, length-replicate}
 use Rattle.odb_doc.specs.batch.Records.{Record}
-use Rattle.odb_check.specs.Firsts.{count_below, list_below}
+use Rattle.odb_check.specs.Firsts.{count_below, joined_below, list_below}
 use Rattle.odb_check.specs.LeastNameFault.{HasGoodNames}
 use Rattle.odb_check.specs.Needs.{needs_at}
 use Rattle.odb_check.specs.PlanGraph.{PlanGraph, IsPlanGraphOf, IsSpan, plan_graph_of, unit_of}
@@ -18,7 +18,7 @@ use Rattle.odb_sched.proofs.CountLemmas.{count_same, count_none, count_either}
 use Rattle.odb_sched.proofs.FirstLemmas.{members_of_span}
 use Rattle.odb_sched.proofs.LiveLemmas.{populated}
 use Rattle.odb_send.specs.Marks.{AreBarred, AreFirst, AreWhole, waits_at}
-use Rattle.odb_send.specs.NextPart.{HasToWait, IsNextPart, IsWhole, MayGo, member_count, request_count}
+use Rattle.odb_send.specs.NextPart.{HasToWait, IsNextPart, IsWhole, MayGo, member_count, position_in, request_count}
 use Rattle.odb_send.specs.Rests.{is_kept}
 use Rattle.odb_send.specs.Units.{AreMarksOf, marked, unit_needed}
 use Rattle.odb_send.proofs.MarkLemmas.{AreBarred-exempt, AreBarred-kept, AreBarred-more, barred-needing, barred-own, marked-cases, marked-kept, marked-none, marked-other, marked-set, not_marked}
@@ -272,3 +272,18 @@ ok_by (Err e) P Q more holds = tt
 pub error_by : {T E : Type 0} (r : Result T E) (P Q : E → Type 0) → ((e : E) → P e → Q e) → IfErr r P → IfErr r Q
 error_by (Ok x) P Q more holds = tt
 error_by (Err e) P Q more holds = more e holds
+
+-- ---- the positions of a part
+
+one_position_more : (rs : List Record) (part : List Bool) (i : ℕ) → joined_below (i + 1) (position_in rs part) ≡ joined_below i (position_in rs part) ++ position_in rs part i
+one_position_more rs part i = let next : i + 1 ≡ suc i = omega arith in ap (λ n. joined_below n (position_in rs part)) next
+
+-- a request of the part
+pub positions_more : (rs : List Record) (part : List Bool) (i : ℕ) (found : List ℕ) → found ≡ joined_below i (position_in rs part) → is_kept rs part i ≡ true → found ++ i ∷ [] ≡ joined_below (i + 1) (position_in rs part)
+positions_more rs part i found so is =
+    ap (λ (xs : List ℕ). xs ++ i ∷ []) so ∙ ap (λ (b : Bool). joined_below i (position_in rs part) ++ (if b then i ∷ [] else [])) (sym is) ∙ sym (one_position_more rs part i)
+
+-- another request
+pub positions_same : (rs : List Record) (part : List Bool) (i : ℕ) (found : List ℕ) → found ≡ joined_below i (position_in rs part) → is_kept rs part i ≡ false → found ≡ joined_below (i + 1) (position_in rs part)
+positions_same rs part i found so is =
+    so ∙ sym (append-nil (joined_below i (position_in rs part))) ∙ ap (λ (b : Bool). joined_below i (position_in rs part) ++ (if b then i ∷ [] else [])) (sym is) ∙ sym (one_position_more rs part i)

@@ -17,9 +17,9 @@ use Rattle.odb_check.proofs.PositionLemmas.{position_first}
 use Rattle.odb_check.specs.Firsts.{list_below}
 use Rattle.odb_check.proofs.BelowLemmas.{length-list_below, get_or-list_below}
 use Rattle.odb_doc.proofs.ElementLemmas.{slice_get-seam}
-use Rattle.odb_send.specs.declared.fault.RestFault.{RestFault}
-use Rattle.odb_send.specs.declared.fault.RestFault.TheVariants as faults
-use Rattle.odb_send.specs.Faults.{LacksLocation, RefusesRest}
+use Rattle.odb_send.specs.Faults.{RestFault, LacksLocation, RefusesRest}
+use Rattle.odb_doc.specs.declared.rule_fault.RuleFault.TheVariants as faults
+use Rattle.odb_send.specs.declared.fault.RestRule.TheVariants.{NoLocation}
 use Rattle.odb_send.specs.Marks.{AreUrls, IsLacking}
 use Rattle.odb_send.specs.Locations.{texts_of}
 use Rattle.odb_reply.specs.BodyTexts.{text_at}
@@ -129,7 +129,7 @@ has_url rs kept locations i url (moved text moves) lacks = lacks.none text moves
 
 -- the first URL that lacks a Location
 pub first_lacking : (rs : List Record) (kept : List Bool) (locations : ℕ → Option (List ℕ)) (n : ℕ) (urls : List (Option (List ℕ))) (fault : RestFault) → AreUrls rs kept locations n urls → IsLacking rs kept locations n fault → RefusesRest fault rs kept locations
-first_lacking rs kept locations n urls (faults.NoLocation at) before (same_place, lacks) =
+first_lacking rs kept locations n urls (faults.Broken at NoLocation) before (same_place, lacks) =
     (subst (LacksLocation rs kept locations) (sym same_place) lacks, λ i less. has_url rs kept locations i (text_at urls i) (before.each i (omega (arith, less, same_place))))
 first_lacking rs kept locations n urls faults.OutOfMemory before lacks = tt
 
@@ -165,7 +165,7 @@ pub urls_by : (rs : List Record) (kept : List Bool) (one other : ℕ → Option 
 urls_by rs kept one other urls agree are = record { count = are.count; each = λ i less. url_by rs kept one other i (text_at urls i) agree (are.each i less) }
 
 pub refuses_by : (rs : List Record) (kept : List Bool) (one other : ℕ → Option (List ℕ)) (fault : RestFault) → SameLocations rs one other → RefusesRest fault rs kept one → RefusesRest fault rs kept other
-refuses_by rs kept one other (faults.NoLocation at) agree (here, before) = (lacks_by rs kept one other at agree here, λ i less lacks. before i less (lacks_by rs kept other one i (λ p within. sym (agree p within)) lacks))
+refuses_by rs kept one other (faults.Broken at NoLocation) agree (here, before) = (lacks_by rs kept one other at agree here, λ i less lacks. before i less (lacks_by rs kept other one i (λ p within. sym (agree p within)) lacks))
 refuses_by rs kept one other faults.OutOfMemory agree refuses = tt
 
 -- the Locations of a list that was made for all positions

@@ -5,9 +5,9 @@ use Rattle.odb_doc.specs.batch.Records.{Record}
 use Rattle.odb_check.specs.declared.need.Need.{Need}
 use Rattle.odb_check.specs.Needs.{needs_at}
 use Rattle.odb_check.specs.Units.{unit_at, unit_count}
-use Rattle.odb_send.specs.declared.fault.RestFault.{RestFault}
-use Rattle.odb_send.specs.declared.fault.RestFault.TheVariants as faults
-use Rattle.odb_send.specs.Faults.{LacksLocation}
+use Rattle.odb_send.specs.Faults.{RestFault, LacksLocation}
+use Rattle.odb_doc.specs.declared.rule_fault.RuleFault.TheVariants as faults
+use Rattle.odb_send.specs.declared.fault.RestRule.TheVariants.{NoLocation}
 use Rattle.odb_reply.specs.BodyTexts.{text_at}
 use Rattle.odb_send.specs.Rests.{IsUrl, is_kept, select}
 use Rattle.odb_send.specs.Texts.{joined, text_of_request}
@@ -30,7 +30,7 @@ pub record AreKept (done left : List Bool) (n : ℕ) (units : List Bool) : Type 
 
 -- the fault is that the URL at i lacks a Location. Out of memory says nothing.
 abbrev pub IsLacking : List Record → List Bool → (ℕ → Option (List ℕ)) → ℕ → RestFault → Type 0
-IsLacking rs kept locations i (faults.NoLocation at) = (at ≡ i) × LacksLocation rs kept locations i
+IsLacking rs kept locations i (faults.Broken at NoLocation) = (at ≡ i) × LacksLocation rs kept locations i
 IsLacking rs kept locations i faults.OutOfMemory = Unit {0}
 
 -- the first n requests have the URLs that they get in the rest

@@ -1,11 +1,11 @@
 -- The next part of a batch: requests that may be sent together as a batch of their own, in the order of the batch (OData JSON
 -- Format 4.01, sections 19.1 and 19.4). `done` marks the units whose requests have all succeeded, `left` those that are not
 -- sent yet and may be sent.
-use Rattle.std.specs.Prelude.{◌≡◌, ◌⊎◌, ◌+◌, ◌<◌, ◌≤◌, ◌==◌, ℕ, Bool, true, false, List, length, Contains, Option, slice_index_or}
+use Rattle.std.specs.Prelude.{◌≡◌, ◌⊎◌, ◌+◌, ◌<◌, ◌≤◌, ◌==◌, ℕ, Bool, true, false, List, [], ◌∷◌, length, Contains, Option, slice_index_or, if◌then◌else◌}
 use Rattle.odb_doc.specs.Statuses.{is_success}
 use Rattle.odb_doc.specs.batch.Records.{Record}
 use Rattle.odb_check.specs.declared.need.Need.{Need}
-use Rattle.odb_check.specs.Firsts.{count_below}
+use Rattle.odb_check.specs.Firsts.{count_below, joined_below}
 use Rattle.odb_check.specs.Needs.{needs_at}
 use Rattle.odb_check.specs.Units.{unit_at, unit_count}
 use Rattle.odb_sched.specs.declared.states.RequestState.{RequestState}
@@ -94,6 +94,13 @@ NeedsMet rs states part = (i : ℕ) (need : Need) → i < length rs → is_kept 
 -- no unit has more requests than the limit
 abbrev pub HasNoLonger : List Record → ℕ → Type 0
 HasNoLonger rs limit = (u : ℕ) → u < unit_count rs → member_count rs u ≤ limit
+
+-- the positions of the requests of the part, in order
+abbrev pub position_in : List Record → List Bool → ℕ → List ℕ
+position_in rs part i = if is_kept rs part i then i ∷ [] else []
+
+abbrev pub positions_in : List Record → List Bool → List ℕ
+positions_in rs part = joined_below (length rs) (position_in rs part)
 
 -- a request is in the part
 abbrev pub HasSome : List Record → List Bool → Type 0

@@ -28,9 +28,9 @@ mod text;
 mod units;
 mod urls;
 
-pub use fault::RestFault;
+pub use fault::{RestFault, RestRule};
 pub use locations::location_in;
-pub use next_part::part_of;
+pub use next_part::{fits_limit, part_of, positions_of};
 pub use parts::RequestParts;
 pub use requests::{Requests, requests_of};
 pub use responses::{ResponseList, ResponseParts, responses_of};

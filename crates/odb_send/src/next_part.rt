@@ -1,6 +1,6 @@
 //! The next part of a batch: requests that may be sent together as a batch of their own.
 
-ghost use Rattle.std.specs.Prelude.{◌≡◌, ◌<◌, ℕ, List, Bool, length, IfOk, IfErr};
+ghost use Rattle.std.specs.Prelude.{◌≡◌, ◌<◌, ◌↔◌, ℕ, List, Bool, All, length, IsTrue, IfOk, IfErr};
 ghost use Rattle.odb_check.specs.Plans.{plan_records};
 ghost use Rattle.odb_check.specs.Units as all;
 ghost use Rattle.odb_reply.specs.BodyTexts.{text_at};
@@ -8,12 +8,14 @@ ghost use Rattle.odb_send.specs.Faults.{RefusesRest};
 ghost use Rattle.odb_send.specs.Locations.{texts_of};
 ghost use Rattle.odb_send.specs.Marks.{waits_at};
 ghost use Rattle.odb_send.specs.NextPart as parts;
+ghost use Rattle.odb_send.specs.Rests.{kept};
 ghost use Rattle.odb_send.specs.Units.{AreMarksOf};
 
 use crate::fault::RestFault;
 use crate::progress::{starting_units, succeeded_units};
 use crate::rest::{Rest, urls_of};
 use crate::units::needs_marked;
+use crate::urls::is_kept;
 use odb_check::Plan;
 use odb_sched::RequestState;
 use std::alloc::{AllocError, Global};
@@ -145,4 +147,42 @@ pub fn part_of(
     let done = succeeded_units(alloc, plan, states)?;
     let left = starting_units(alloc, plan, states)?;
     part_by(alloc, plan, &done, &left, limit, locations)
+}
+
+/// Returns whether no unit has more requests than a part may have: then each fits into one.
+///
+/// Takes O(units).
+pub fn fits_limit(plan: &Plan<'_>, limit: u32) -> bool
+    ensures { IsTrue result ↔ parts.HasNoLonger (plan_records plan.now) limit }
+{
+    odb_check::laws::every_plan(plan);
+    for u in 0..plan.unit_count() {
+        let members = plan.members(u);
+        if members.end - members.start > limit {
+            return false;
+        }
+    }
+    true
+}
+
+/// Returns the positions of the requests of a part, in order.
+///
+/// Takes O(requests).
+///
+/// # Errors
+///
+/// If an allocation fails.
+pub fn positions_of(alloc: Global, plan: &Plan<'_>, part: &Rest) -> Result<Vec<u32>, AllocError>
+    requires { length (kept part.now) ≡ all.unit_count (plan_records plan.now) }
+    ensures positions { IfOk result (λ found. found.items
+        ≡ parts.positions_in (plan_records plan.now) (kept part.now)) }
+    ensures within { IfOk result (λ found. All (λ i. i < length (plan_records plan.now)) found.items) }
+{
+    let mut found = Vec::new(alloc);
+    for i in 0..plan.len() {
+        if is_kept(plan, &part.kept, i) {
+            found.push(i)?;
+        }
+    }
+    Ok(found)
 }

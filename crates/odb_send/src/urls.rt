@@ -4,12 +4,13 @@ ghost use Rattle.std.specs.Prelude.{◌≡◌, ◌<◌, ◌↔◌, ℕ, length, 
 ghost use Rattle.odb_reply.specs.BodyTexts.{text_at};
 ghost use Rattle.odb_send.specs.Locations.{texts_of};
 ghost use Rattle.odb_send.specs.Marks.{IsLacking};
-ghost use Rattle.odb_send.specs.declared.fault.RestFault.TheVariants as faults;
+ghost use Rattle.odb_doc.specs.declared.rule_fault.RuleFault.TheVariants as faults;
+ghost use Rattle.odb_send.specs.declared.fault.RestRule.TheVariants.{NoLocation};
 ghost use Rattle.odb_check.specs.Plans.{plan_records};
 ghost use Rattle.odb_check.specs.Units as all;
 ghost use Rattle.odb_send.specs.Rests as rests;
 
-use crate::fault::RestFault;
+use crate::fault::{RestFault, RestRule};
 use odb_check::Plan;
 use odb_names::{Front, after_first_segment, front, is_nested_batch};
 use std::alloc::{AllocError, Global};
@@ -80,18 +81,24 @@ pub(crate) fn url_of(
     ensures lacks { IfErr result (IsLacking (plan_records plan.now) kept.now
         (text_at (texts_of locations.now)) i) }
     ensures missing { (p : ℕ) → rests.Leaves (plan_records plan.now) kept.now i p
-        → text_at (texts_of locations.now) p ≡ None → result ≡ Err (faults.NoLocation i) }
+        → text_at (texts_of locations.now) p ≡ None → result ≡ Err (faults.Broken i NoLocation) }
 {
     let Some(p) = left_position(plan, kept, i) else {
         return Ok(None);
     };
     let Some(location) = locations[p as usize] else {
-        return Err(RestFault::NoLocation { at: i as usize });
+        return Err(RestFault::Broken {
+            at: i as usize,
+            rule: RestRule::NoLocation,
+        });
     };
     let made = joined(alloc, location, plan.request(i).url)?;
     if is_plain(alloc, made.as_str())? {
         Ok(Some(made))
     } else {
-        Err(RestFault::NoLocation { at: i as usize })
+        Err(RestFault::Broken {
+            at: i as usize,
+            rule: RestRule::NoLocation,
+        })
     }
 }

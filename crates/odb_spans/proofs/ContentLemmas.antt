@@ -25,7 +25,7 @@ string-byte false false true s n x k = refl
 string-byte false false false true n x k = refl
 string-byte false false false false n x k = refl
 
-in-string : (n x : ℕ) (xs : List ℕ) → extent in_string n (x ∷ xs) ≡ suc (cond (x == 34) (extent between n xs) (cond (x == 92) (extent in_escape n xs) (extent in_string n xs)))
+pub in-string : (n x : ℕ) (xs : List ℕ) → extent in_string n (x ∷ xs) ≡ suc (cond (x == 34) (extent between n xs) (cond (x == 92) (extent in_escape n xs) (extent in_string n xs)))
 unfolding extent
 in-string n x xs = string-byte (x == 34) (x == 92) (is_operator x) (is_space x) n x (λ m k. extent m k xs)
 

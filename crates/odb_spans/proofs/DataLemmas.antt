@@ -12,7 +12,7 @@ use Rattle.serde_json.specs.Read.{number_of, of_json, of_items, of_members, max_
 use Rattle.odb_doc.specs.Members.{elements_at, given}
 use Rattle.odb_doc.specs.Members as doc
 use Rattle.odb_spans.specs.Spans.{HasMemberAt, member_of}
-use Rattle.odb_spans.specs.Parts.{HasMemberText, HaveMembersIn, HaveMemberTexts, IsTextOf, IsValueSpan, given_json, items_in, list_of}
+use Rattle.odb_spans.specs.Parts.{HasMemberText, HaveMemberTexts, IsTextOf, IsValueSpan, given_json, items_in, list_of}
 use Rattle.odb_spans.specs.declared.span.Span.{Span}
 use Rattle.odb_spans.proofs.LookupLemmas.{Corresponds, get-read}
 use Rattle.odb_spans.proofs.ReadLemmas.{nests-tokens, read-tokens}
@@ -166,5 +166,5 @@ zip-members name text (j ∷ js) [] spans reads have = absurd reads
 zip-members name text (j ∷ js) (d ∷ ds) [] reads have = absurd have
 zip-members name text (j ∷ js) (d ∷ ds) (s ∷ spans) reads have = (member-data name text j d s reads.0.1 reads.0.0 have.0, zip-members name text js ds spans reads.1 have.1)
 
-pub members-data : (list name text : List ℕ) (j : json.Json) (d : Data) (spans : List (Option Span)) → depth j ≤ max_depth → of_json j ≡ Some d → HaveMembersIn name text spans (tree.get list j) → AllZip (HasMemberAt name text) (elements_at list d) spans
+pub members-data : (list name text : List ℕ) (j : json.Json) (d : Data) (spans : List (Option Span)) → depth j ≤ max_depth → of_json j ≡ Some d → HaveMemberTexts name text (items_in (tree.get list j)) spans → AllZip (HasMemberAt name text) (elements_at list d) spans
 members-data list name text j d spans shallow reads have = zip-members name text (items_in (tree.get list j)) (elements_at list d) spans (elements-read list j d shallow reads) have

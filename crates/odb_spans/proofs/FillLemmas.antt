@@ -16,7 +16,8 @@ use Rattle.json.specs.Tree.{json_tokens, items_tokens, members_tokens, depth, it
 use Rattle.serde_json.specs.Data.{Data, array, Items, item, Members, no_members, put}
 use Rattle.serde_json.specs.Data as values
 use Rattle.serde_json.specs.Find.{get_member, as_array}
-use Rattle.serde_json.specs.Read.{of_json, of_items, of_members}
+use Rattle.serde_json.specs.Read.{max_depth, of_json, of_items, of_members}
+use Rattle.odb_doc.specs.Documents.{IsJson}
 use Rattle.odb_doc.specs.Members.{list_of}
 use Rattle.odb_spans.specs.Spans.{replaced}
 use Rattle.odb_spans.specs.Walks.{lexemes_from}
@@ -28,7 +29,7 @@ use Rattle.odb_spans.proofs.FrontLemmas.{SamePlace, SplitsAt, all_good, ends-aft
 use Rattle.odb_spans.proofs.LookupLemmas.{Corresponds, IsReadAs, get-read}
 use Rattle.odb_spans.proofs.PartLemmas.{BeginsWithToken, begins-with-token, not-past, value-within}
 use Rattle.odb_spans.proofs.PlaceLemmas.{at-token}
-use Rattle.odb_spans.proofs.ReadLemmas.{IsTreeOf}
+use Rattle.odb_spans.proofs.ReadLemmas.{IsTreeOf, read-tokens}
 
 -- ---- the tokens round a value
 
@@ -90,6 +91,9 @@ module _ (earlier later : json.Items) where
         before = begin_array ∷ (h.before ++ inner.before);
         spells = λ i. ap (λ l. begin_array ∷ l) (h.spells (fill i) ∙ ap (λ l. h.before ++ (l ++ items_tokens later)) (inner.spells i) ∙ nested h.before inner.before (json_tokens i) after (items_tokens later));
       }
+
+pub inside : (fill inner : json.Json → json.Json) (after more : List Token) → Around fill after → Around inner more → Around (λ i. fill (inner i)) (more ++ after)
+inside fill inner after more a b = record { before = a.before ++ b.before; spells = λ i. a.spells (inner i) ∙ ap (λ l. a.before ++ (l ++ after)) (b.spells i) ∙ nested a.before b.before (json_tokens i) more after }
 
 pub alone : Around (λ i. i) []
 alone = record { before = []; spells = λ i. sym (append-nil (json_tokens i)) }
@@ -250,13 +254,19 @@ last-listed name j ms all ds found reads value =
 
 -- ---- the depth
 
-pub members-shallow : (earlier : json.Members) (k : List ℕ) (i j : json.Json) (later : json.Members) → depth i ≤ depth j → members_depth (append_members earlier (json.member k i later)) ≤ members_depth (append_members earlier (json.member k j later))
-members-shallow json.no_members k i j later le = omega (arith, le)
-members-shallow (json.member l x earlier) k i j later le = let more = members-shallow earlier k i j later le in omega (arith, more)
+-- how deep a member is, and that another as shallow may be in its place
+pub members-shallow : (earlier : json.Members) (k : List ℕ) (j : json.Json) (later : json.Members) (n : ℕ) → members_depth (append_members earlier (json.member k j later)) ≤ n
+    → (depth j ≤ n) × ((i : json.Json) → depth i ≤ n → members_depth (append_members earlier (json.member k i later)) ≤ n)
+members-shallow json.no_members k j later n le = (omega (arith, le), λ i small. omega (arith, le, small))
+members-shallow (json.member l x earlier) k j later n le =
+    let more = members-shallow earlier k j later n (omega (arith, le)) in
+    (more.0, λ i small. (let rest = more.1 i small in omega (arith, le, rest)))
 
-pub items-shallow : (earlier : json.Items) (i j : json.Json) (later : json.Items) → depth i ≤ depth j → items_depth (append_items earlier (json.item i later)) ≤ items_depth (append_items earlier (json.item j later))
-items-shallow json.no_items i j later le = omega (arith, le)
-items-shallow (json.item x earlier) i j later le = let more = items-shallow earlier i j later le in omega (arith, more)
+pub items-shallow : (earlier : json.Items) (j : json.Json) (later : json.Items) (n : ℕ) → items_depth (append_items earlier (json.item j later)) ≤ n → (depth j ≤ n) × ((i : json.Json) → depth i ≤ n → items_depth (append_items earlier (json.item i later)) ≤ n)
+items-shallow json.no_items j later n le = (omega (arith, le), λ i small. omega (arith, le, small))
+items-shallow (json.item x earlier) j later n le =
+    let more = items-shallow earlier j later n (omega (arith, le)) in
+    (more.0, λ i small. (let rest = more.1 i small in omega (arith, le, rest)))
 
 -- ---- a literal in the place of a value of the document
 
@@ -300,3 +310,6 @@ module _ (text : List ℕ) (d : Data) (span : Span) (value : json.Json) (after :
         ∙ ap (λ l. around.before ++ (literal.mark ∷ l)) (sym next.is)
         ∙ ap (λ l. around.before ++ (l ++ after)) (sym literal.spelled)
         ∙ sym (around.spells literal.tree)
+
+    pub replaced-json : (literal : Literal) (r : Data) → depth (filled literal.tree) ≤ max_depth → of_json (filled literal.tree) ≡ Some r → IsJson (replaced text span literal.word) r
+    replaced-json literal r shallow reads = (is-utf8 literal, read-tokens (replaced text span literal.word) (filled literal.tree) (literal-tree literal) shallow ∙ reads)

@@ -34,7 +34,7 @@ none-begins name text start spans at d begins all same is =
     no-element-begins text start (slice_get spans at) name at d (slice_get (elements_at name d) at) same
     (element-at text (items_in (tree.get name top.tree)) (elements_at name d) at (slice_get spans at) (elements-read name top.tree d top.shallow top.reads) found.0) (whole-begins text start d is begins)
 
-zip-push : {A B : Type 0} (R : A → B → Type 0) (xs : List A) (ys : List B) (x : A) (y : B) → AllZip R xs ys → R x y → AllZip R (xs ++ x ∷ []) (ys ++ y ∷ [])
+pub zip-push : {A B : Type 0} (R : A → B → Type 0) (xs : List A) (ys : List B) (x : A) (y : B) → AllZip R xs ys → R x y → AllZip R (xs ++ x ∷ []) (ys ++ y ∷ [])
 zip-push R [] [] x y zip last = (last, tt)
 zip-push R [] (b ∷ ys) x y zip last = absurd zip
 zip-push R (a ∷ xs) [] x y zip last = absurd zip

@@ -14,12 +14,11 @@ use Rattle.odb_spans.specs.Spans.{IsWithin}
 use Rattle.odb_spans.specs.Walks.{Steps}
 use Rattle.odb_spans.specs.Parts.{GivesItem, HasItems, HasValue, IsItemAt, IsMemberOf, IsNextItem, IsSomeMemberOf, IsValueSpan, ItemLeft, ItemLiesAt, ItemsPassed, LiesAt, LiesAtSome, LiesInMemberSome, append_items, items_in, list_of}
 use Rattle.odb_spans.specs.declared.span.Span.{Span}
-use Rattle.odb_spans.specs.declared.walk.Step.TheVariants.{Element}
 use Rattle.odb_spans.proofs.MemberLemmas.{append-item, count-item, first-item, rest-items}
 use Rattle.odb_spans.proofs.PartLemmas.{value-part}
 
 -- the item that a step leads to
-pub next-item : (text : List ℕ) (at start end : ℕ) (js : json.Items) (ts : List Token) → HasItems text at js ts → Steps text at (Element start) → end ≡ start + value_extent (drop start text) → start < end → end ≤ length text → (IsUtf8 text → IsCharBoundary text end)
+pub next-item : (text : List ℕ) (at start end : ℕ) (js : json.Items) (ts : List Token) → HasItems text at js ts → Steps text at (Some start) → end ≡ start + value_extent (drop start text) → start < end → end ≤ length text → (IsUtf8 text → IsCharBoundary text end)
     → IsNextItem text record { start = start; end = end } js ts
 next-item text at start end js ts has steps extent some within boundary =
     let first = first-item text at start js ts has steps in

@@ -20,6 +20,9 @@ mod DataLemmas
 mod WholeLemmas
 mod PairLemmas
 mod FillLemmas
+mod ArrayLemmas
 mod WithoutLemmas
 mod ElementLemmas
 mod FoundLemmas
+mod GivenLemmas
+mod NameLemmas

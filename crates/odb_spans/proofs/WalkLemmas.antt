@@ -8,7 +8,7 @@ use Rattle.json.specs.Align.{is_blank, is_good}
 use Rattle.json.specs.Lex.{Lexeme, token, comma, colon, Class, quote, backslash, operator, space, other, between, class, operator_lexeme, lex, lex_byte, Place, fresh, after_value, after_comma, after_key, begins_colon, may_begin, may_close, place_token, punctuate}
 use Rattle.odb_spans.specs.Extents.{Weight, opens, closes, flat, weight, lexeme_weight}
 use Rattle.odb_spans.specs.Kinds.{IsKind, is_close, is_separator}
-use Rattle.odb_spans.specs.Walks.{lexemes_from, IsInside, Faces, StepsOut, StepsOn}
+use Rattle.odb_spans.specs.Walks.{lexemes_from, IsInside, Faces, StepsOn}
 use Rattle.odb_spans.specs.declared.byte.Kind.{Kind}
 use Rattle.odb_spans.specs.declared.byte.Kind.TheVariants.{Quote, Backslash, Open, Close, Separator, Blank, Other}
 use Rattle.odb_spans.proofs.LexLemmas.{string-flat, word-flat}
@@ -214,29 +214,10 @@ kind-solid Other x is no-blank = ap is_blank is
 pub weight-of-first : (l : Lexeme) (ls : List Lexeme) (first : Token) (rest : List Lexeme) → l ∷ ls ≡ token first ∷ rest → lexeme_weight l ≡ weight first
 weight-of-first l ls first rest e = ap (λ k. elim k as (λ x. Weight) [ [] ↦ flat | m ∷ ms ↦ lexeme_weight m ]) e
 
-rest-of-first : (l : Lexeme) (ls : List Lexeme) (first : Token) (rest : List Lexeme) → l ∷ ls ≡ token first ∷ rest → ls ≡ rest
-rest-of-first l ls first rest e = ap (λ k. elim k as (λ x. List Lexeme) [ [] ↦ [] | m ∷ ms ↦ ms ]) e
-
 pub none-first : {P : Type 0} (l : Lexeme) (ls : List Lexeme) → [] ≡ l ∷ ls → P
 none-first l ls e = absurd (true≢false (ap (λ k. elim k as (λ x. Bool) [ [] ↦ true | m ∷ ms ↦ false ]) e))
 
-record Closed (u t : Token) (ts more : List Token) : Type 0 where
-  pub same : u ≡ t
-  pub after : more ≡ ts
-
 module _ (p : Place) (t : Token) (ts : List Token) (good : is_good t ≡ true) where
-  placed-closing : (u : Token) (b : Bool) (k : Place → List Token) → weight u ≡ closes → place_token p u b k ≡ t ∷ ts → Closed u t ts (k after_value)
-  placed-closing begin_object b k w e = absurd (opens≢closes w)
-  placed-closing end_object b k w e = let h = is-allowed (may_close p) end_object t k after_value ts e good in record { same = h.first; after = h.follow }
-  placed-closing begin_array b k w e = absurd (opens≢closes w)
-  placed-closing end_array b k w e = let h = is-allowed (may_close p) end_array t k after_value ts e good in record { same = h.first; after = h.follow }
-  placed-closing (key s) b k w e = absurd (flat≢closes w)
-  placed-closing (string s) b k w e = absurd (flat≢closes w)
-  placed-closing (number s) b k w e = absurd (flat≢closes w)
-  placed-closing (boolean v) b k w e = absurd (flat≢closes w)
-  placed-closing null b k w e = absurd (flat≢closes w)
-  placed-closing bad b k w e = absurd (flat≢closes w)
-
   pub placed-weight : (u : Token) (b : Bool) (k : Place → List Token) → place_token p u b k ≡ t ∷ ts → weight u ≡ weight t
   placed-weight begin_object b k e = ap weight (is-allowed (may_begin p) begin_object t k fresh ts e good).first
   placed-weight end_object b k e = ap weight (is-allowed (may_close p) end_object t k after_value ts e good).first
@@ -251,15 +232,10 @@ module _ (p : Place) (t : Token) (ts : List Token) (good : is_good t ≡ true) w
   placed-weight bad b k e = never-bad t ts e good
 
 module _ (text : List ℕ) (at : ℕ) (within : at < length text) (t : Token) (ts : List Token) (good : is_good t ≡ true) where
-  pub steps-out : IsKind Close (get_or text at 0) → Faces text at t ts → StepsOut text (at + 1) t ts
+  pub steps-out : IsKind Close (get_or text at 0) → Faces text at t ts → weight t ≡ closes
   steps-out is faces =
       let same = sym (lexemes-at text at within operator is.is) ∙ faces.lexed in
-      let heavy : weight faces.first ≡ closes = sym (weight-of-first _ _ faces.first faces.rest same) ∙ is.weighs in
-      let h = placed-closing faces.place t ts good faces.first (begins_colon faces.rest) (λ next. punctuate next faces.rest) heavy faces.placed in
-      record {
-        closing = ap weight (sym h.same) ∙ heavy;
-        after = sym h.after ∙ ap (punctuate after_value) (sym (rest-of-first _ _ faces.first faces.rest same));
-      }
+      sym (placed-weight faces.place t ts good faces.first (begins_colon faces.rest) (λ next. punctuate next faces.rest) faces.placed) ∙ sym (weight-of-first _ _ faces.first faces.rest same) ∙ is.weighs
 
   first-weight : (kind : Kind) (first : Token) (rest : List Lexeme) → IsKind kind (get_or text at 0) → is_close kind ≡ false → is_blank (class (get_or text at 0)) ≡ false → lexemes_from text at ≡ token first ∷ rest → weight first ≡ closes → ⊥
   first-weight Quote first rest is inner solid e w = flat≢closes (sym (string-flat _) ∙ weight-of-first _ _ first rest (sym (lexemes-at text at within quote is.is) ∙ e) ∙ w)

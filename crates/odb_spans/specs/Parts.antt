@@ -11,7 +11,7 @@ use Rattle.json.specs.Tree.{json_tokens, items_tokens, members_tokens}
 use Rattle.serde_json.specs.Data.{Data}
 use Rattle.odb_doc.specs.Documents.{IsJson}
 use Rattle.odb_spans.specs.Positions.{BeginsIn}
-use Rattle.odb_spans.specs.Spans.{EachSpan, IsWithin, bytes_of}
+use Rattle.odb_spans.specs.Spans.{IsWithin, bytes_of}
 use Rattle.odb_spans.specs.Cuts.{IsCut, IsClear}
 use Rattle.odb_spans.specs.Extents.{value_extent}
 use Rattle.odb_spans.specs.Walks.{Faces, IsInside, IsSolidAt, tokens_from}
@@ -32,9 +32,12 @@ pub record IsMemberAt (text : List ℕ) (at : ℕ) (member : Member) : Type 0 wh
   pub cut : IsCut text at → IsCut text member.value
   pub clear : (k : List ℕ) (t : Token) (ts : List Token) → is_good t ≡ true → Faces text at (Token.key k) (t ∷ ts) → IsCut text at → IsClear text member.value
 
--- whether the string has this content
+-- whether the text is a string with this content
+abbrev pub IsNamed : List ℕ → List ℕ → Bool → Type 0
+IsNamed string name same = (k : List ℕ) → IsUtf8 string → tokens string ≡ Token.string k ∷ [] → same ≡ bytes_eq k name
+
 abbrev pub IsNameIn : List ℕ → Span → List ℕ → Bool → Type 0
-IsNameIn text span name same = (k : List ℕ) → IsUtf8 (bytes_of text span) → tokens (bytes_of text span) ≡ Token.string k ∷ [] → same ≡ bytes_eq k name
+IsNameIn text span name same = IsNamed (bytes_of text span) name same
 
 -- after an opening brace or a member, the others are ms, and then come ts
 pub record HasMembers (text : List ℕ) (at : ℕ) (ms : json.Members) (ts : List Token) : Type 0 where
@@ -123,10 +126,6 @@ HasMemberText name text element span = IsValueSpan text span (given_json (get na
 abbrev pub HaveMemberTexts : List ℕ → List ℕ → List json.Json → List (Option Span) → Type 0
 HaveMemberTexts name text elements spans = AllZip (HasMemberText name text) elements spans
 
--- the spans are those of the members of this name of the elements in the value
-abbrev pub HaveMembersIn : List ℕ → List ℕ → List (Option Span) → Option json.Json → Type 0
-HaveMembersIn name text spans o = HaveMemberTexts name text (items_in o) spans
-
 -- ---- the place of a value
 
 abbrev pub append_members : json.Members → json.Members → json.Members
@@ -193,77 +192,32 @@ pub record HoldsInArray (R : json.Json → List Token → Type 0) (at : ℕ) (j 
   pub array : j ≡ json.array items
   pub holds : HoldsOfItem R at items ts
 
--- the span is where the member of this name of the element at this position lies
-abbrev pub LiesInItems : List ℕ → List ℕ → ℕ → Span → json.Items → List Token → Type 0
-LiesInItems name text at span js ts = HoldsOfItem (LiesInElement name text span) at js ts
-
-abbrev pub LiesInArray : List ℕ → List ℕ → ℕ → Span → json.Json → List Token → Type 0
-LiesInArray name text at span j ts = HoldsInArray (LiesInElement name text span) at j ts
-
-abbrev pub LieInItems : List ℕ → List ℕ → List (Option Span) → json.Items → List Token → Type 0
-LieInItems name text spans js ts = EachSpan (λ at span. LiesInItems name text at span js ts) 0 spans
-
-abbrev pub LieInArray : List ℕ → List ℕ → List (Option Span) → json.Json → List Token → Type 0
-LieInArray name text spans j ts = EachSpan (λ at span. LiesInArray name text at span j ts) 0 spans
-
 -- ---- what is still to come
 
--- The others of the members ms are still to come; R holds of the last value of this name before them, and Q of where it lies.
-pub record MembersLeft (name text : List ℕ) (at : ℕ) (R : Option json.Json → Type 0) (Q : json.Json → List Token → Type 0) (ms : json.Members) (ts : List Token) : Type 0 where
+-- The others of the members ms are still to come; the span is that of the last value of this name before them.
+pub record MembersLeft (name text : List ℕ) (at : ℕ) (span : Option Span) (ms : json.Members) (ts : List Token) : Type 0 where
   pub done : json.Members
   pub others : json.Members
   pub found : Option json.Json
   pub has : HasMembers text at others ts
-  pub holds : R found
+  pub holds : IsValueSpan text span found
   pub same : get_member name ms ≡ later_or (get_member name others) found
   pub whole : ms ≡ append_members done others
-  pub place : IsSomeMemberOf name ms found (get_member name others) ts Q
+  pub place : IsSomeMemberOf name ms found (get_member name others) ts (LiesAtSome text span)
 
--- The others of the items js are still to come, and the spans are those of the members of this name before them.
-pub record ItemsLeft (name text : List ℕ) (at : ℕ) (spans : List (Option Span)) (js : json.Items) (ts : List Token) : Type 0 where
-  pub done : List json.Json
-  pub others : json.Items
-  pub has : HasItems text at others ts
-  pub holds : HaveMemberTexts name text done spans
-  pub same : list_of js ≡ done ++ list_of others
-  pub before : json.Items
-  pub whole : js ≡ append_items before others
-  pub count : count_items before ≡ length spans
-  pub lie : LieInItems name text spans js ts
-
--- the value of the last member of this name, and where the object ends
-pub record FindsMember (name text : List ℕ) (start : ℕ) (span : Option Span) (end : ℕ) : Type 0 where
-  pub order : start ≤ end
-  pub within : end ≤ length text
+-- the value of the last member of this name, and where it lies
+pub record FindsMember (name text : List ℕ) (start : ℕ) (span : Option Span) : Type 0 where
   pub bounds : IsWithin (length text) span
-  pub finds : (ms : json.Members) (ts : List Token) → HasMembers text start ms ts → IsValueSpan text span (get_member name ms) × HasEnded text end ts × IsSomeMemberOf name ms (get_member name ms) None ts (LiesAtSome text span)
+  pub finds : (ms : json.Members) (ts : List Token) → HasMembers text start ms ts → IsValueSpan text span (get_member name ms) × IsSomeMemberOf name ms (get_member name ms) None ts (LiesAtSome text span)
 
--- the member of this name of the element there, and where the element ends
-pub record GivesMember (name text : List ℕ) (at : ℕ) (span : Option Span) (end : ℕ) : Type 0 where
-  pub order : at < end
-  pub within : end ≤ length text
+-- the member of this name of the element there
+pub record GivesMember (name text : List ℕ) (at : ℕ) (span : Option Span) : Type 0 where
   pub bounds : IsWithin (length text) span
-  pub gives : (j : json.Json) (ts : List Token) → HasValue text at j ts → HasMemberText name text j span × HasEnded text end ts × LiesInElementSome name text span j ts
+  pub gives : (j : json.Json) (ts : List Token) → HasValue text at j ts → HasMemberText name text j span × LiesInElementSome name text span j ts
 
--- the members of this name of the elements of an array, and where it ends
-pub record GivesItems (name text : List ℕ) (start : ℕ) (spans : List (Option Span)) (end : ℕ) : Type 0 where
-  pub order : start ≤ end
-  pub within : end ≤ length text
-  pub bounds : All (IsWithin (length text)) spans
-  pub gives : (js : json.Items) (ts : List Token) → HasItems text start js ts → HaveMemberTexts name text (list_of js) spans × HasEnded text end ts × LieInItems name text spans js ts
-
--- the members of this name of the elements in the value there, and where it ends
-pub record GivesMembers (name text : List ℕ) (at : ℕ) (spans : List (Option Span)) (end : ℕ) : Type 0 where
-  pub order : at ≤ end
-  pub within : end ≤ length text
-  pub bounds : All (IsWithin (length text)) spans
-  pub gives : (j : json.Json) (ts : List Token) → HasValue text at j ts → HaveMembersIn name text spans (Some j) × HasEnded text end ts × LieInArray name text spans j ts
-
--- the members of this name of the elements of the last member that has the list's name
-pub record FindsMembers (list name text : List ℕ) (start : ℕ) (spans : List (Option Span)) : Type 0 where
-  pub bounds : All (IsWithin (length text)) spans
-  pub finds : (ms : json.Members) (ts : List Token) → HasMembers text start ms ts → HaveMembersIn name text spans (get_member list ms)
-      × IsSomeMemberOf list ms (get_member list ms) None ts (LieInArray name text spans)
+-- the members of this name of these elements
+abbrev pub GiveMembers : List ℕ → List ℕ → List Span → List (Option Span) → Type 0
+GiveMembers name text elements spans = AllZip (λ (element : Span). GivesMember name text element.start) elements spans
 
 -- ---- one element
 

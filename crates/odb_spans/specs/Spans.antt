@@ -1,7 +1,7 @@
 -- Where the members of the elements of a document lie, as the bodies of a batch: what the public clauses cite.
-use Rattle.std.specs.Prelude.{◌≡◌, ◌≤◌, ◌-◌, ℕ, suc, List, [], ◌∷◌, ◌++◌, length, take, drop, get_or, set, map, false, Option, Some, None, ⊤, codes}
+use Rattle.std.specs.Prelude.{◌≡◌, ◌≤◌, ◌-◌, ℕ, suc, List, [], ◌∷◌, ◌++◌, length, take, drop, get_or, set, map, true, false, Option, Some, None, ⊤, codes}
 use Rattle.json.specs.Word.{is_space}
-use Rattle.serde_json.specs.Data.{Data}
+use Rattle.serde_json.specs.Data.{Data, boolean}
 use Rattle.serde_json.specs.Find.{get}
 use Rattle.odb_doc.specs.Documents.{IsJson}
 use Rattle.odb_doc.specs.Nesting.{NestsWithin}
@@ -41,15 +41,16 @@ members_of list name d = map (member_of name) (elements_at list d)
 abbrev pub replaced : List ℕ → Span → List ℕ → List ℕ
 replaced document span text = take span.start document ++ (text ++ drop span.end document)
 
--- the document with `null` in the place of the span
-abbrev pub without : List ℕ → Span → List ℕ
-without document span = replaced document span (codes "null")
-
--- The span is where this member of the element at this position lies: without it, that element has no such member, and the others have theirs. It begins and ends with no blank (RFC 8259, section 2).
-pub record IsPlaceOfMember (list name document : List ℕ) (d : Data) (at : ℕ) (span : Span) : Type 0 where
+-- with this text in the place of the span, the element at this position has this member of the name, or none, and the others have theirs
+pub record HasMemberWith (text : List ℕ) (member : Option Data) (list name document : List ℕ) (d : Data) (at : ℕ) (span : Span) : Type 0 where
   pub changed : Data
-  pub reads : IsJson (without document span) changed
-  pub members : members_of list name changed ≡ set (members_of list name d) at None
+  pub reads : IsJson (replaced document span text) changed
+  pub members : members_of list name changed ≡ set (members_of list name d) at member
+
+-- The span is where this member of the element at this position lies: with `null` in its place the element has no such member, and with `true` it is true. It begins and ends with no blank (RFC 8259, section 2).
+pub record IsPlaceOfMember (list name document : List ℕ) (d : Data) (at : ℕ) (span : Span) : Type 0 where
+  pub with_null : HasMemberWith (codes "null") None list name document d at span
+  pub with_true : HasMemberWith (codes "true") (Some (boolean true)) list name document d at span
   pub first : is_space (get_or document span.start 0) ≡ false
   pub last : is_space (get_or document (span.end - 1) 0) ≡ false
 

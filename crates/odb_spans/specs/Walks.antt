@@ -1,13 +1,11 @@
 -- Where a scan is among the tokens of its text: for private clauses, nothing to believe.
-use Rattle.std.specs.Prelude.{◌≡◌, ◌≤◌, ◌<◌, ℕ, List, ◌∷◌, length, drop, get_or, true, false, ⊤, IsUtf8}
+use Rattle.std.specs.Prelude.{◌≡◌, ◌≤◌, ◌<◌, ℕ, List, ◌∷◌, length, drop, get_or, true, false, Option, Some, None, ⊤, IsUtf8}
 use Rattle.std.specs.Str.{IsCharBoundary}
 use Rattle.json.specs.Token.{Token}
 use Rattle.json.specs.Align.{is_blank, is_good}
 use Rattle.json.specs.Lex.{Lexeme, token, between, class, lex, Place, fresh, after_value, after_comma, after_key, begins_colon, place_token, punctuate}
 use Rattle.odb_spans.specs.Cuts.{IsClear, IsCut}
 use Rattle.odb_spans.specs.Extents.{closes, weight}
-use Rattle.odb_spans.specs.declared.walk.Step.{Step}
-use Rattle.odb_spans.specs.declared.walk.Step.TheVariants.{Element, End}
 
 -- the lexemes from a position of the text on
 abbrev pub lexemes_from : List ℕ → ℕ → List Lexeme
@@ -44,11 +42,6 @@ pub record Faces (text : List ℕ) (at : ℕ) (t : Token) (ts : List Token) : Ty
   pub lexed : lexemes_from text at ≡ token first ∷ rest
   pub placed : place_token place first (begins_colon rest) (λ next. punctuate next rest) ≡ t ∷ ts
 
--- t closes the array or the object, and ts come after it
-pub record StepsOut (text : List ℕ) (end : ℕ) (t : Token) (ts : List Token) : Type 0 where
-  pub closing : weight t ≡ closes
-  pub after : ts ≡ tokens_from after_value text end
-
 -- an element begins with t
 pub record StepsOn (text : List ℕ) (at : ℕ) (t : Token) (ts : List Token) : Type 0 where
   pub inner : weight t ≡ closes → ⊥
@@ -59,13 +52,10 @@ abbrev pub Clears : List ℕ → ℕ → ℕ → Type 0
 Clears text from at =
     (q : Place) (t : Token) (ts : List Token) → IsInside q → is_good t ≡ true → (weight t ≡ closes → ⊥) → tokens_from q text from ≡ t ∷ ts → IsCut text from → (q ≡ fresh → IsClear text from) → IsClear text at
 
--- the step from there, whatever the tokens are
-abbrev pub Steps : List ℕ → ℕ → Step → Type 0
-Steps text from (End end) =
-    (from ≤ end) × (end ≤ length text) × (IsUtf8 text → IsCharBoundary text from → IsCharBoundary text end)
-    × ((q : Place) (t : Token) (ts : List Token) → IsInside q → is_good t ≡ true → tokens_from q text from ≡ t ∷ ts → StepsOut text end t ts)
-    × (IsCut text from → IsCut text end)
-Steps text from (Element at) =
+-- the step from there, whatever the tokens are: to an element, or none where the next token closes
+abbrev pub Steps : List ℕ → ℕ → Option ℕ → Type 0
+Steps text from None = (q : Place) (t : Token) (ts : List Token) → IsInside q → is_good t ≡ true → tokens_from q text from ≡ t ∷ ts → weight t ≡ closes
+Steps text from (Some at) =
     (from ≤ at) × (at < length text) × IsSolidAt text at × (IsUtf8 text → IsCharBoundary text from → IsCharBoundary text at)
     × ((q : Place) (t : Token) (ts : List Token) → IsInside q → is_good t ≡ true → tokens_from q text from ≡ t ∷ ts → StepsOn text at t ts)
     × (IsCut text from → IsCut text at)

@@ -1,11 +1,13 @@
 //! How far a JSON value reaches in a text, by its brackets and quotes.
 
-ghost use Rattle.std.specs.Prelude.{◌≡◌, ◌≤◌, ◌<◌, ◌+◌, ◌^◌, ℕ, suc, length, drop, MatchOption, IsUtf8};
+ghost use Rattle.std.specs.Prelude.{◌≡◌, ◌≤◌, ◌<◌, ◌+◌, ◌-◌, ◌^◌, ℕ, suc, length, drop, get_or, MatchOption, IsUtf8};
 ghost use Rattle.std.specs.Str.{IsCharBoundary};
-ghost use Rattle.odb_spans.specs.Extents.{value_extent};
-ghost use Rattle.odb_spans.specs.States.{Begins, ContinuesText, Ends, Passes};
+ghost use Rattle.json.specs.Lex.{in_string};
+ghost use Rattle.odb_spans.specs.Extents.{extent, value_extent};
+ghost use Rattle.odb_spans.specs.States.{Begins, ContinuesText, Ends, IsAfter, Passes, mode_of};
 
 use crate::byte::Kind;
+use memchr::memchr2;
 
 /// What the scan is inside.
 #[derive(Clone, Copy)]
@@ -68,6 +70,7 @@ impl State {
     }
 
     /// Returns the state after the byte, or none if the value ends before it.
+    #[inline(always)]
     fn after(self, kind: Kind) -> Option<Self>
         requires { self.depth + 1 < 2 ^ 64 }
         ensures passes { MatchOption result (Ends kind self) (λ next. Passes kind self next) }
@@ -87,6 +90,35 @@ impl State {
             Mode::Between => self.begun_inside(kind),
         }
     }
+
+    /// Returns where the next byte is, from a position on, that may change the state.
+    #[inline(always)]
+    fn passed(self, text: &[u8], at: usize) -> usize
+        requires { at ≤ length text.now }
+        ensures extent { at + extent (mode_of self.mode) self.depth (drop at text.now) ≡ result + extent (mode_of self.mode) self.depth (drop result text.now) }
+        ensures last { IsAfter (get_or text.now (at - 1) 0) self.mode → IsAfter (get_or text.now (result - 1) 0) self.mode }
+        ensures after { at ≤ result }
+        ensures within { result ≤ length text.now }
+    {
+        match self.mode {
+            Mode::Text => plain_end(text, at),
+            Mode::Between | Mode::Word | Mode::Escape => at,
+        }
+    }
+}
+
+/// Returns where the bytes from a position on end that are neither a quote nor a backslash.
+#[inline(never)]
+fn plain_end(text: &[u8], at: usize) -> usize
+    requires { at ≤ length text.now }
+    ensures extent { (n : ℕ) → at + extent in_string n (drop at text.now) ≡ result + extent in_string n (drop result text.now) }
+    ensures after { at ≤ result }
+    ensures within { result ≤ length text.now }
+{
+    match memchr2(b'"', b'\\', &text[at..]) {
+        Some(found) => at + found,
+        None => text.len(),
+    }
 }
 
 /// Returns where the value ends that begins at a position, or the end of the text if it does not end.
@@ -101,13 +133,14 @@ pub(crate) fn value_end(text: &[u8], at: usize) -> usize
         return at;
     };
     let mut state = State::begun(first, 0);
-    let mut end = at + 1;
+    let start = state.passed(text, at + 1);
+    let mut end = start;
     while end < text.len() {
         let Some(next) = state.after(Kind::of(text[end])) else {
             return end;
         };
         state = next;
-        end += 1;
+        end = state.passed(text, end + 1);
     }
     end
 }

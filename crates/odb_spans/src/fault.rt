@@ -7,6 +7,7 @@ use crate::extent::value_end;
 use crate::front::Front;
 use crate::parsing::ParseError;
 use crate::walk::past_blanks;
+use memchr::memchr;
 use serde_json::Value;
 use std::alloc::{AllocError, Global};
 
@@ -15,16 +16,13 @@ use std::alloc::{AllocError, Global};
 fn bytes_before(document: &[u8], line: usize, column: usize) -> usize
     ensures { result ≤ length document.now }
 {
-    let mut start = 0;
-    let mut newlines = line.saturating_sub(1);
-    for (at, byte) in document.iter().enumerate() {
-        if newlines == 0 {
-            break;
-        }
-        if *byte == b'\n' {
-            newlines -= 1;
-            start = at + 1;
-        }
+    let (mut start, mut newlines) = (0, line.saturating_sub(1));
+    while newlines > 0 {
+        let found = memchr(b'\n', &document[start..]).unwrap_or(document.len());
+        start = document
+            .len()
+            .min(start.saturating_add(found).saturating_add(1));
+        newlines -= 1;
     }
     let columns = column.saturating_sub(1);
     document.len().min(start.saturating_add(columns))

@@ -1,10 +1,10 @@
 //! A member of one element.
 
-ghost use Rattle.std.specs.Prelude.{◌≡◌, ◌<◌, ℕ, Some, length, IfOk, MatchOption};
+ghost use Rattle.std.specs.Prelude.{◌≡◌, ◌<◌, ℕ, Some, length, IfOk, MatchOption, OnErr};
 ghost use Rattle.odb_spans.specs.Spans.{IsWithin};
 ghost use Rattle.odb_spans.specs.Parts.{GivesMember, IsGiven, IsNullAt};
 
-use crate::extent::value_end;
+use crate::byte::has_byte;
 use crate::member::last_member;
 use crate::span::Span;
 use std::alloc::{AllocError, Global};
@@ -30,19 +30,23 @@ fn given(document: &[u8], value: Option<Span>) -> Option<Span>
     }
 }
 
-/// Returns the member of this name of the element at a position, if any, and where the element ends.
+/// Returns where the member of this name of the element at a position lies, if it has one that is not `null`.
+///
+/// # Errors
+///
+/// If memory for an unescaped name cannot be allocated.
 pub(crate) fn given_at(
     alloc: Global,
     document: &[u8],
     at: usize,
     name: &str,
-) -> Result<(Option<Span>, usize), AllocError>
-    requires { at < length document.now }
-    ensures { IfOk result (λ found. GivesMember name.now document.now at found.0 found.1) }
+) -> Result<Option<Span>, AllocError>
+    ensures gives { IfOk result (λ found. GivesMember name.now document.now at found) }
+    ensures memory { OnErr result (at < length document.now) }
 {
-    if document[at] != b'{' {
-        return Ok((None, value_end(document, at)));
+    if !has_byte(document, at, b'{') {
+        return Ok(None);
     }
-    let (value, end) = last_member(alloc, document, at + 1, name)?;
-    Ok((given(document, value), end))
+    let value = last_member(alloc, document, at + 1, name)?;
+    Ok(given(document, value))
 }

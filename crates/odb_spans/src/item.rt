@@ -6,7 +6,7 @@ ghost use Rattle.odb_spans.specs.Parts.{FindsItems, GivesItemsAt, GivesNext};
 use crate::byte::has_byte;
 use crate::extent::value_end;
 use crate::span::Span;
-use crate::walk::{Step, next};
+use crate::walk::next;
 use std::alloc::{AllocError, Global};
 
 /// Returns where the next item of an array lies, none at its end. `at` is after its opening bracket or
@@ -16,11 +16,11 @@ pub(crate) fn next_item(document: &[u8], at: usize) -> Option<Span>
     ensures { GivesNext document.now at result }
 {
     match next(document, at) {
-        Step::End(_) => None,
-        Step::Element(start) => Some(Span {
+        Some(start) => Some(Span {
             start,
             end: value_end(document, start),
         }),
+        None => None,
     }
 }
 

@@ -29,12 +29,13 @@ pub(crate) fn elements_in(
 ) -> Result<Vec<Span>, AllocError>
     requires { start ≤ length document.now }
     ensures found { IfOk result (λ found. FindsElements name.now document.now start found.items) }
+    ensures some { IfOk result (λ found. 0 < length found.items → start < length document.now) }
     ensures memory { OnErr result (start < length document.now) }
 {
     if !has_byte(document, start, b'{') {
         return Ok(Vec::new(alloc));
     }
-    match last_member(alloc, document, start + 1, name)?.0 {
+    match last_member(alloc, document, start + 1, name)? {
         Some(value) => items_at(alloc, document, value.start),
         None => Ok(Vec::new(alloc)),
     }

@@ -10,14 +10,6 @@ ghost use Rattle.odb_spans.specs.Walks.{Clears, Faces, IsInside, IsSolidAt, IsSt
 
 use crate::byte::Kind;
 
-/// Where the next element of an array or the next name of an object begins, or where the array or the
-/// object ends.
-#[derive(Clone, Copy)]
-pub(crate) enum Step {
-    Element(usize),
-    End(usize),
-}
-
 /// Returns where the next byte is that is not blank.
 pub(crate) fn past_blanks(text: &[u8], at: usize) -> usize
     requires { at ≤ length text.now }
@@ -77,18 +69,15 @@ pub(crate) fn past_separator(text: &[u8], at: usize) -> usize
     }
 }
 
-/// Returns the next step in an array or an object: `at` is after its opening bracket or an element.
-pub(crate) fn next(text: &[u8], at: usize) -> Step
+/// Returns where the next element of an array or the next name of an object begins, none at the end of the array or the
+/// object. `at` is after its opening bracket or an element.
+pub(crate) fn next(text: &[u8], at: usize) -> Option<usize>
     requires { at ≤ length text.now }
     ensures { Steps text.now at result }
 {
     let first = past_separator(text, at);
     let Some(kind) = Kind::at(text, first) else {
-        return Step::End(first);
+        return None;
     };
-    if kind.closes() {
-        Step::End(first + 1)
-    } else {
-        Step::Element(first)
-    }
+    if kind.closes() { None } else { Some(first) }
 }

@@ -38,6 +38,11 @@ const DOCUMENTS: &[(&str, &[Option<&str>])] = &[
         r#"{"requests":[{"Body":1,"body ":2,"b\\ody":3,"\u0042ody":4,"bod":5,"bodyy":6,"":7}]}"#,
         &[None],
     ),
+    // What is between two names is the text of the body's value, too.
+    (
+        r#"{"requests":[{"a":1,"body":"\u003a1,"}]}"#,
+        &[Some(r#""\u003a1,""#)],
+    ),
     // Brackets and quotes in strings.
     (
         r#"{"requests":[{"url":"]}\"{[","body":[ "]}\"\\" , {} ]},{"id":"\\","body":"\\\""}]}"#,

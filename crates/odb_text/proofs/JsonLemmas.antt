@@ -1,5 +1,5 @@
 -- The results as JSON are values that are written without loss: each number has 64 bits, and they nest at most 4 deep.
-use Rattle.std.proofs.Common.{◌≡◌, ◌≤◌, ◌<◌, ◌+◌, ◌-◌, ◌^◌, ℕ, zero, suc, Bool, true, false, cond, List, [], ◌∷◌, ◌++◌, Option, None, Some, IfSome, get_or, map, option_map, slice_get, refl, arith, length, codes}
+use Rattle.std.proofs.Common.{◌≤◌, ◌<◌, ◌+◌, ◌-◌, ◌^◌, ℕ, zero, suc, Bool, true, false, cond, List, [], ◌∷◌, ◌++◌, Option, None, Some, IfSome, get_or, map, option_map, slice_get, refl, arith, length, codes}
 use Rattle.std.specs.Prelude.{◌==◌, slice_index}
 use Rattle.std.proofs.lemmas.Bool.{or_from, or_parts}
 use Rattle.serde_json.specs.Data.{Data, unsigned, number, string, array, object, Items, Members, put, no_members}
@@ -22,9 +22,9 @@ use Rattle.odb_check.specs.Needs.{needs_at}
 use Rattle.odb_check.specs.Positions.{group_at}
 use Rattle.odb_check.specs.Units.{unit_at}
 use Rattle.odb_spans.specs.declared.span.Span.{Span}
-use Rattle.odb_text.specs.FullPlans.{full_plan_value, full_planned, full_request, full_some, span_value}
-use Rattle.odb_text.specs.Lines.{id_text, place_text}
-use Rattle.odb_text.specs.Results.{counts_value, fault_value, faults_value, listed_fault, match_value, matched, need_values, plan_value, planned}
+use Rattle.odb_text.specs.FullPlans.{full_plan_value, full_planned, full_some, span_value}
+use Rattle.odb_text.specs.Lines.{id_text, place_text, unlocated}
+use Rattle.odb_text.specs.Results.{counts_value, fault_object, fault_value, faults_value, match_value, matched, need_values, object_at, plan_value, planned}
 
 -- ---- levels are low
 
@@ -87,11 +87,15 @@ safe-only n name d is = safe-object n _ (safe-put n name d no_members is (safe-n
 
 -- ---- results
 
-pub safe-fault : (refusal : Printed) → IsSafe 2 (fault_value refusal)
-safe-fault refusal = safe-only 1 (codes "fault") _ (safe-object 0 _ (
+safe-listed : (refusal : Printed) → IsSafe 1 (fault_object (unlocated refusal))
+unfolding object_at
+safe-listed refusal = safe-object 0 _ (
     safe-put 0 (codes "code") (string refusal.code) _ (safe-string 0 refusal.code) (
     safe-put 0 (codes "name") (string refusal.name) _ (safe-string 0 refusal.name) (
-    safe-put 0 (codes "place") (string (place_text refusal.place)) no_members (safe-string 0 (place_text refusal.place)) (safe-none 0)))))
+    safe-put 0 (codes "place") (string (place_text refusal.place)) no_members (safe-string 0 (place_text refusal.place)) (safe-none 0))))
+
+pub safe-fault : (refusal : Printed) → IsSafe 2 (fault_value (unlocated refusal))
+safe-fault refusal = safe-only 1 (codes "fault") _ (safe-listed refusal)
 
 pub safe-counts : (requests groups : ℕ) → requests < 2 ^ 64 → groups < 2 ^ 64 → IsSafe 1 (counts_value requests groups)
 safe-counts requests groups few some = safe-object 0 _ (
@@ -124,21 +128,14 @@ safe-matched batch statuses small i = safe-object 0 _ (
 pub safe-match : (batch : List Record) (statuses : List ℕ) → ((i : ℕ) → slice_index statuses i < 2 ^ 64) → IsSafe 3 (match_value batch statuses)
 safe-match batch statuses small = safe-only 2 (codes "responses") _ (safe-array 1 _ (safe-below 1 (length batch) (matched batch statuses) (safe-matched batch statuses small)))
 
-safe-listed : (refusal : Printed) → IsSafe 1 (listed_fault refusal)
-unfolding listed_fault
-safe-listed refusal = safe-object 0 _ (
-    safe-put 0 (codes "code") (string refusal.code) _ (safe-string 0 refusal.code) (
-    safe-put 0 (codes "name") (string refusal.name) _ (safe-string 0 refusal.name) (
-    safe-put 0 (codes "place") (string (place_text refusal.place)) no_members (safe-string 0 (place_text refusal.place)) (safe-none 0))))
-
-safe-all : (refusals : List Printed) → AreItemsSafe 1 (items_of (map listed_fault refusals))
+safe-all : (refusals : List Printed) → AreItemsSafe 1 (items_of (map fault_object (map unlocated refusals)))
 safe-all [] = record { held = tt; whole = refl; shallow = omega arith }
 safe-all (refusal ∷ refusals) =
     let one = safe-listed refusal in
     let rest = safe-all refusals in
-    record { held = (one.held, rest.held); whole = or_from (has_float (listed_fault refusal)) _ one.whole rest.whole; shallow = omega (arith, one.shallow, rest.shallow) }
+    record { held = (one.held, rest.held); whole = or_from (has_float (fault_object (unlocated refusal))) _ one.whole rest.whole; shallow = omega (arith, one.shallow, rest.shallow) }
 
-pub safe-faults : (refusals : List Printed) → IsSafe 3 (faults_value refusals)
+pub safe-faults : (refusals : List Printed) → IsSafe 3 (faults_value (map unlocated refusals))
 safe-faults refusals = safe-only 2 (codes "faults") _ (safe-array 1 _ (safe-all refusals))
 
 -- ---- a full plan

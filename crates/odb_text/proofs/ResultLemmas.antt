@@ -4,7 +4,6 @@ use Rattle.serde_json.specs.Data.{Data, string, number, unsigned, array, object,
 use Rattle.serde_json.specs.View.{items_of}
 use Rattle.serde_json.specs.Written.{compact_text, comma_if, items_text}
 use Rattle.serde_json.proofs.OnLiterals.{serde_json_on_literals}
-use Rattle.odb_doc.specs.Refusals.{Printed}
 use Rattle.odb_doc.specs.batch.Records.{Record}
 use Rattle.odb_doc.specs.canonical.Canonical.{with_some}
 use Rattle.odb_check.specs.Firsts.{joined_below, list_below}
@@ -13,12 +12,8 @@ use Rattle.odb_check.specs.Needs.{needs_at}
 use Rattle.odb_check.specs.Positions.{group_at}
 use Rattle.odb_check.proofs.BelowLemmas.{length-list_below}
 use Rattle.odb_text.specs.Lines.{id_text, status_line}
-use Rattle.odb_text.specs.Results.{fault_value, json_line, counts_value, matched, need_values, planned}
-use Rattle.odb_text.specs.ResultParts.{element, fault_part, group_part, id_part, string_part}
-
-pub fault-parts : (refusal : Printed) → codes "{\"fault\":{" ++ (fault_part refusal ++ codes "}}\n") ≡ json_line (fault_value refusal)
-unfolding serde_json_on_literals
-fault-parts refusal = simp append_assoc
+use Rattle.odb_text.specs.Results.{json_line, counts_value, matched, need_values, planned}
+use Rattle.odb_text.specs.ResultParts.{element, group_part, id_part, string_part}
 
 pub counts-parts : (requests groups : ℕ) → codes "{\"groups\":" ++ (decimal groups ++ (codes ",\"requests\":" ++ (decimal requests ++ codes "}\n"))) ≡ json_line (counts_value requests groups)
 unfolding serde_json_on_literals

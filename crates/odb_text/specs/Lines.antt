@@ -1,5 +1,5 @@
 -- The lines that are printed.
-use Rattle.std.specs.Prelude.{ℕ, List, [], ◌∷◌, ◌++◌, codes, length, slice_index, unwrap_or}
+use Rattle.std.specs.Prelude.{ℕ, List, [], ◌∷◌, ◌++◌, Option, None, Some, codes, length, map, slice_index, unwrap_or}
 use Rattle.std.specs.Fmt.{decimal}
 use Rattle.odb_check.specs.Firsts.{joined_below}
 use Rattle.odb_check.specs.Positions.{id_at}
@@ -9,7 +9,7 @@ use Rattle.odb_doc.specs.batch.Records.{Record}
 use Rattle.odb_doc.specs.declared.fault.Place.{Place}
 use Rattle.odb_doc.specs.declared.fault.Place.TheVariants.{Batch, Request, Outcomes, Outcome, Responses, Response, Events, Event}
 use Rattle.odb_spans.specs.declared.position.Position.{Position}
-use Rattle.odb_text.specs.declared.located.Located.{Located}
+use Rattle.odb_text.specs.declared.faults.Located.{Located}
 
 abbrev pub place_text : Place → List ℕ
 place_text Batch = codes "batch"
@@ -25,23 +25,23 @@ place_text (Event at) = codes "/events/" ++ decimal at
 abbrev pub fault_line : List ℕ → List ℕ → Place → List ℕ
 fault_line code name place = codes "fault " ++ code ++ codes " " ++ name ++ codes " " ++ place_text place ++ newline ∷ []
 
--- a line for each fault
-abbrev pub fault_lines : List Printed → List ℕ
-fault_lines [] = []
-fault_lines (refusal ∷ refusals) = fault_line refusal.code refusal.name refusal.place ++ fault_lines refusals
+-- `NAME:LINE:COLUMN: `, in the document of this name; nothing without a position
+abbrev pub position_text : List ℕ → Option Position → List ℕ
+position_text name None = []
+position_text name (Some position) = name ++ codes ":" ++ decimal position.line ++ codes ":" ++ decimal position.column ++ codes ": "
 
--- `NAME:LINE:COLUMN: `, in the document of this name
-abbrev pub position_text : List ℕ → Position → List ℕ
-position_text name position = name ++ codes ":" ++ decimal position.line ++ codes ":" ++ decimal position.column ++ codes ": "
-
--- what is printed of a fault, and where it is in its document
+-- what is printed of a fault, and where it is in its document, if that is printed
 pub record PrintedAt : Type 0 where
   pub refusal : Printed
-  pub position : Position
+  pub position : Option Position
 
--- what is printed of a located fault
+-- what is printed of a fault, which may be located
 abbrev pub printed_at : Located → PrintedAt
 printed_at located = record { refusal = printed located.refusal; position = located.position }
+
+-- a fault without where it is
+abbrev pub unlocated : Printed → PrintedAt
+unlocated refusal = record { refusal = refusal; position = None }
 
 -- `NAME:LINE:COLUMN: fault CODE NAME PLACE`, in the document of this name
 abbrev pub located_line : List ℕ → PrintedAt → List ℕ
@@ -51,6 +51,10 @@ located_line name fault = position_text name fault.position ++ fault_line fault.
 abbrev pub located_lines : List ℕ → List PrintedAt → List ℕ
 located_lines name [] = []
 located_lines name (fault ∷ faults) = located_line name fault ++ located_lines name faults
+
+-- the same of faults without where they are
+abbrev pub fault_lines : List Printed → List ℕ
+fault_lines refusals = located_lines [] (map unlocated refusals)
 
 -- `ok N requests M groups`
 abbrev pub accepted_line : ℕ → ℕ → List ℕ

@@ -51,17 +51,14 @@ url_part r = reference_part r.reference ++ (string_part (codes ",\"rest\":") (ur
 abbrev pub fault_part : Printed → List ℕ
 fault_part refusal = string_part (codes "\"code\":") refusal.code ++ (string_part (codes ",\"name\":") refusal.name ++ string_part (codes ",\"place\":") (place_text refusal.place))
 
--- the members `line`, `column` and `offset` of a fault, each with a comma first
-abbrev pub position_part : Position → List ℕ
-position_part position = codes ",\"line\":" ++ (decimal position.line ++ (codes ",\"column\":" ++ (decimal position.column ++ (codes ",\"offset\":" ++ decimal position.offset))))
+-- the members `line`, `column` and `offset` of a fault with a position, each with a comma first
+abbrev pub position_part : Option Position → List ℕ
+position_part None = []
+position_part (Some position) = codes ",\"line\":" ++ (decimal position.line ++ (codes ",\"column\":" ++ (decimal position.column ++ (codes ",\"offset\":" ++ decimal position.offset))))
 
 -- a fault of a list, with a comma first if one comes before it
-abbrev pub listed_part : Bool → Printed → List ℕ
-listed_part later refusal = comma_if later ++ (codes "{" ++ (fault_part refusal ++ codes "}"))
-
--- the same with where it is
-abbrev pub located_part : Bool → PrintedAt → List ℕ
-located_part later fault = comma_if later ++ (codes "{" ++ (fault_part fault.refusal ++ (position_part fault.position ++ codes "}")))
+abbrev pub listed_part : Bool → PrintedAt → List ℕ
+listed_part later fault = comma_if later ++ (codes "{" ++ (fault_part fault.refusal ++ (position_part fault.position ++ codes "}")))
 
 -- the element of an array at a position, with a comma first unless it is the first one
 unfoldable pub element : (ℕ → Data) → ℕ → List ℕ

@@ -1,6 +1,6 @@
 -- The results of check, plan and match, and a fault, as JSON values, members in byte order, but those of a position after the
 -- others; and as lines.
-use Rattle.std.specs.Prelude.{ℕ, List, [], ◌∷◌, ◌++◌, length, map, option_map, slice_index, codes}
+use Rattle.std.specs.Prelude.{ℕ, List, [], ◌∷◌, ◌++◌, Option, None, Some, length, map, option_map, slice_index, codes}
 use Rattle.serde_json.specs.Data.{Data, unsigned, number, string, array, object, member, no_members, put}
 use Rattle.serde_json.specs.View.{items_of}
 use Rattle.serde_json.specs.Written.{compact_text}
@@ -13,50 +13,39 @@ use Rattle.odb_check.specs.Levels.{level_at}
 use Rattle.odb_check.specs.Needs.{needs_at}
 use Rattle.odb_check.specs.Positions.{group_at}
 use Rattle.odb_check.specs.Texts.{need_name, newline}
+use Rattle.odb_spans.specs.declared.position.Position.{Position}
 use Rattle.odb_text.specs.Lines.{PrintedAt, id_text, place_text}
 
 -- the compact text of a value as a line
 abbrev pub json_line : Data → List ℕ
 json_line value = compact_text value ++ newline ∷ []
 
--- `{"fault":{"code":CODE,"name":NAME,"place":PLACE}}`
-abbrev pub fault_value : Printed → Data
-fault_value refusal =
-    object (put (codes "fault") (object (
-    put (codes "code") (string refusal.code) (
-    put (codes "name") (string refusal.name) (
-    put (codes "place") (string (place_text refusal.place)) no_members)))) no_members)
-
--- `{"code":CODE,"name":NAME,"place":PLACE}`
-unfoldable pub listed_fault : Printed → Data
-listed_fault refusal =
+-- `{"code":CODE,"name":NAME,"place":PLACE}`, and with a position `"line":LINE,"column":COLUMN,"offset":OFFSET` after these
+unfoldable pub object_at : Printed → Option Position → Data
+object_at refusal None =
     object (
     put (codes "code") (string refusal.code) (
     put (codes "name") (string refusal.name) (
     put (codes "place") (string (place_text refusal.place)) no_members)))
-
--- `{"faults":[..]}`, in this order
-abbrev pub faults_value : List Printed → Data
-faults_value refusals = object (put (codes "faults") (array (items_of (map listed_fault refusals))) no_members)
-
--- `{"code":CODE,"name":NAME,"place":PLACE,"line":LINE,"column":COLUMN,"offset":OFFSET}`
-unfoldable pub located_fault : PrintedAt → Data
-located_fault fault =
+object_at refusal (Some position) =
     object (
-    member (codes "code") (string fault.refusal.code) (
-    member (codes "name") (string fault.refusal.name) (
-    member (codes "place") (string (place_text fault.refusal.place)) (
-    member (codes "line") (number (unsigned fault.position.line)) (
-    member (codes "column") (number (unsigned fault.position.column)) (
-    member (codes "offset") (number (unsigned fault.position.offset)) no_members))))))
+    member (codes "code") (string refusal.code) (
+    member (codes "name") (string refusal.name) (
+    member (codes "place") (string (place_text refusal.place)) (
+    member (codes "line") (number (unsigned position.line)) (
+    member (codes "column") (number (unsigned position.column)) (
+    member (codes "offset") (number (unsigned position.offset)) no_members))))))
+
+abbrev pub fault_object : PrintedAt → Data
+fault_object fault = object_at fault.refusal fault.position
 
 -- `{"fault":{..}}`
-abbrev pub located_value : PrintedAt → Data
-located_value fault = object (put (codes "fault") (located_fault fault) no_members)
+abbrev pub fault_value : PrintedAt → Data
+fault_value fault = object (put (codes "fault") (fault_object fault) no_members)
 
 -- `{"faults":[..]}`, in this order
-abbrev pub all_located_value : List PrintedAt → Data
-all_located_value faults = object (put (codes "faults") (array (items_of (map located_fault faults))) no_members)
+abbrev pub faults_value : List PrintedAt → Data
+faults_value faults = object (put (codes "faults") (array (items_of (map fault_object faults))) no_members)
 
 -- `{"groups":M,"requests":N}`
 abbrev pub counts_value : ℕ → ℕ → Data

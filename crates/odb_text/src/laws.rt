@@ -21,6 +21,7 @@ ghost use Rattle.odb_text.specs.DrawnLines.{clusters_of, lines_of, marked, nodes
 ghost use Rattle.odb_text.specs.Drawings.{arrow_line, arrow_start, drawing_text, rank_line};
 ghost use Rattle.odb_text.specs.Rows.{row_at};
 ghost use Rattle.odb_text.specs.Labels.{IsOneString, quoted};
+ghost use Rattle.odb_text.specs.Lines.{unlocated};
 ghost use Rattle.odb_text.specs.Traces.{step_line, trace_text, undo_line};
 ghost use Rattle.odb_text.specs.SamePlans.{IsSamePlan};
 ghost use Rattle.odb_spans.specs.declared.span.Span.{Span};
@@ -35,9 +36,9 @@ ghost use Rattle.odb_text.specs.Results.{counts_value, fault_value, faults_value
 /// position is no such line: its members are not in byte order.
 pub fn every_result()
     ensures fault { (refusal : Printed)
-        → read (json_line (fault_value refusal)) ≡ Some (fault_value refusal) }
-    ensures faults { (refusals : List Printed)
-        → read (json_line (faults_value refusals)) ≡ Some (faults_value refusals) }
+        → read (json_line (fault_value (unlocated refusal))) ≡ Some (fault_value (unlocated refusal)) }
+    ensures faults { (refusals : List Printed) → read (json_line (faults_value (map unlocated refusals)))
+        ≡ Some (faults_value (map unlocated refusals)) }
     ensures counts { (requests groups : ℕ) → requests < 2 ^ 64 → groups < 2 ^ 64
         → read (json_line (counts_value requests groups)) ≡ Some (counts_value requests groups) }
     ensures plan { (batch : List Record) → length batch < 2 ^ 64

@@ -25,19 +25,6 @@ pub fn place_text(alloc: Global, place: Place) -> Result<String, AllocError>
     }
 }
 
-/// Returns the line of a fault: `fault CODE NAME PLACE`, where the place is `batch`, `outcomes`, `responses` or
-/// `events`, or the path to an element, as `/requests/3`.
-///
-/// # Errors
-///
-/// `AllocError` if an allocation fails.
-pub fn fault_line(alloc: Global, code: &str, name: &str, place: Place) -> Result<String, AllocError>
-    ensures { IfOk result (λ line. string_bytes line ≡ lines.fault_line code.now name.now place) }
-{
-    let place = place_text(alloc, place)?;
-    format!(in alloc; "fault {code} {name} {place}\n")
-}
-
 /// Returns the line of responses that fit their batch: `ok N responses`.
 fn fit_line(alloc: Global, responses: u32) -> Result<String, AllocError>
     ensures { IfOk result (λ line. string_bytes line ≡ lines.fit_line responses) }

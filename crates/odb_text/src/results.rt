@@ -1,14 +1,11 @@
-//! The results of check and match, and faults, as one line of compact JSON.
+//! The results of check and match as one line of compact JSON.
 
 ghost use Rattle.std.specs.Prelude.{◌≡◌, ◌<◌, ◌++◌, length, IfOk, OnOk, string_bytes};
 ghost use Rattle.odb_check.specs.Plans.{plan_records};
-ghost use Rattle.odb_doc.specs.Refusals.{printed};
-ghost use Rattle.odb_text.specs.Results.{fault_value, json_line, counts_value, match_value, matched};
-ghost use Rattle.odb_text.specs.ResultParts.{element, fault_part, string_part};
+ghost use Rattle.odb_text.specs.Results.{json_line, counts_value, match_value, matched};
+ghost use Rattle.odb_text.specs.ResultParts.{element, string_part};
 
-use crate::lines::place_text;
 use odb_check::Plan;
-use odb_doc::Refusal;
 use odb_doc::text::{push_if, push_quoted};
 use std::alloc::{AllocError, Global};
 use std::fmt::Write;
@@ -25,35 +22,6 @@ pub(crate) fn push_string(
 {
     text.push_str(piece)?;
     push_quoted(alloc, text, value)
-}
-
-/// Appends the members `code`, `name` and `place` of a fault.
-pub(crate) fn push_fault(
-    alloc: Global,
-    text: &mut String,
-    refusal: Refusal,
-) -> Result<(), AllocError>
-    ensures { OnOk result (string_bytes text.new
-        ≡ string_bytes text.old ++ fault_part (printed refusal)) }
-{
-    let place = place_text(alloc, refusal.place)?;
-    push_string(alloc, text, "\"code\":", refusal.code)?;
-    push_string(alloc, text, ",\"name\":", refusal.name)?;
-    push_string(alloc, text, ",\"place\":", place.as_str())
-}
-
-/// Returns a fault as a line of JSON: `{"fault":{"code":CODE,"name":NAME,"place":PLACE}}`.
-///
-/// # Errors
-///
-/// `AllocError` if an allocation fails.
-pub fn fault_json(alloc: Global, refusal: Refusal) -> Result<String, AllocError>
-    ensures { IfOk result (λ line. string_bytes line ≡ json_line (fault_value (printed refusal))) }
-{
-    let mut text = String::from_str(alloc, "{\"fault\":{")?;
-    push_fault(alloc, &mut text, refusal)?;
-    text.push_str("}}\n")?;
-    Ok(text)
 }
 
 /// Returns the counts of a batch that the check accepts as a line of JSON: `{"groups":M,"requests":N}`.

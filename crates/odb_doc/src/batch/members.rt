@@ -22,7 +22,8 @@ pub(crate) struct Members<'a> {
 }
 
 impl<'a> Members<'a> {
-    /// Records the member in its place.
+    /// Records the member in its place. Inlined, it would move all nine values for each member.
+    #[inline(never)]
     #[tactic(auto, unfolding(crate::specs::Members::is_unknown))]
     fn put(&mut self, name: &str, value: &'a Value)
         ensures { PutsMember name.now (view value.now) self.old self.new }

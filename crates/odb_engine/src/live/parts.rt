@@ -1,15 +1,14 @@
 //! The parts of a live run: what of its batch may be sent together next.
 
-ghost use Rattle.std.specs.Prelude.{◌≡◌, ◌≢◌, ◌<◌, Err, IfOk, IfErr, IfSome, None, length, option_map, string_bytes};
+ghost use Rattle.std.specs.Prelude.{◌≡◌, ◌≢◌, ◌<◌, All, Err, IfOk, IfErr, IfSome, None, length, option_map};
 ghost use Rattle.serde_json.specs.Data.{Data};
 ghost use Rattle.odb_check.specs.Firsts.{list_below};
 ghost use Rattle.odb_check.specs.Plans.{plan_records};
-ghost use Rattle.odb_reply.specs.Responses.{labels_of};
 ghost use Rattle.odb_sched.specs.run.State.{size};
 ghost use Rattle.odb_send.specs.Locations.{texts_of};
+ghost use Rattle.odb_send.specs.NextPart.{HasNoLonger};
 ghost use Rattle.odb_send.specs.Parts.{IsBatchIn};
 ghost use Rattle.odb_engine.specs.declared.halt.Halt.TheVariants as halts;
-ghost use Rattle.odb_engine.specs.Cascade.{Accepts};
 ghost use Rattle.odb_engine.specs.Halts.{Halted};
 ghost use Rattle.odb_engine.specs.LiveParts as parts;
 
@@ -22,16 +21,42 @@ use crate::tasks::command::plan_of;
 use odb_check::{Plan, Seed};
 use odb_doc::{Batch, Place};
 use odb_sched::{OwnedRun, RequestState};
-use odb_send::{RestFault, location_in, part_of, rest_text};
+use odb_send::{RestFault, fits_limit, location_in, part_of, positions_of, rest_text};
 use std::alloc::{AllocError, Global};
 
-/// Returns what has become of each request.
-fn states_of(alloc: Global, run: &OwnedRun) -> Result<Vec<RequestState>, AllocError>
-    ensures { IfOk result (λ found. found.items ≡ parts.states_of run.now) }
+/// A part of the batch of a live run: requests that may be sent together.
+#[derive(Drop)]
+pub struct Part {
+    /// The text of a batch of these requests.
+    pub text: String,
+    /// Their positions in the batch of the run, in order.
+    pub positions: Vec<u32>,
+}
+
+/// Returns what has become of a request, where one that is in a part and may still start counts as running.
+fn seen(out: bool, state: RequestState) -> RequestState
+    ensures { result ≡ parts.seen out state }
+{
+    if !out {
+        return state;
+    }
+    match state {
+        RequestState::Waiting => RequestState::Running,
+        RequestState::Ready => RequestState::Running,
+        RequestState::Running => RequestState::Running,
+        RequestState::Reported(status) => RequestState::Reported(status),
+        RequestState::Skipped => RequestState::Skipped,
+    }
+}
+
+/// Returns what has become of each request, by which are in a part.
+fn states_of(alloc: Global, run: &OwnedRun, out: &[bool]) -> Result<Vec<RequestState>, AllocError>
+    requires { length out.now ≡ size run.now }
+    ensures { IfOk result (λ found. found.items ≡ parts.states_of run.now out.now) }
 {
     let mut found = Vec::with_capacity(alloc, run.len() as usize)?;
     for i in 0..run.len() {
-        found.push(run.state(i))?;
+        found.push(seen(out[i as usize], run.state(i)))?;
     }
     Ok(found)
 }
@@ -56,33 +81,48 @@ fn locations_of(alloc: Global, run: &OwnedRun) -> Result<Vec<Option<&str>>, Allo
     Ok(found)
 }
 
-/// Returns the text of the next part of a run, by the plan of its batch.
-fn text_of_part(
+/// Returns the next part of a run, by the plan of its batch and by which requests are in a part.
+fn part_in(
     alloc: Global,
     run: &OwnedRun,
+    out: &[bool],
     document: &[u8],
     plan: &Plan<'_>,
     limit: u32,
-) -> Result<String, RestFault>
+) -> Result<Part, RestFault>
     requires document { (d : Data) × IsBatchIn document.now d (plan_records plan.now) }
     requires size { size run.now ≡ length (plan_records plan.now) }
-    ensures part { IfOk result (λ text. parts.IsTextOfPart document.now (plan_records plan.now) run.now
-        limit (string_bytes text)) }
-    ensures least { IfErr result (parts.LacksLocations (plan_records plan.now) run.now limit) }
+    requires out { length out.now ≡ size run.now }
+    ensures part { IfOk result (parts.IsPart document.now (plan_records plan.now) run.now out.now limit) }
+    ensures within { IfOk result (λ part. All (λ i. i < size run.now) part.positions.items) }
+    ensures least { IfErr result (parts.LacksLocations (plan_records plan.now) run.now out.now limit) }
 {
-    let states = states_of(alloc, run)?;
+    let states = states_of(alloc, run, out)?;
     let locations = locations_of(alloc, run)?;
     let part = part_of(alloc, plan, &states, limit, &locations)?;
     let text = rest_text(alloc, document, plan, &part)?;
-    Ok(text)
+    let positions = positions_of(alloc, plan, &part)?;
+    Ok(Part { text, positions })
+}
+
+/// Marks the requests at these positions.
+fn mark(out: &mut [bool], positions: &[u32])
+    requires { All (λ i. i < length out.old) positions.now }
+    ensures { out.new ≡ parts.marks_after out.old positions.now }
+{
+    for i in positions {
+        out[*i as usize] = true;
+    }
 }
 
 impl LiveRun {
     /// Returns the next part of the run as the text of a batch of its own: requests that may be sent together, `limit`
-    /// of them at most ([`odb_send::part_of`]). `None` if `batch` has not the ids and the groups of the run's batch.
+    /// of them at most ([`odb_send::part_of`]). None of them is in a part that was given before ([`LiveRun::give`]), and what
+    /// they need is in this one or has succeeded. `None` if `batch` has not the ids and the groups of the run's batch, or if
+    /// one of its groups has more than `limit` requests.
     ///
-    /// The run stays as it is. Once the part is answered, start its units in order and report their requests; the next
-    /// part follows from that. A part without requests means that nothing may be sent now.
+    /// The run stays as it is. A part without requests means that nothing may be sent now. What holds of every part is in
+    /// [`crate::laws::parts`].
     ///
     /// Names are looked up by the seed. Takes O(n log n) time and O(n) memory for a document of n bytes.
     ///
@@ -96,11 +136,11 @@ impl LiveRun {
         batch: &[u8],
         limit: u32,
         seed: Seed,
-    ) -> Result<Option<String>, Halt>
-        ensures part { IfOk result (λ found. IfSome found (λ text. parts.IsPartIn self.now batch.now limit
-            (string_bytes text))) }
-        ensures other { IfOk result (λ found. found ≡ None → Accepts batch.now (λ records.
-            ¬ (self.now.labels ≡ labels_of records))) }
+    ) -> Result<Option<Part>, Halt>
+        ensures part { IfOk result (λ found. IfSome found (parts.IsPartIn self.now batch.now limit)) }
+        ensures within { IfOk result (λ found. IfSome found (λ part.
+            All (λ i. i < size self.now.run) part.positions.items)) }
+        ensures other { IfOk result (λ found. found ≡ None → parts.HasNoParts self.now batch.now limit) }
         ensures least { IfErr result (Halted (parts.IsLeastOfPart self.now batch.now limit)) }
         ensures read { result ≢ Err halts.Read }
     {
@@ -111,7 +151,21 @@ impl LiveRun {
         if !self.labels.are_of(&plan.value) {
             return Ok(None);
         }
-        let text = text_of_part(alloc, &self.run, batch, &plan.value, limit)?;
-        Ok(Some(text))
+        if !fits_limit(&plan.value, limit) {
+            return Ok(None);
+        }
+        let part = part_in(alloc, &self.run, &self.out, batch, &plan.value, limit)?;
+        Ok(Some(part))
+    }
+
+    /// Marks the requests of a part as sent: from now on no other part has one of them.
+    ///
+    /// Once the part is answered, start its units in order and report their requests: then the next part has
+    /// what they made possible.
+    pub fn give(&mut self, positions: &[u32])
+        requires { All (λ i. i < size self.old.run) positions.now }
+        ensures { self.new ≡ parts.with_part self.old positions.now }
+    {
+        mark(&mut self.out, positions);
     }
 }

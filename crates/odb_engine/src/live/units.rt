@@ -14,7 +14,7 @@ impl LiveRun {
     /// its members has started, it has not failed, what its members need of other units has succeeded,
     /// the run is not stopped, and fewer requests are running than the width allows.
     ///
-    /// All calls of a run together cost O(units).
+    /// All calls of a run together cost O(requests + dependencies).
     pub fn next_unit(&mut self) -> Option<u32>
         ensures same { self.new ≡ self.old }
         ensures next { result

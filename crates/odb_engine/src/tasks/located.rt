@@ -3,7 +3,7 @@
 //! A position can be found only in the bytes of a document, so the documents are held in memory. What a command writes
 //! of good documents is the same, and takes no more time.
 
-ghost use Rattle.std.specs.Prelude.{◌≡◌, ◌⊎◌, ◌↔◌, true, false, Err, IfOk, IfSome, IsTrue, None, map, string_bytes};
+ghost use Rattle.std.specs.Prelude.{◌≡◌, ◌⊎◌, ◌↔◌, true, false, Err, IfOk, IfSome, IsTrue, None, map};
 ghost use Rattle.serde_json.specs.Data.{Data};
 ghost use Rattle.odb_doc.specs.Documents.{IsJson};
 ghost use Rattle.odb_doc.specs.Refusals.{printed};
@@ -15,11 +15,11 @@ ghost use Rattle.odb_engine.specs.Inputs.{IsFresh, ReadsFew, SomeDocument};
 ghost use Rattle.odb_engine.specs.Contents.{AskedFor};
 ghost use Rattle.odb_engine.specs.Contents.Given.{ByReader};
 ghost use Rattle.odb_engine.specs.Tasks.{OfDocuments, lists_all};
-ghost use Rattle.odb_engine.specs.Located.{AreLocated, HasPosition, LocatesBy, LocatesDocuments, LocatesTask, PrintsAll, StandsIn, all_located_text, located_text, numbered};
+ghost use Rattle.odb_engine.specs.Located.{AreLocated, HasPosition, LocatesBy, LocatesDocuments, LocatesTask, PrintsAll, StandsIn, numbered};
 
 mod pair;
 
-use crate::ending::{Ended, EngineFault, end};
+use crate::ending::{Ended, EngineFault, all_located_text, end, located_text};
 use crate::form::Form;
 use crate::halt::Halt;
 use crate::input::read_document;
@@ -31,37 +31,11 @@ use crate::tasks::task::Task;
 use odb_doc::{Place, Refusal};
 use odb_io::{Input, Output};
 use odb_spans::{ParseError, Position, position_by, position_in_pair_by, positions_by};
-use odb_text::{Located, all_located_json, located_json, located_line, located_lines};
+use odb_text::Located;
 pub use pair::Names;
 use pair::answer_second;
 use std::alloc::{AllocError, Global};
 use std::io::{Read, Write};
-
-/// Returns a fault with where it is, in the document of this name.
-fn located_text(alloc: Global, form: Form, name: &str, fault: Located) -> Result<String, AllocError>
-    ensures { IfOk result (λ text. string_bytes text ≡ located_text form name.now (printed_at fault)) }
-{
-    match form {
-        Form::Lines => located_line(alloc, name, fault),
-        Form::Json => located_json(alloc, fault),
-    }
-}
-
-/// Returns faults with where they are, in the document of this name.
-fn all_located_text(
-    alloc: Global,
-    form: Form,
-    name: &str,
-    faults: &[Located],
-) -> Result<String, AllocError>
-    ensures { IfOk result (λ text. string_bytes text
-        ≡ all_located_text form name.now (map printed_at faults.now)) }
-{
-    match form {
-        Form::Lines => located_lines(alloc, name, faults),
-        Form::Json => all_located_json(alloc, faults),
-    }
-}
 
 /// Returns where a fault is in a document, or in an array of two documents. `error` is where the parser stopped in it, if
 /// it is not JSON.
@@ -124,7 +98,11 @@ fn locate(
         form name.now (printed refusal) answer.ended answer.text.items) }
 {
     let position = position_at(alloc, document, error, number, is_pair, refusal.place)?;
-    let text = located_text(alloc, form, name, Located { refusal, position })?;
+    let fault = Located {
+        refusal,
+        position: Some(position),
+    };
+    let text = located_text(alloc, form, name, fault)?;
     Ok(Answer {
         ended: Ended::Refused,
         text: text.into_bytes(),
@@ -186,7 +164,7 @@ fn all_located(
     for at in 0..refusals.len() {
         faults.push(Located {
             refusal: refusals[at],
-            position: numbered(number, positions[at]),
+            position: Some(numbered(number, positions[at])),
         })?;
     }
     Ok(faults)

@@ -12,6 +12,7 @@ use Rattle.odb_sched.specs.run.State.{is_unstarted, is_running, has_succeeded}
 pub use Rattle.odb_sched.specs.run.State.{members_in}
 use Rattle.odb_sched.specs.run.Steps.{succeeded_in, satisfied_in, failed_in}
 use Rattle.odb_sched.specs.invariants.Dependents.{need_count}
+use Rattle.odb_sched.specs.invariants.Openings.{AreOpenings}
 
 -- how many needs of a request are not satisfied
 abbrev pub unmet_in : PlanGraph → List Phase → ℕ → ℕ
@@ -67,6 +68,7 @@ pub record AreCounts (plan : PlanGraph) (phases : List Phase) (t : Counts) : Typ
   pub pending : ArePending plan phases t.pending.items
   pub units : ArePropagated plan phases t.failed
   pub running : t.running ≡ map is_running phases
+  pub openings : AreOpenings plan phases t.unmet.items t.openings
 
 -- how many needs a request has
 abbrev pub needs_in : PlanGraph → ℕ → ℕ

@@ -17,7 +17,6 @@ use Rattle.odb_sched.specs.declared.scheduler.Scheduler.TheInside as scheduler
 use Rattle.odb_sched.specs.declared.done.Done.TheInside as done
 use Rattle.odb_sched.specs.invariants.Counts.{AreCounts}
 use Rattle.odb_sched.specs.invariants.Lanes.{AreLanes}
-use Rattle.odb_sched.specs.invariants.Openings.{AreOpenings}
 
 -- the state, without its requests, of a run of this plan under this policy, with these phases and awaited reports
 abbrev pub state_of : PlanGraph → Policy → Bool → List Phase → List ℕ → State
@@ -43,7 +42,6 @@ pub record IsReached (state : State) : Type 0 where
 -- the counts and the stop are those of the state
 pub record IsCounted (state : State) (counted : Progress) : Type 0 where
   pub counts : AreCounts state.plan_graph state.phases counted.counts
-  pub openings : AreOpenings state.plan_graph state.phases counted.openings
   pub stopped : counted.stopped ≡ is_stopped state
   pub lanes : AreLanes state.awaited counted.lanes
 

@@ -8,8 +8,11 @@ use Rattle.odb_sched.specs.declared.refusal.ReportRefusal.{ReportRefusal}
 use Rattle.odb_sched.specs.declared.refusal.ReportRefusal.TheVariants as report
 use Rattle.odb_sched.specs.declared.refusal.RunRefusal.{RunRefusal}
 use Rattle.odb_sched.specs.declared.refusal.RunRefusal.TheVariants as refusal
-use Rattle.odb_sched.specs.declared.event.ResolveFault.{ResolveFault}
-use Rattle.odb_sched.specs.declared.event.ResolveFault.TheVariants.{UnknownEvent, OutOfMemory}
+use Rattle.odb_doc.specs.RuleFaults.{fault_row}
+use Rattle.odb_doc.specs.declared.rule_fault.RuleFault.{RuleFault}
+use Rattle.odb_sched.specs.declared.event.ResolveRule.{ResolveRule}
+use Rattle.odb_doc.specs.declared.rule_fault.RuleFault.TheVariants.{OutOfMemory}
+use Rattle.odb_sched.specs.declared.event.ResolveRule.TheVariants.{UnknownEvent}
 
 -- the code and the name of a cause against a start
 abbrev pub start_row : StartRefusal → List ℕ × List ℕ
@@ -37,10 +40,15 @@ run_row (refusal.Start at cause) = Some (row_at (start_row cause) at)
 run_row (refusal.Report at cause) = Some (row_at (report_row cause) at)
 run_row refusal.OutOfMemory = None
 
+abbrev pub resolve_rule_row : ResolveRule → ℕ → Printed
+resolve_rule_row UnknownEvent at = fault_at 65 (codes "UnknownEvent") (places.Event at)
+
+abbrev pub ResolveFault : Type 0
+ResolveFault = RuleFault ResolveRule
+
 -- any fault but out of memory
 abbrev pub IsNumberedResolve : ResolveFault → Type 0
 IsNumberedResolve fault = fault ≢ OutOfMemory
 
 abbrev pub resolve_row : ResolveFault → Option Printed
-resolve_row (UnknownEvent at) = Some (fault_at 65 (codes "UnknownEvent") (places.Event at))
-resolve_row OutOfMemory = None
+resolve_row = fault_row resolve_rule_row

@@ -6,8 +6,9 @@ use Rattle.odb_doc.specs.recorded.Events as named
 use Rattle.odb_check.specs.Positions.{id_at, IsId}
 use Rattle.odb_sched.specs.declared.event.Event.{Event}
 use Rattle.odb_sched.specs.declared.event.Event.TheVariants as at
-use Rattle.odb_sched.specs.declared.event.ResolveFault.{ResolveFault}
-use Rattle.odb_sched.specs.declared.event.ResolveFault.TheVariants as faults
+use Rattle.odb_sched.specs.run.Refusals.{ResolveFault}
+use Rattle.odb_doc.specs.declared.rule_fault.RuleFault.TheVariants as faults
+use Rattle.odb_sched.specs.declared.event.ResolveRule.TheVariants.{UnknownEvent}
 
 -- the id that an event names
 abbrev pub named_id : EventValue → List ℕ
@@ -32,5 +33,5 @@ pub record IsFirstUnknown (rs : List Record) (events : List EventValue) (place :
 
 -- the fault is the first. Out of memory says nothing.
 abbrev pub RefusesNamed : ResolveFault → List Record → List EventValue → Type 0
-RefusesNamed (faults.UnknownEvent place) rs events = IsFirstUnknown rs events place
+RefusesNamed (faults.Broken place UnknownEvent) rs events = IsFirstUnknown rs events place
 RefusesNamed faults.OutOfMemory rs events = Unit {0}

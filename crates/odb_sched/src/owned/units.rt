@@ -43,13 +43,20 @@ impl OwnedRun {
     /// succeeded, the run is not stopped, and fewer requests are running than the width allows. Then
     /// [`OwnedRun::start_unit`] may start it as one.
     ///
-    /// All calls of a run together cost O(units).
+    /// All calls of a run together cost O(requests + dependencies). A run that is never asked counts no units.
     pub fn next_unit(&mut self) -> Option<u32>
         ensures same { self.new ≡ self.old }
         ensures next { result ≡ first_below self.old.plan_graph.unit_count (may_begin self.old) }
         ensures within { IfSome result (λ u. u < self.old.plan_graph.unit_count) }
     {
-        self.progress.next_unit(self.policy)
+        self.progress.ask(&self.graph);
+        if self.progress.is_closed(self.policy) {
+            return None;
+        }
+        self.progress
+            .counts
+            .openings
+            .first(&self.progress.counts.failed)
     }
 
     /// Returns the first cause why a unit may not be sent as one.
@@ -58,7 +65,7 @@ impl OwnedRun {
         ensures cause { IfSome result (IsUnitCause self.now u) }
         ensures none { result ≡ None → may_begin self.now u ≡ true }
     {
-        if self.progress.openings.begun[u as usize] {
+        if self.progress.counts.openings.begun[u as usize] {
             return Some(StartRefusal::AlreadyStarted);
         }
         if self.progress.stopped {

@@ -224,6 +224,63 @@ fn units_begin_and_requests_have_states(rt: HostRuntime) {
     }
 }
 
+fn takes_all(alloc: Global, run: &mut OwnedRun, events: &[(u32, u16)]) -> bool {
+    for (i, status) in events {
+        if !takes(alloc, run, *i, *status) {
+            return false;
+        }
+    }
+    true
+}
+
+/// Events of a run, and the unit that may begin after them, which is asked for only then.
+struct AskedLate {
+    events: &'static [(u32, u16)],
+    unit: Option<u32>,
+}
+
+impl OnPlan for AskedLate {
+    fn holds(&self, alloc: Global, plan: &Plan<'_>) -> bool {
+        let Ok(mut run) = OwnedRun::new(alloc, plan, policy(Continue, 0)) else {
+            return false;
+        };
+        takes_all(alloc, &mut run, self.events) && run.next_unit() == self.unit
+    }
+}
+
+const ASKED_LATE: &[AskedLate] = &[
+    AskedLate {
+        events: &[(1, START)],
+        unit: Some(0),
+    },
+    AskedLate {
+        events: &[(0, START), (0, 200)],
+        unit: Some(1),
+    },
+    AskedLate {
+        events: &[(0, START), (0, 200), (1, START), (1, 201)],
+        unit: None,
+    },
+    AskedLate {
+        events: &[
+            (0, START),
+            (0, 200),
+            (1, START),
+            (1, 201),
+            (2, START),
+            (2, 204),
+        ],
+        unit: Some(2),
+    },
+];
+
+#[test]
+fn a_unit_is_asked_for_late(rt: HostRuntime) {
+    for asked in ASKED_LATE {
+        assert!(rt; holds_of(rt.alloc(), PASSED_ON, asked));
+    }
+}
+
 /// Events of a run of a width, a unit, and the cause why it may not be sent as one after them.
 struct Refused {
     width: u32,
@@ -237,10 +294,8 @@ impl OnPlan for Refused {
         let Ok(mut run) = OwnedRun::new(alloc, plan, policy(Continue, self.width)) else {
             return false;
         };
-        for (i, status) in self.events {
-            if !takes(alloc, &mut run, *i, *status) {
-                return false;
-            }
+        if !takes_all(alloc, &mut run, self.events) {
+            return false;
         }
         if self.unit >= run.unit_count() {
             return false;

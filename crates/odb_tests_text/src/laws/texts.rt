@@ -10,6 +10,7 @@ ghost use Rattle.odb_doc.specs.Refusals.{printed};
 ghost use Rattle.odb_tests_text.specs.Texts.{AreOnePlan, IsPlanText};
 ghost use Rattle.odb_text.specs.Drawings.{arrow_line};
 ghost use Rattle.odb_text.specs.DrawnLines.{marked, nodes_of};
+ghost use Rattle.odb_text.specs.Lines.{unlocated};
 ghost use Rattle.odb_text.specs.Results.{fault_value, plan_value};
 ghost use Rattle.odb_text.specs.SamePlans.{IsSamePlan};
 ghost use Rattle.odb_text.specs.Labels.{IsOneString};
@@ -19,7 +20,7 @@ use odb_doc::text::push_quoted;
 use odb_doc::{Batch, Place, Refusal, parse};
 use odb_testing::PAIR;
 use odb_text::laws::{every_label, every_line, every_result, one_plan};
-use odb_text::{drawing_text, fault_json, plan_json};
+use odb_text::{Located, drawing_text, fault_json, plan_json};
 use serde_json::Value;
 use std::alloc::Global;
 
@@ -35,10 +36,14 @@ fn plan_read(alloc: Global, plan: &Plan<'_>) -> Option<Value>
 
 /// Returns what the line of a fault as JSON is read as.
 fn fault_read(alloc: Global, refusal: Refusal) -> Option<Value>
-    ensures { IfSome result (λ value. view value ≡ fault_value (printed refusal)) }
+    ensures { IfSome result (λ value. view value ≡ fault_value (unlocated (printed refusal))) }
 {
     every_result();
-    let text = fault_json(alloc, refusal).ok()?;
+    let fault = Located {
+        refusal,
+        position: None,
+    };
+    let text = fault_json(alloc, fault).ok()?;
     parse(alloc, text.as_bytes()).ok()
 }
 

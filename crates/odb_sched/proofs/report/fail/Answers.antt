@@ -1,8 +1,10 @@
 -- The request completes, its unit is put on the worklist, and the failure is propagated.
 use Rattle.std.proofs.Common.{ap, ◌∙◌, refl, sym, subst, false, set}
 use Rattle.odb_sched.specs.declared.counts.Counts.{Counts}
+use Rattle.odb_sched.specs.invariants.Openings.{AreOpenings}
 use Rattle.odb_sched.specs.invariants.Propagation.{ArePropagating}
-use Rattle.odb_sched.proofs.PhaseLemmas.{failed_idle}
+use Rattle.odb_sched.proofs.OpeningLemmas.{openings_reported}
+use Rattle.odb_sched.proofs.PhaseLemmas.{failed_begun, failed_idle}
 use Rattle.odb_sched.proofs.SameLemmas.{running_same}
 use Rattle.odb_sched.proofs.FailLemmas.{propagating_failed, counts_failed, put_unit}
 use Rattle.odb_sched.specs.declared.phase.Phase.TheVariants.{Running}
@@ -21,3 +23,5 @@ returns c =
     (ap (λ (t : Counts). t.pending.items) c.propagate.ensures.rest)
     (ap (λ (t : Counts). t.running) c.propagate.ensures.rest ∙ c.remove.ensures ∙ ap (λ b. set b c.args.i false) c.requires.counts.running ∙ running_same c.args.phases.now c.args.i Running false (failed_idle _ c.requires.failed))
     c.propagate.ensures.propagated c.propagate.ensures.ready
+    (subst (λ (t : Counts). AreOpenings c.args.graph.now.plan_graph c.args.phases.now t.unmet.items t.openings) (sym c.propagate.ensures.rest)
+    (openings_reported c.args.graph.now.plan_graph c.args.phases.now c.args.counts.now.unmet.items c.args.counts.now.openings c.args.i c.laws.ensures.order (failed_begun _ c.requires.failed) c.requires.counts.openings))

@@ -31,7 +31,8 @@ loop-u-preserved c =
       rest = others_kept c.args.counts.now c.mark_dependents.new.counts
           (ap (λ (t : Counts). t.unmet) c.mark_dependents.ensures.rest ∙ ap (λ (t : Counts). t.unmet) c.skip_members.ensures.rest ∙ ap (λ (t : Counts). t.unmet) c.loop-u.invariant.rest)
           (ap (λ (t : Counts). t.pending) c.mark_dependents.ensures.rest ∙ ap (λ (t : Counts). t.pending) c.skip_members.ensures.rest ∙ ap (λ (t : Counts). t.pending) c.loop-u.invariant.rest)
-          (ap (λ (t : Counts). t.running) c.mark_dependents.ensures.rest ∙ ap (λ (t : Counts). t.running) c.skip_members.ensures.rest ∙ ap (λ (t : Counts). t.running) c.loop-u.invariant.rest);
+          (ap (λ (t : Counts). t.running) c.mark_dependents.ensures.rest ∙ ap (λ (t : Counts). t.running) c.skip_members.ensures.rest ∙ ap (λ (t : Counts). t.running) c.loop-u.invariant.rest)
+          (ap (λ (t : Counts). t.openings) c.mark_dependents.ensures.rest ∙ ap (λ (t : Counts). t.openings) c.skip_members.ensures.rest ∙ ap (λ (t : Counts). t.openings) c.loop-u.invariant.rest);
     }
 
 pub returns-clause-propagated : goal.returns-clause-propagated

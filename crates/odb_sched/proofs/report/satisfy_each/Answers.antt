@@ -14,8 +14,9 @@ pub loop-i-preserved : goal.loop-i-preserved
 loop-i-preserved c =
     let within = c.requires.within c.loop-i.i-index 0 c.loop-i-test.true in
     record {
-      rest = c.satisfy.ensures.rest ∙ ap (λ (t : Counts). record t { unmet = c.satisfy.new.counts.unmet; ready = c.satisfy.new.counts.ready }) c.loop-i.invariant.rest;
+      rest = c.satisfy.ensures.rest ∙ ap (λ (t : Counts). record t { unmet = c.satisfy.new.counts.unmet; ready = c.satisfy.new.counts.ready; openings = c.satisfy.new.counts.openings }) c.loop-i.invariant.rest;
       ready = c.satisfy.ensures.ready;
+      openings = c.satisfy.ensures.openings;
       fallen = λ i inside. subst (λ unmet. get_or unmet i 0 + count_by (λ j. j == i) (take (c.loop-i.i-index + 1) c.args.list.now) ≡ get_or c.args.counts.now.unmet.items i 0) (sym c.satisfy.ensures.unmet)
           (fallen_more _ c.loop-i.i-index i c.loop-i.counts.unmet.items c.args.list.now c.loop-i-test.true
           (let room : length c.loop-i.counts.unmet.items ≡ length c.args.graph.now.plan_graph.units = c.loop-i.invariant.ready.entries.unmet in subst (λ n. get_or c.args.list.now c.loop-i.i-index 0 < n) (sym room) within)

@@ -4,7 +4,9 @@ use Rattle.odb_check.specs.PlanGraph.{unit_of}
 use Rattle.odb_sched.specs.declared.counts.Counts.{Counts}
 use Rattle.odb_sched.specs.invariants.Counts.{ArePending, ArePropagated, unmet_in, satisfied_by_unit, pending_in}
 use Rattle.odb_sched.specs.invariants.Dependents.{need_count}
-use Rattle.odb_sched.proofs.PhaseLemmas.{succeeded_idle, succeeded_not_failed}
+use Rattle.odb_sched.specs.invariants.Openings.{AreOpenings}
+use Rattle.odb_sched.proofs.OpeningLemmas.{openings_reported}
+use Rattle.odb_sched.proofs.PhaseLemmas.{succeeded_begun, succeeded_idle, succeeded_not_failed}
 use Rattle.odb_sched.proofs.SameLemmas.{as_before, propagated_same, running_same}
 use Rattle.odb_sched.proofs.ReadyLemmas.{as_long}
 use Rattle.odb_sched.proofs.UnmetLemmas.{unmet_falls, pending_own, request_row}
@@ -19,6 +21,10 @@ count_success-requires-clause-some c =
     let before : get_or c.args.counts.now.pending.items (unit_of c.args.graph.now.plan_graph c.args.i) 0 ≡ suc (pending_in c.args.graph.now.plan_graph c.args.phases.now (unit_of c.args.graph.now.plan_graph c.args.i)) =
     c.requires.counts.pending _ (c.laws.ensures.order.counted c.args.i c.requires.request) ∙ pending_own c.args.graph.now.plan_graph c.args.phases.now c.args.i c.requires.request (as_long _ _ _ _ _ c.requires.counts) c.requires.succeeded in
     rw (c.unit_of-unit.ensures.unit, before) (omega arith)
+
+pub satisfy_each-requires-clause-openings : goal.satisfy_each-requires-clause-openings
+satisfy_each-requires-clause-openings c = subst (λ (t : Counts). AreOpenings c.args.graph.now.plan_graph c.args.phases.now t.unmet.items t.openings) (sym c.count_success.ensures.rest)
+    (openings_reported c.args.graph.now.plan_graph c.args.phases.now c.args.counts.now.unmet.items c.args.counts.now.openings c.args.i c.laws.ensures.order (succeeded_begun _ c.requires.succeeded) c.requires.counts.openings)
 
 pub satisfy_each-requires-clause-enough : goal.satisfy_each-requires-clause-enough
 satisfy_each-requires-clause-enough c = λ i inside.
@@ -52,12 +58,13 @@ pub returns : goal.returns
 returns c =
     let own = c.unit_of-unit.ensures.unit in
     let pending_now = c.count_success.ensures.pending ∙ ap (λ u. set c.args.counts.now.pending.items u (get_or c.args.counts.now.pending.items u 0 - 1)) own in
-    let to_satisfied = c.satisfy_unit.ensures.rest ∙ ap (λ (t : Counts). record t { unmet = c.satisfy_unit.new.counts.unmet; ready = c.satisfy_unit.new.counts.ready }) c.satisfy_each.ensures.rest in
-    let to_left = to_satisfied ∙ ap (λ (t : Counts). record t { unmet = c.satisfy_unit.new.counts.unmet; ready = c.satisfy_unit.new.counts.ready }) c.count_success.ensures.rest in
+    let to_satisfied = c.satisfy_unit.ensures.rest ∙ ap (λ (t : Counts). record t { unmet = c.satisfy_unit.new.counts.unmet; ready = c.satisfy_unit.new.counts.ready; openings = c.satisfy_unit.new.counts.openings }) c.satisfy_each.ensures.rest in
+    let to_left = to_satisfied ∙ ap (λ (t : Counts). record t { unmet = c.satisfy_unit.new.counts.unmet; ready = c.satisfy_unit.new.counts.ready; openings = c.satisfy_unit.new.counts.openings }) c.count_success.ensures.rest in
     let pending_same = ap (λ (t : Counts). t.pending.items) to_satisfied in
     let units_same = ap (λ (t : Counts). t.failed) to_left in
     record {
       ready = c.satisfy_unit.ensures.ready;
+      openings = c.satisfy_unit.ensures.openings;
       unmet = unmet_satisfied c.args.graph.now.plan_graph c.args.phases.now c.args.i c.dependents_of.result.now c.args.counts.now.unmet.items c.satisfy_each.new.counts.unmet.items c.satisfy_unit.new.counts.unmet.items c.laws.ensures.order c.requires.request (as_long _ _ _ _ _ c.requires.counts) c.requires.succeeded
           (λ j inside. request_row c.args.graph.now.plan_graph c.args.i j c.args.graph.now.dependents c.dependents_of.result.now c.laws.ensures.dependents c.requires.request inside c.dependents_of.ensures.row)
           c.requires.counts.unmet

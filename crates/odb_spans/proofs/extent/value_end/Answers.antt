@@ -11,13 +11,14 @@ returns-in_default-clause-extent c = omega (arith, value-none c.args.text.now c.
 pub loop-end-init : goal.loop-end-init
 loop-end-init c =
     let begins = c.begun-state.ensures.begins in
+    let passed = c.passed-start.ensures in
     let here : c.args.at ≡ c.args.at + 1 - 1 = omega arith in
     record {
-      so_far = omega (arith, value-begins c.args.text.now c.args.at c.in-Some.first c.begun-state.result c.in-Some.ensures.0 c.in-Some.ensures.1 begins);
-      within = omega (arith, c.in-Some.ensures.0);
-      some = omega arith;
-      few = omega (arith, c.begun-state.ensures.depth);
-      after = subst (λ i. IsAfter (get_or c.args.text.now i 0) c.begun-state.result.mode) here (begins.after _ c.in-Some.ensures.1);
+      so_far = omega (arith, value-begins c.args.text.now c.args.at c.in-Some.first c.begun-state.result c.in-Some.ensures.0 c.in-Some.ensures.1 begins, passed.extent);
+      within = passed.within;
+      some = omega (arith, passed.after);
+      few = omega (arith, c.begun-state.ensures.depth, passed.after);
+      after = passed.last (subst (λ i. IsAfter (get_or c.args.text.now i 0) c.begun-state.result.mode) here (begins.after _ c.in-Some.ensures.1));
     }
 
 pub returns-in_default-after-clause-extent : goal.returns-in_default-after-clause-extent
@@ -37,13 +38,14 @@ returns-in_default-after-clause-boundary c utf8 =
 pub loop-end-preserved : goal.loop-end-preserved
 loop-end-preserved c =
     let passes = c.in-Some-after.ensures.passes in
+    let passed = c.passed-end.ensures in
     let here : c.loop-end.end ≡ c.loop-end.end + 1 - 1 = omega arith in
     record {
-      so_far = omega (arith, c.loop-end.invariant.so_far, extent-passes c.args.text.now c.loop-end.end c.of.result c.loop-end.state c.in-Some-after.next c.loop-end-test.true c.of.ensures passes);
-      within = omega (arith, c.loop-end-test.true);
-      some = omega (arith, c.loop-end.invariant.some);
-      few = omega (arith, c.in-Some-after.ensures.depth, c.loop-end.invariant.few);
-      after = subst (λ i. IsAfter (get_or c.args.text.now i 0) c.in-Some-after.next.mode) here (passes.after _ c.of.ensures);
+      so_far = omega (arith, c.loop-end.invariant.so_far, extent-passes c.args.text.now c.loop-end.end c.of.result c.loop-end.state c.in-Some-after.next c.loop-end-test.true c.of.ensures passes, passed.extent);
+      within = passed.within;
+      some = omega (arith, c.loop-end.invariant.some, passed.after);
+      few = omega (arith, c.in-Some-after.ensures.depth, c.loop-end.invariant.few, passed.after);
+      after = passed.last (subst (λ i. IsAfter (get_or c.args.text.now i 0) c.in-Some-after.next.mode) here (passes.after _ c.of.ensures));
     }
 
 pub returns-clause-extent : goal.returns-clause-extent

@@ -1,4 +1,5 @@
-use Rattle.std.proofs.Common.{◌≡◌, ℕ, List, ◌++◌, get_or, Option, Some, None, refl, sym, subst, arith}
+use Rattle.std.proofs.Common.{◌≡◌, ℕ, List, ◌++◌, get_or, Option, Some, None, refl, sym, subst}
+use Rattle.std.proofs.lemmas.Bool.{true≢false}
 use Rattle.json.specs.Token.{Token}
 use Rattle.json.specs.Json as json
 use Rattle.json.specs.Find.{get_member}
@@ -7,7 +8,7 @@ use Rattle.std.specs.Prelude.{MatchOption}
 use Rattle.odb_spans.specs.Parts.{HasMemberText, HasValue, IsSomeMemberOf, IsValueSpan, LiesAt, LiesAtSome, LiesInElementSome}
 use Rattle.odb_spans.specs.declared.span.Span.{Span}
 use Rattle.odb_spans.proofs.BracketLemmas.{object-at, object-byte}
-use Rattle.odb_spans.proofs.PartLemmas.{value-part}
+use Rattle.odb_spans.proofs.PartLemmas.{value-within}
 use Rattle.odb_spans.proofs.given.given_at.Goals as goal
 
 no-object : (name text : List ℕ) (at : ℕ) (j : json.Json) (ts : List Token) → HasValue text at j ts → (get_or text at 0 ≡ 123 → ⊥) → HasMemberText name text j None
@@ -40,35 +41,25 @@ lies-in-element name text (Some span) (Some s) (Some value) ms j ts object same 
       };
     }
 
-pub returns-then-document-at-ne123 : goal.returns-then-document-at-ne123
-returns-then-document-at-ne123 c =
+pub returns-then-not-has_byte-clause-gives : goal.returns-then-not-has_byte-clause-gives
+returns-then-not-has_byte-clause-gives c =
     let text = c.args.document.now in
-    let end = c.value_end in
     record {
-      order = end.ensures.some c.requires;
-      within = end.ensures.within;
       bounds = tt;
-      gives = λ j ts v. (
-        no-object c.args.name.now text c.args.at j ts v c.if-document-at-ne123.true,
-        (value-part text c.args.at end.result j ts v end.ensures.extent end.ensures.within (end.ensures.boundary v.utf8)).ended,
-        tt,
-      );
+      gives = λ j ts v. (let within = value-within text c.args.at j ts v in (no-object c.args.name.now text c.args.at j ts v (λ here. true≢false (sym (c.if-not-has_byte.ensures.1 (within, here)))), tt));
     }
 
-pub returns : goal.returns
-returns c =
+pub returns-clause-gives : goal.returns-clause-gives
+returns-clause-gives c =
     let text = c.args.document.now in
     let name = c.args.name.now in
     let found = c.in_ok-value.ensures in
     record {
-      order = omega (arith, found.order);
-      within = found.within;
       bounds = c.given.ensures.bounds _ found.bounds;
       gives = λ j ts v.
-          (let object = object-at text c.args.at j ts v c.if-document-at-ne123.false in
+          (let object = object-at text c.args.at j ts v (c.if-not-has_byte.ensures.0 refl).1 in
           let value = found.finds object.inner ts object.has in (
             subst (λ i. HasMemberText name text i c.given.result) (sym object.is) (c.given.ensures.given (get_member name object.inner) value.0),
-            value.1,
-            lies-in-element name text c.given.result c.in_ok-value.value (get_member name object.inner) object.inner j ts object.is c.given.ensures.same value.0 value.2,
+            lies-in-element name text c.given.result c.in_ok-value.value (get_member name object.inner) object.inner j ts object.is c.given.ensures.same value.0 value.1,
           ));
     }

@@ -32,7 +32,7 @@ returns-in-Some-clause-found c =
           let last = c.in_ok-value.ensures.finds object.inner [] object.has in
           let span = slice_get found.items position in
           subst (λ i. IsValueSpan text span (slice_get (items_in (get name i)) position) × LiesInMemberSome text span name position i) (sym object.is)
-          (member-item name text position c.in-Some.value c.in_ok-value.field-0.0 span object.inner (get_member name object.inner) c.in-Some.is last.0 last.2 (all position)));
+          (member-item name text position c.in-Some.value c.in_ok-value.field-0 span object.inner (get_member name object.inner) c.in-Some.is last.0 last.1 (all position)));
     })
     c.items_at.ensures.found
 
@@ -46,7 +46,7 @@ returns-in-None-clause-found c position =
       finds = λ j v.
           (let object = object-at text start j [] v (c.if-not-has_byte.ensures.0 refl).1 in
           let last = c.in_ok-value.ensures.finds object.inner [] object.has in (
-            ap (λ i. slice_get (items_in (get name i)) position) object.is ∙ no-member-item text position c.in_ok-value.field-0.0 (get_member name object.inner) c.in-None.is last.0,
+            ap (λ i. slice_get (items_in (get name i)) position) object.is ∙ no-member-item text position c.in_ok-value.field-0 (get_member name object.inner) c.in-None.is last.0,
             tt,
           ));
     }

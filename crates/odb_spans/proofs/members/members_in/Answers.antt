@@ -1,62 +1,29 @@
-use Rattle.std.proofs.Common.{◌≡◌, [], ◌+◌, get_or, sym, subst, arith}
-use Rattle.std.specs.List.{AllZip}
-use Rattle.json.specs.Find.{get, get_member}
-use Rattle.serde_json.specs.Data.{Data}
-use Rattle.odb_doc.specs.Documents.{IsJson}
-use Rattle.odb_doc.specs.Members.{elements_at}
-use Rattle.odb_spans.specs.Spans.{EachSpan, HasMemberAt, IsPlaceOfMember}
-use Rattle.odb_spans.specs.Parts.{FindsMembers, HaveMembersIn}
-use Rattle.odb_spans.proofs.BracketLemmas.{no-object, object-at}
-use Rattle.odb_spans.proofs.DataLemmas.{members-data}
-use Rattle.odb_spans.proofs.PartLemmas.{if-ok, value-within}
-use Rattle.odb_spans.proofs.ReadLemmas.{tree-of}
-use Rattle.odb_spans.proofs.WholeLemmas.{whole}
-use Rattle.odb_spans.proofs.WithoutLemmas.{are-places}
-use Rattle.odb_spans.proofs.members.members_in.Goals.{then-first-document-via-then-first-document, then-first-document-via-else-first-document+then-document-first-ne123}
+use Rattle.std.proofs.Common.{[], ◌∙◌, sym, subst}
+use Rattle.std.proofs.lemmas.List.{take_all}
+use Rattle.odb_spans.specs.Parts.{GiveMembers}
+use Rattle.odb_spans.proofs.GivenLemmas.{given-within, members-found, next-given, places-found}
 use Rattle.odb_spans.proofs.members.members_in.Goals as goal
 
-pub returns-then-first-document-clause-members : goal.returns-then-first-document-clause-members
-returns-then-first-document-clause-members c d is =
-    let list = c.args.list.now in
-    let name = c.args.name.now in
-    let text = c.args.document.now in
-    let first = c.value_start-first in
-    let top = tree-of text d is.1 in
-    let v = whole text first.result d top is.0 first.ensures in
-    let other : get_or text first.result 0 ≡ 123 → ⊥ = elim c.then-first-document.branch as (λ _. get_or text first.result 0 ≡ 123 → ⊥) [
-      | then-first-document-via-then-first-document w ↦ λ here. let within = value-within text first.result top.tree [] v in omega (arith, within, w.if-first-document.true)
-      | then-first-document-via-else-first-document+then-document-first-ne123 w ↦ w.if-document-first-ne123.true
-    ] in
-    subst (AllZip (HasMemberAt name text) (elements_at list d)) (sym c.new.ensures.items) (members-data list name text top.tree d [] top.shallow top.reads (subst (HaveMembersIn name text []) (sym (no-object list text first.result top.tree [] v other)) tt))
+pub loop-element-init : goal.loop-element-init
+loop-element-init c = subst (GiveMembers c.args.name.now c.args.document.now []) (sym c.in_ok-members.ensures.items) tt
+
+pub loop-element-preserved : goal.loop-element-preserved
+loop-element-preserved c =
+    next-given c.args.name.now c.args.document.now c.deref-element-items.result.now c.loop-element.element-index _ c.loop-element.members.items _ _ c.loop-element-test.true c.loop-element.invariant c.in_ok-given_at.ensures.gives c.in_ok-push.ensures.items
+
+-- the members of all elements were found
+all-given : (c : goal.After-drop-elements-2) → GiveMembers c.args.name.now c.args.document.now c.in_ok-elements.elements.items c.loop-element.members.items
+all-given c =
+    let elements = c.deref-element-items in
+    subst (λ l. GiveMembers c.args.name.now c.args.document.now l c.loop-element.members.items) (take_all c.loop-element.element-index elements.result.now c.loop-element-test.false ∙ elements.ensures.value) c.loop-element.invariant
 
 pub returns-clause-members : goal.returns-clause-members
-returns-clause-members c =
-    let list = c.args.list.now in
-    let name = c.args.name.now in
-    let text = c.args.document.now in
-    let first = c.value_start-first in
-    if-ok (λ found. FindsMembers list name text (first.result + 1) found.items) (λ found. (d : Data) → IsJson text d → AllZip (HasMemberAt name text) (elements_at list d) found.items) c.members_within.result
-    (λ found finds d is.
-    (let top = tree-of text d is.1 in
-    let v = whole text first.result d top is.0 first.ensures in
-    let object = object-at text first.result top.tree [] v c.if-document-first-ne123.false in
-    members-data list name text top.tree d found.items top.shallow top.reads (subst (λ j. HaveMembersIn name text found.items (get list j)) (sym object.is) (finds.finds object.inner [] object.has).0)))
-    c.members_within.ensures
-
-pub returns-then-first-document-clause-places : goal.returns-then-first-document-clause-places
-returns-then-first-document-clause-places c d is = subst (EachSpan (IsPlaceOfMember c.args.list.now c.args.name.now c.args.document.now d) 0) (sym c.new.ensures.items) tt
+returns-clause-members c d is =
+    members-found c.args.list.now c.args.name.now c.args.document.now c.value_start.result c.in_ok-elements.elements.items c.loop-element.members.items c.value_start.ensures c.in_ok-elements.ensures.found (all-given c) d is
 
 pub returns-clause-places : goal.returns-clause-places
-returns-clause-places c =
-    let list = c.args.list.now in
-    let name = c.args.name.now in
-    let text = c.args.document.now in
-    let first = c.value_start-first in
-    if-ok (λ found. FindsMembers list name text (first.result + 1) found.items) (λ found. (d : Data) → IsJson text d → EachSpan (IsPlaceOfMember list name text d) 0 found.items) c.members_within.result
-    (λ found finds d is.
-    (let top = tree-of text d is.1 in
-    let v = whole text first.result d top is.0 first.ensures in
-    let object = object-at text first.result top.tree [] v c.if-document-first-ne123.false in
-    let all = finds.finds object.inner [] object.has in
-    are-places list name text d found.items top object.inner (get_member list object.inner) is.0 object.is all.0 all.1))
-    c.members_within.ensures
+returns-clause-places c d is =
+    places-found c.args.list.now c.args.name.now c.args.document.now c.value_start.result c.in_ok-elements.elements.items c.loop-element.members.items c.value_start.ensures c.in_ok-elements.ensures.found (all-given c) d is
+
+pub returns-clause-bounds : goal.returns-clause-bounds
+returns-clause-bounds c = given-within c.args.name.now c.args.document.now c.in_ok-elements.elements.items c.loop-element.members.items (all-given c)

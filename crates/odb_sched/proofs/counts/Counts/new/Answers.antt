@@ -15,3 +15,4 @@ returns c = first_counts c.args.graph.now.plan_graph _ c.laws.ensures.order c.in
     (c.in_ok-without_any.ensures.each ∙ c.len.ensures.size)
     (λ i inside. subst (λ ns. get_or c.in_ok-without_any.field-0 i false ≡ (get_or ns i 0 == 0)) c.deref.ensures.value (c.in_ok-without_any.ensures.exact i (rw c.len.ensures.size inside)))
     (c.in_ok-new-2.ensures ∙ ap (λ n. replicate n false) c.len-2.ensures.size)
+    (c.in_ok-new-3.ensures _)

@@ -10,7 +10,6 @@ returns-clause-phases c = c.in_ok-all_unstarted.ensures ∙ ap (λ n. replicate 
 pub returns-clause-counts : goal.returns-clause-counts
 returns-clause-counts c = λ policy. record {
   counts = c.in_ok-new.ensures;
-  openings = c.in_ok-new-2.ensures;
-  lanes = subst (λ n. AreLanes (replicate n 0) c.in_ok-new-3.field-0) c.unit_count.ensures c.in_ok-new-3.ensures;
+  lanes = subst (λ n. AreLanes (replicate n 0) c.in_ok-new-2.field-0) c.unit_count.ensures c.in_ok-new-2.ensures;
   stopped = sym (stopped_first policy.mode (length c.args.graph.now.plan_graph.units));
 }

@@ -5,9 +5,7 @@ use Rattle.odb_sched.specs.declared.counts.Progress.{Progress}
 use Rattle.odb_sched.specs.declared.counts.Counts.{Counts}
 use Rattle.odb_sched.specs.declared.phase.Phase.TheVariants.{Unstarted, Running, Reported}
 use Rattle.odb_sched.specs.run.State.{has_erred}
-use Rattle.odb_sched.specs.declared.openings.Openings.{Openings}
 use Rattle.odb_sched.specs.invariants.Counts.{AreCounts}
-use Rattle.odb_sched.specs.invariants.Openings.{AreOpenings}
 use Rattle.odb_sched.specs.run.Steps.{stops, stopped_in}
 use Rattle.odb_sched.proofs.KeptLemmas.{written_back}
 use Rattle.odb_sched.proofs.PhaseLemmas.{Running-from}
@@ -21,13 +19,6 @@ take_report-requires-clause-counts c =
     (sym (written_back c.args.self.now.phases.items c.deref.result.now c.args.i Running (Reported c.args.outcome) (c.deref.ensures.value ∙ c.put.ensures.phases) (Running-from _ c.requires.running)))
     c.requires.counts.counts)
 
-pub take_report-requires-2-clause-openings : goal.take_report-requires-2-clause-openings
-take_report-requires-2-clause-openings c =
-    subst (λ (t : Openings). AreOpenings c.args.graph.now.plan_graph (set c.deref-2.result.now c.args.i Running) t) (sym (ap (λ (t : Progress). t.openings) c.put.ensures.rest))
-    (subst (λ phases. AreOpenings c.args.graph.now.plan_graph phases c.args.self.now.openings)
-    (sym (written_back c.args.self.now.phases.items c.deref-2.result.now c.args.i Running (Reported c.args.outcome) (c.deref-2.ensures.value ∙ c.put.ensures.phases) (Running-from _ c.requires.running)))
-    c.requires.counts.openings)
-
 pub returns-clause-counts : goal.returns-clause-counts
 returns-clause-counts c =
     let written = c.put.new.self.phases.items in
@@ -35,11 +26,10 @@ returns-clause-counts c =
     let back = written_back c.args.self.now.phases.items c.put.new.self.phases.items c.args.i Running (Reported c.args.outcome) c.put.ensures.phases (Running-from _ c.requires.running) in
     record {
       counts = subst (λ phases. AreCounts c.args.graph.now.plan_graph phases c.take_report.new.counts) c.deref.ensures.value c.take_report.ensures;
-      openings = subst (λ phases. AreOpenings c.args.graph.now.plan_graph phases c.take_report-2.new.self) c.deref-2.ensures.value c.take_report-2.ensures;
       stopped = c.is_stopped-self.ensures
           ∙ ap (λ b. b || (stops c.args.policy.mode && has_erred c.index.result.now)) (ap (λ (t : Progress). t.stopped) c.put.ensures.rest ∙ c.requires.counts.stopped ∙ ap (λ phases. c.args.self.now.closed || stopped_in c.args.policy.mode phases) (sym back))
           ∙ ap (λ phase. (c.args.self.now.closed || stopped_in c.args.policy.mode (set c.put.new.self.phases.items c.args.i Running)) || (stops c.args.policy.mode && has_erred phase)) (get_or_read c.put.new.self.phases.items c.args.i c.index.result.now within c.index.ensures Unstarted)
           ∙ stopped_still c.args.self.now.closed c.args.policy.mode c.put.new.self.phases.items c.args.i within
           ∙ ap (λ b. b || stopped_in c.args.policy.mode c.put.new.self.phases.items) (sym (ap (λ (t : Progress). t.closed) c.put.ensures.rest));
-      lanes = c.take_report-3.ensures.lanes;
+      lanes = c.take_report-2.ensures.lanes;
     }

@@ -34,7 +34,6 @@ invariant_of-self c =
           (subst (λ phases. IsReached (state_of plan s.policy s.progress.closed phases s.progress.lanes.awaited.items)) (sym c.begin.ensures.phases) (reached_started (kept_state s) c.args.i c.self.invariant.reached within may)));
       counts = record {
         counts = c.begin.ensures.counts;
-        openings = c.begin.ensures.openings;
         stopped = ap (λ (t : Progress). t.stopped) c.begin.ensures.rest ∙ c.self.invariant.counts.stopped
             ∙ ap (λ b. s.progress.closed || b) (sym (c.begin.ensures.stopped s.policy.mode)) ∙ ap (λ b. b || stopped_in s.policy.mode new.phases.items) (sym going);
         lanes = subst (λ (t : Lanes). AreLanes t.awaited.items t) (sym (ap (λ (t : Progress). t.lanes) c.begin.ensures.rest)) c.self.invariant.counts.lanes;

@@ -44,7 +44,6 @@ invariant_of-self c =
           (reached_unit (kept_state s) u c.self.invariant.reached may known c.begin_unit.ensures.some apart (ap (count_by is_running) (sym c.begin_unit.ensures.phases) ∙ c.begin_unit.ensures.running))));
       counts = record {
         counts = c.begin_unit.ensures.counts;
-        openings = c.begin_unit.ensures.openings;
         stopped = ap (λ (t : Progress). t.stopped) c.begin_unit.ensures.rest ∙ c.self.invariant.counts.stopped
             ∙ ap (λ b. s.progress.closed || b) (sym (c.begin_unit.ensures.stopped s.policy.mode)) ∙ ap (λ b. b || stopped_in s.policy.mode new.phases.items) (sym going);
         lanes = c.begin_unit.ensures.lanes;

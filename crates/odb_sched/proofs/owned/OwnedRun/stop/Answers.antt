@@ -7,5 +7,5 @@ use Rattle.odb_sched.proofs.owned.OwnedRun.stop.Goals as goal
 pub invariant_of-self : goal.invariant_of-self
 invariant_of-self c = rw c.stop.ensures (record {
   reached = reached_closed (kept_state c.self.inside) true c.self.invariant.reached;
-  counts = record { counts = c.self.invariant.counts.counts; openings = c.self.invariant.counts.openings; stopped = refl; lanes = c.self.invariant.counts.lanes };
+  counts = record { counts = c.self.invariant.counts.counts; stopped = refl; lanes = c.self.invariant.counts.lanes };
 })

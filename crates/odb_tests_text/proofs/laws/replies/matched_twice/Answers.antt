@@ -2,9 +2,8 @@ use Rattle.std.proofs.Common.{◌≡◌, ◌∙◌, ℕ, List, ap, IsSome}
 use Rattle.odb_check.specs.Plans.{plan_records}
 use Rattle.odb_reply.specs.Fits.{Fits, IsTableOf, places, statuses}
 use Rattle.odb_reply.specs.LeastMatchFault.{RefusesMatch}
-use Rattle.odb_reply.specs.MatchFaults.{match_row}
+use Rattle.odb_reply.specs.MatchFaults.{match_row, MatchFault}
 use Rattle.odb_reply.specs.ResponseDocuments.{entries}
-use Rattle.odb_reply.specs.declared.match_fault.MatchFault.{MatchFault}
 use Rattle.odb_reply.specs.declared.table.Table.{Table}
 use Rattle.odb_testing.proofs.ReadingLemmas.{one_reading, with_good}
 use Rattle.odb_tests_text.proofs.laws.replies.matched_twice.Goals as goal
