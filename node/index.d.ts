@@ -282,6 +282,14 @@ export interface RequestState {
   status: number | null
 }
 
+/** A part of the batch of a live run: requests that may be sent together. */
+export interface Part {
+  /** A batch of these requests, in which what others have been answered stands for references to them. */
+  document: Bytes
+  /** The ids of its requests, in the order of the batch. */
+  ids: string[]
+}
+
 /** The step of a live run that comes next: a request starts, or one that runs is reported. */
 export interface NextStep {
   step: 'start' | 'report'
@@ -373,6 +381,17 @@ export class Run {
    * first of the causes S1 to S5 that applies to the unit, and nothing has started; and for an unknown id as `start`.
    */
   startUnit(id: string): void
+
+  /**
+   * Returns the next part of the batch, or null if nothing may be sent now: at most `limit` requests (10,000) that may be sent
+   * together as a batch of their own. None of them was in a part before, and what they depend on is in this part or has
+   * succeeded. A group is whole. Dependencies on what has succeeded are left out, and `$a` in a URL is replaced by the Location
+   * that was reported for `a`. Once a part is answered, start its units by `startUnit`, in the order of the batch, and report their
+   * requests. Throws a {@link Fault} if the batch is refused, or F90 for a request that refers to one for which
+   * no Location was reported that its URL may have; and a `RangeError` if a group has more requests than the limit, or if it is
+   * another batch than that of the run.
+   */
+  part(batch: Document, limit?: number): Part | null
 
   /**
    * Reports what a running request was answered. A request without any answer, as over a connection that

@@ -6,7 +6,7 @@
  * `command` is the place of a command in `COMMANDS` of commands.js, `batch` and `second` are Uint8Arrays, and the other
  * arguments numbers; what a command does not take is ignored. commands.js makes the calls of it.
  *
- *   explain(code) -> [status, text]
+ *   explain(code), constants() -> [status, text]
  *
  * `code` is a Uint8Array.
  *
@@ -159,6 +159,19 @@ static napi_value explain(napi_env env, napi_callback_info info)
     return written(env, make_explanation, &code, EXPLANATION);
 }
 
+/* Writes the constants: a writer. */
+static uint32_t make_constants(void *given, struct bytes text, size_t *length)
+{
+    (void)given;
+    return odb_constants(text.at, text.size, length);
+}
+
+static napi_value constants(napi_env env, napi_callback_info info)
+{
+    (void)info;
+    return written(env, make_constants, NULL, EXPLANATION);
+}
+
 static napi_value where(napi_env env, napi_callback_info info)
 {
     struct bytes document, place;
@@ -186,10 +199,16 @@ static void end_instance(napi_env env, void *instance, void *hint)
     release_instance(instance);
 }
 
-/* Makes the instance, with a seed that nobody can see, and exports `call`, `explain`, `where`, `version`, and the calls of the other files. */
+/* Makes the instance, with a seed that nobody can see, and exports the calls of this and the other files, and `version`. */
 NAPI_MODULE_INIT()
 {
-    napi_value function, version;
+    const napi_property_descriptor calls[] = {
+        {"call", NULL, call, NULL, NULL, NULL, napi_default_jsproperty, NULL},
+        {"explain", NULL, explain, NULL, NULL, NULL, napi_default_jsproperty, NULL},
+        {"constants", NULL, constants, NULL, NULL, NULL, napi_default_jsproperty, NULL},
+        {"where", NULL, where, NULL, NULL, NULL, napi_default_jsproperty, NULL},
+    };
+    napi_value version;
     struct instance *instance = calloc(1, sizeof *instance);
     if (instance == NULL || napi_set_instance_data(env, instance, end_instance, NULL) != napi_ok) {
         free(instance);
@@ -198,12 +217,7 @@ NAPI_MODULE_INIT()
     }
     instance->users = 1;
     instance->seed = odb_seed();
-    if (napi_create_function(env, "call", NAPI_AUTO_LENGTH, call, NULL, &function) == napi_ok
-        && napi_set_named_property(env, exports, "call", function) == napi_ok
-        && napi_create_function(env, "explain", NAPI_AUTO_LENGTH, explain, NULL, &function) == napi_ok
-        && napi_set_named_property(env, exports, "explain", function) == napi_ok
-        && napi_create_function(env, "where", NAPI_AUTO_LENGTH, where, NULL, &function) == napi_ok
-        && napi_set_named_property(env, exports, "where", function) == napi_ok
+    if (napi_define_properties(env, exports, sizeof calls / sizeof *calls, calls) == napi_ok
         && napi_create_uint32(env, odb_version(), &version) == napi_ok
         && napi_set_named_property(env, exports, "version", version) == napi_ok
         && export_lists(env, exports) == napi_ok

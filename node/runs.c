@@ -9,6 +9,7 @@
  *   next(run, order, numbers) -> status, with the step and its position in `numbers`
  *   start(run, position), startUnit(run, position), report(run, position, status, headers, body), finished(run)
  *     -> status
+ *   part(run, batch, limit, positions) -> [status, text, count]
  *   stop(run)
  *   ids(run, size), response(run, size) -> [status, text]
  *   close(run)
@@ -363,6 +364,41 @@ static napi_value response(napi_env env, napi_callback_info info)
     return text_of(env, info, respond);
 }
 
+/* What a part is asked of, and where its positions go. */
+struct parting {
+    struct live *live;
+    struct bytes batch;
+    uint32_t limit, *positions;
+    uint64_t seed;
+    size_t size, count;
+};
+
+/* Gives the next part: a writer. */
+static uint32_t give_part(void *given, struct bytes text, size_t *length)
+{
+    struct parting *it = given;
+    return odb_run_part(&it->live->run, it->batch.at, it->batch.size, it->limit, text.at, text.size, length, it->positions, it->size,
+                        &it->count, it->seed);
+}
+
+static napi_value part(napi_env env, napi_callback_info info)
+{
+    struct parting given = {0};
+    napi_typedarray_type type;
+    napi_value it[4], found, count;
+    void *positions = NULL;
+    if (!read_arguments(env, info, it, 4) || !read_live(env, it[0], &given.live) || !read_bytes(env, it[1], &given.batch)
+        || !read_number(env, it[2], &given.limit)
+        || napi_get_typedarray_info(env, it[3], &type, &given.size, &positions, NULL, NULL) != napi_ok
+        || type != napi_uint32_array || given.size == 0)
+        return wrong_arguments(env);
+    given.positions = positions;
+    given.seed = instance_of(env)->seed;
+    found = written(env, give_part, &given, given.batch.size + LINE);
+    count = number_of(env, (uint32_t)given.count);
+    return found != NULL && count != NULL && napi_set_element(env, found, 2, count) == napi_ok ? found : NULL;
+}
+
 static napi_value close_run(napi_env env, napi_callback_info info)
 {
     struct live *live;
@@ -384,7 +420,7 @@ napi_status export_runs(napi_env env, napi_value exports)
         {"undone", undone},     {"ids", ids},           {"response", response},
         {"nextUnit", next_unit}, {"state", state},      {"stop", stop},
         {"startUnit", start_unit}, {"next", next},      {"close", close_run},
-        {"openListed", open_listed},
+        {"openListed", open_listed}, {"part", part},
     };
     for (size_t i = 0; i < sizeof calls / sizeof *calls; i++) {
         napi_property_descriptor it = {calls[i].name, NULL, calls[i].call, NULL, NULL, NULL, napi_enumerable, NULL};

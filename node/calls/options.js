@@ -3,12 +3,10 @@
 // The options of calls: their names, their values, and the numbers by which the library takes them.
 
 const { kindName } = require('../documents/bytes.js')
+const { CONSTANTS } = require('../library/constants.js')
 
-const MODES = ['continue', 'stop']
-const ORDERS = ['first', 'last', 'wide']
-const FORMS = ['lines', 'json']
-const MAX_WIDTH = 10000
-const MAX_REQUESTS = 10000 // of a batch
+const { forms: FORMS, modes: MODES, orders: ORDERS } = CONSTANTS
+const { requests: MAX_REQUESTS, width: MAX_WIDTH } = CONSTANTS.limits
 
 /** The number of a named value. */
 function valueNumber(values, option, value) {

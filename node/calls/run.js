@@ -3,10 +3,11 @@
 // Live runs. index.d.ts says what each call takes and returns.
 
 const { documentBytes, eventBytes, reportBytes } = require('../documents/bytes.js')
-const { DONE, Fault, REFUSED, callError, errorWithCode, refusedError } = require('../errors/faults.js')
+const { DONE, Fault, REFUSED, WRONG_OPTION, callError, errorWithCode, refusedError } = require('../errors/faults.js')
+const { CONSTANTS } = require('../library/constants.js')
 const library = require('../library/index.js')
 const { run } = require('./commands.js')
-const { optionNumbers, orderNumber, requireOptions } = require('./options.js')
+const { MAX_REQUESTS, optionNumbers, orderNumber, requireOptions } = require('./options.js')
 const { readRequests, requests, toBuffer } = require('./requests.js')
 
 const OPTIONS = ['mode', 'width', 'events']
@@ -32,11 +33,8 @@ function findFault(headers, body) {
   return new Fault('F02', 'NotJson', 'report')
 }
 
-/** @type {import('../index').RequestState['state'][]} The states of a request, by their numbers. */
-const STATES = ['waiting', 'ready', 'running', 'reported', 'skipped', 'undone']
-
-/** @type {import('../index').NextStep['step'][]} The steps of a run, by their numbers; no step is 0. */
-const STEPS = ['start', 'report']
+/** @type {{ states: import('../index').RequestState['state'][], steps: import('../index').NextStep['step'][] }} */
+const { states: STATES, steps: STEPS } = CONSTANTS // by their numbers
 
 /**
  * Opens a run of which all requests are sent: the run, and what is to be sent. The batch is read once.
@@ -155,7 +153,7 @@ class Run {
     const status = library.next(this.#open, orderNumber(order), numbers)
     if (status !== DONE) throw callError('next', status, '')
     const [step, position] = numbers
-    return step > 0 ? { step: STEPS[step - 1], id: this.#ids[position] } : null
+    return step > 0 ? { step: STEPS[step], id: this.#ids[position] } : null
   }
 
   request(id) {
@@ -180,6 +178,20 @@ class Run {
 
   startUnit(id) {
     requireTaken('startUnit', library.startUnit(this.#open, this.#position(id)), id)
+  }
+
+  part(batch, limit = MAX_REQUESTS) {
+    const run = this.#open
+    if (!Number.isInteger(limit) || limit < 1 || limit > MAX_REQUESTS) {
+      throw new RangeError(`limit must be a whole number from 1 to ${MAX_REQUESTS}, not ${String(limit)}`)
+    }
+    const given = documentBytes(batch)
+    const [status, text, count] = library.part(run, given, limit, this.#listed)
+    if (status === WRONG_OPTION) {
+      throw new RangeError('it is another batch than that of the run, or a group has more requests than the limit')
+    }
+    if (status !== DONE) throw callError('part', status, text, given)
+    return count > 0 ? { document: text, ids: this.#idsAt(this.#listed.subarray(0, count)) } : null
   }
 
   report(id, status, headers, body) {

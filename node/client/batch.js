@@ -12,6 +12,7 @@ const { isJson, mediaType, toJson } = require('../http/bodies.js')
 const { foldHeaders, readAnswer } = require('../http/messages.js')
 const { OF_ETAGS } = require('../http/references.js')
 const { firstSegment } = require('../http/urls.js')
+const { CONSTANTS } = require('../library/constants.js')
 const { Parts } = require('./parts.js')
 const { restDocument } = require('./rest.js')
 const { Results } = require('./results.js')
@@ -20,7 +21,7 @@ const OF_REQUEST = ['after', 'headers', 'id']
 const OF_GROUP = ['id']
 const OF_SEND = ['limit', 'mode']
 // Ids to which no URL refers, since $ and such a name mean something else (OData URL Conventions 4.01).
-const RESERVED = new Set(['all', 'batch', 'crossjoin', 'entity', 'id', 'metadata', 'root'])
+const RESERVED = new Set(CONSTANTS.reserved_ids)
 // Kinds of objects that JSON.stringify writes as {}, whatever they hold.
 const WITHOUT_JSON = new Set(['Blob', 'File', 'FormData', 'Headers', 'Map', 'Promise', 'ReadableStream', 'Set', 'URLSearchParams'])
 

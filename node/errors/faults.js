@@ -10,6 +10,7 @@ const OF_FAULT = 6 + NUMBERS // of an odb_fault: a start and a length for each o
 
 const DONE = 0
 const REFUSED = 1
+const WRONG_OPTION = 2
 const OUT_OF_MEMORY = 4
 
 // What the library says of codes, once that was asked for.
@@ -129,4 +130,4 @@ function callError(name, status, text, ...documents) {
   return errorWithCode('ERR_ODB_STATUS', `${name} returned the status ${status}`)
 }
 
-module.exports = { DONE, Fault, REFUSED, Refused, callError, errorWithCode, explain, listedFaults, readFault, refusedError }
+module.exports = { DONE, Fault, REFUSED, Refused, WRONG_OPTION, callError, errorWithCode, explain, listedFaults, readFault, refusedError }

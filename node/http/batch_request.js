@@ -4,34 +4,20 @@
 
 const { validateHeaderValue } = require('node:http')
 const { Refusal } = require('../errors/refusals.js')
+const { CONSTANTS } = require('../library/constants.js')
 const { mediaType } = require('./bodies.js')
 const { decodePart } = require('./urls.js')
 
 const FORWARDED = /host="?([^";,\s]+)/gi
 const HOST = /^([a-z0-9._~-]+|\[[0-9a-f:.]+\])(:[0-9]{1,5})?$/i
 const PREFERENCES = /(?:[^,"]|"[^"]*"?)+/g
-const OF_BATCH = new Set(['callback', 'continue-on-error', 'respond-async', 'wait'])
-const NOT_INHERITED = new Set([
-  'accept', 'accept-encoding', 'connection', 'digest', 'expect', 'http2-settings', 'idempotency-key', 'keep-alive', 'prefer',
-  'proxy-connection', 'range', 'signature', 'signature-input', 'te', 'trailer', 'transfer-encoding', 'upgrade', 'x-http-method',
-  'x-http-method-override', 'x-method-override',
-])
-const PREFIXES_NOT_INHERITED = ['content-', 'if-', 'repeatability-']
+const NOT_INHERITED = new Set(CONSTANTS.headers.not_inherited)
+const PREFIXES_NOT_INHERITED = CONSTANTS.headers.not_inherited_prefixes
 // Others could be those by which a proxy tells the service who the client is.
-const ALLOWED = [
-  'accept', 'accept-charset', 'accept-language', 'content-language', 'content-type', 'idempotency-key', 'if-match',
-  'if-modified-since', 'if-none-match', 'if-unmodified-since', 'isolation', 'odata-isolation', 'odata-maxversion',
-  'odata-version', 'prefer', 'repeatability-first-sent', 'repeatability-request-id',
-]
-// What usual clients give each request, and what is traced.
-const OF_CLIENTS = [
-  'client-request-id', 'traceparent', 'tracestate', 'x-correlation-id', 'x-csrf-token', 'x-request-id', 'x-requested-with',
-]
-const PREFIX_OF_CLIENTS = 'sap-'
+const { allowed: ALLOWED, allowed_prefixes: ALLOWED_PREFIXES } = CONSTANTS.headers
 // What clients set on each request by themselves: of a request of a batch it is dropped. The first are of a connection, which such
 // a request has not; the others may be allowed.
-const OF_CONNECTION = ['accept-encoding', 'connection', 'content-length', 'host']
-const USUALLY_DROPPED = ['cache-control', 'date', 'pragma', 'user-agent']
+const { of_connection: OF_CONNECTION, usually_dropped: USUALLY_DROPPED } = CONSTANTS.headers
 // How many names the log says at most, since clients choose them.
 const MOST_NAMES = 100
 
@@ -88,7 +74,7 @@ class HeaderPolicy {
     const added = allowed.map((name) => name.toLowerCase())
     const wrong = added.find((name) => OF_CONNECTION.includes(name))
     if (wrong !== undefined) throw new TypeError(`allowed: no request of a batch may have the header ${wrong}`)
-    this.#allowed = new Set([...ALLOWED, ...OF_CLIENTS, ...added])
+    this.#allowed = new Set([...ALLOWED, ...added])
     this.#dropped = new Set([...OF_CONNECTION, ...USUALLY_DROPPED.filter((name) => !added.includes(name))])
     this.#log = log
   }
@@ -106,7 +92,7 @@ class HeaderPolicy {
 
   #require(id, name, value) {
     const target = { target: name }
-    if (!this.#allowed.has(name) && !name.startsWith(PREFIX_OF_CLIENTS)) {
+    if (!this.#allowed.has(name) && !ALLOWED_PREFIXES.some((prefix) => name.startsWith(prefix))) {
       const refusal = new Refusal(400, 'HeaderNotAllowed', `A request of a batch may not have the header ${name}`, target)
       this.#note(id, name, refusal)
       throw refusal
@@ -161,7 +147,7 @@ class BatchRequest {
     this.roots = hosts.flatMap((name) => ['http', 'https'].map((scheme) => absoluteUrl(scheme, name, root)))
     this.#path = path
     this.#policy = policy
-    this.#ofRequests = preferences.filter(({ name }) => !OF_BATCH.has(name)).map(({ text }) => text)
+    this.#ofRequests = preferences.filter(({ name }) => !CONSTANTS.preferences.includes(name)).map(({ text }) => text)
     this.#inherited = inheritHeaders(headers)
     if (this.#ofRequests.length > 0) this.#inherited.prefer = this.#ofRequests.join(', ')
   }

@@ -5,9 +5,10 @@
 
 const { asBytes, writeJson } = require('../documents/bytes.js')
 const { Refusal } = require('../errors/refusals.js')
+const { CONSTANTS } = require('../library/constants.js')
 
 // How long the text of a body may be in a response.
-const MOST_BYTES = 16777216
+const MOST_BYTES = CONSTANTS.limits.document_bytes
 const MARK = Buffer.from([0xef, 0xbb, 0xbf])
 
 // The names of Node for character sets in which a text can be written.

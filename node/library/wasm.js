@@ -195,6 +195,13 @@ function commandCalls(use, seed) {
       return answer ?? [OUT_OF_MEMORY, Buffer.from(NOTHING)]
     },
 
+    constants() {
+      const answer = use((instance) => instance.with((take) => {
+        return instance.writeText(take, EXPLANATION, (text) => instance.call('odb_constants', ...text))
+      }))
+      return answer ?? [OUT_OF_MEMORY, Buffer.from(NOTHING)]
+    },
+
     where(document, place, numbers) {
       const status = use((instance) => instance.with((take) => {
         const [given, at] = [instance.put(take, [document, place]), take(OF_POSITION * WORD)]
@@ -324,6 +331,19 @@ function runCalls(use, seed) {
       const instance = liveInstance(run)
       const end = instance.with((take) => instance.call('odb_run_report', run.place, position, status, ...instance.put(take, [headers, body])))
       return end ?? OUT_OF_MEMORY
+    },
+    part(run, batch, limit, positions) {
+      const instance = liveInstance(run)
+      const answer = instance.with((take) => {
+        const given = instance.put(take, [batch])
+        const [at, count] = [take(positions.byteLength), take(WORD)]
+        const room = [at, BigInt(positions.length), count]
+        const call = (text) => instance.call('odb_run_part', run.place, ...given, limit, ...text, ...room, seed)
+        const found = instance.writeText(take, batch.length + MORE, call)
+        if (found[0] === DONE) positions.set(instance.numbers(at, instance.word(count)))
+        return [...found, instance.word(count)]
+      })
+      return answer ?? [OUT_OF_MEMORY, Buffer.from(NOTHING), 0]
     },
     ready: listCall('odb_run_ready'),
     running: listCall('odb_run_running'),

@@ -13,6 +13,7 @@ const CALLS_WITHOUT_EFFECT = ['ref', 'setKeepAlive', 'setNoDelay', 'setTimeout',
 // How many bytes of a head are not counted.
 const MOST_OF_HEAD = 65536
 const END_OF_HEAD = '\r\n\r\n'
+const HTTP = { httpVersion: '1.1', httpVersionMajor: 1, httpVersionMinor: 1 }
 // A head that begins with `HTTP/1.1 1` is followed by the final one.
 const [FIRST_DIGIT, ONE] = ['HTTP/1.1 '.length, '1'.charCodeAt(0)]
 
@@ -67,7 +68,7 @@ class MemorySocket extends Duplex {
   /** The final answer; undefined if there is no whole head. */
   answer() {
     if (this.#head === undefined) return undefined
-    const written = Buffer.concat(this.#parts)
+    const written = this.#parts.length === 1 ? this.#parts[0] : Buffer.concat(this.#parts)
     const { status, headers } = parseHead(written.toString('latin1', this.#begin, this.#head - END_OF_HEAD.length))
     const rest = written.subarray(this.#head)
     const body = /\bchunked$/i.test(headers['transfer-encoding']) ? joinChunks(rest) : rest
@@ -171,9 +172,9 @@ function withPrototype(Class, prototype) {
 /** The request as a handler reads it. */
 function makeRequest(Request, socket, { method, url, headers, body = Buffer.alloc(0) }) {
   const all = body.length > 0 ? { ...headers, 'content-length': String(body.length) } : headers
-  const rawHeaders = Object.entries(all).flat()
-  const http = { httpVersion: '1.1', httpVersionMajor: 1, httpVersionMinor: 1 }
-  const req = Object.assign(new Request(socket), { method, url, headers: all, rawHeaders, ...http })
+  const rawHeaders = []
+  for (const name in all) rawHeaders.push(name, all[name])
+  const req = Object.assign(new Request(socket), { method, url, headers: all, rawHeaders }, HTTP)
   req.push(body)
   req.push(null)
   req.complete = true

@@ -11,16 +11,14 @@ const { Refusal, toRefusal } = require('../errors/refusals.js')
 const { readAnswer } = require('../http/messages.js')
 const { MOST_BYTES, toJson, toJsonString } = require('../http/bodies.js')
 const { References } = require('../http/references.js')
+const { CONSTANTS } = require('../library/constants.js')
 const { GroupTransaction } = require('./group.js')
 
 const OPTIONS = ['mode', 'width', 'transaction', 'base', 'roots', 'timeout', 'deadline', 'limit', 'stop', 'log']
 const MOST_MILLISECONDS = 2 ** 31 - 1
 const TRANSACTION = '(group, body) => knex.transaction((trx) => storage.run(trx, body))'
 // Of an answer these speak of its connection alone.
-const OF_CONNECTION = new Set([
-  'connection', 'content-encoding', 'content-length', 'date', 'keep-alive', 'proxy-authenticate', 'server', 'set-cookie', 'te',
-  'trailer', 'transfer-encoding', 'upgrade',
-])
+const NOT_SHOWN = new Set(CONSTANTS.headers.not_shown)
 
 function logError(error, what) {
   console.error(`odb-batch: ${what}:`, error)
@@ -54,7 +52,7 @@ function performSettings(options) {
 /** The headers that a response shows. */
 function visibleHeaders(headers) {
   const found = { __proto__: null }
-  for (const name in headers) if (!OF_CONNECTION.has(name)) found[name] = headers[name]
+  for (const name in headers) if (!NOT_SHOWN.has(name)) found[name] = headers[name]
   return found
 }
 
@@ -94,16 +92,16 @@ async function within(milliseconds, call, onEnd) {
   if (milliseconds === Infinity) return call()
   const wait = new Wait()
   let timer
-  const late = new Promise((_, reject) => {
-    timer = setTimeout(() => {
-      const reason = new DOMException('No answer came in time', 'TimeoutError')
-      onEnd()
-      reject(reason)
-      wait.end(reason)
-    }, milliseconds)
-  })
   try {
-    return await Promise.race([call(wait), late])
+    return await new Promise((resolve, reject) => {
+      timer = setTimeout(() => {
+        const reason = new DOMException('No answer came in time', 'TimeoutError')
+        onEnd()
+        reject(reason)
+        wait.end(reason)
+      }, milliseconds)
+      call(wait).then(resolve, reject)
+    })
   } finally {
     clearTimeout(timer)
   }

@@ -51,12 +51,13 @@ from .driver.threads import Send, Transaction, perform
 from .driver.waits import Gate, SendAsync, SendGroup
 from .errors.faults import Fault, OdbError, Refused
 from .http.messages import Answer, Answered, GroupFailed, PreparedRequest, Refusal
-from .runs import RequestState, Run
+from .runs import Part, RequestState, Run
 
 __all__ = [
     "Answer", "Answered", "Command", "Counts", "Document", "Events", "Fault", "Form", "Gate", "GroupFailed", "Journal",
-    "JournalEvent", "MemberRefused", "Mode", "OdbError", "Order", "Output", "Plan", "PlannedRequest", "PreparedGroup",
-    "PreparedRequest", "Refusal", "Refused", "Replay", "Report", "ReportUnit", "Request", "RequestState", "Run", "Send",
-    "SendAsync", "SendGroup", "Start", "StartUnit", "Stop", "Transaction", "TransactionAsync", "__version__", "canon", "check",
-    "faults", "match", "output", "perform", "perform_async", "plan", "replay", "requests", "rest", "run",
+    "JournalEvent", "MemberRefused", "Mode", "OdbError", "Order", "Output", "Part", "Plan", "PlannedRequest",
+    "PreparedGroup", "PreparedRequest", "Refusal", "Refused", "Replay", "Report", "ReportUnit", "Request",
+    "RequestState", "Run", "Send", "SendAsync", "SendGroup", "Start", "StartUnit", "Stop", "Transaction",
+    "TransactionAsync", "__version__", "canon", "check", "faults", "match", "output", "perform", "perform_async",
+    "plan", "replay", "requests", "rest", "run",
 ]  # fmt: skip

@@ -5,10 +5,12 @@ import json
 import threading
 import weakref
 from dataclasses import dataclass
-from typing import Any, Literal, Mapping, NoReturn, Optional, SupportsIndex, Union
+from typing import Any, Literal, Mapping, NoReturn, Optional, SupportsIndex, Union, get_args
 
 from ._native import library
-from ._native.calls import MAX_WIDTH, Mode, policy_numbers, read_text, refused_error, status_error
+from ._native.calls import (
+    MAX_REQUESTS, MAX_WIDTH, MORE, Mode, policy_numbers, read_fault, read_text, refused_error, status_error,
+)  # fmt: skip
 from .documents.encoding import Document, Events, body_json, document_bytes, events_bytes, json_bytes
 from .documents.requests import Request, open_requests, requests
 from .errors.faults import Fault
@@ -19,7 +21,7 @@ _MAX_NUMBER = 2**32 - 1
 _State = Literal["waiting", "ready", "running", "reported", "skipped", "undone"]
 
 # The states of a request, by their numbers.
-_STATES: tuple[_State, ...] = ("waiting", "ready", "running", "reported", "skipped", "undone")
+_STATES: tuple[_State, ...] = get_args(_State)
 
 
 @dataclass(frozen=True)
@@ -35,6 +37,16 @@ class RequestState(Value):
     state: _State
     #: The status that it has reported, or None; once the run is finished, the status that it is answered.
     status: Optional[int]
+
+
+@dataclass(frozen=True)
+class Part(Value):
+    """A part of the batch of a live run: requests that may be sent together."""
+
+    #: A batch of these requests, in which what others have been answered stands for references to them.
+    document: bytes
+    #: The ids of its requests, in the order of the batch.
+    ids: tuple[str, ...]
 
 
 class Run:
@@ -265,6 +277,48 @@ class Run:
             ValueError: The run is closed.
         """
         self._begin("odb_run_start_unit", id)
+
+    def part(self, batch: Document, limit: int = MAX_REQUESTS) -> Optional[Part]:
+        """Returns the next part of the batch, or None if nothing may be sent now: requests that may be sent together as a batch
+        of their own. None of them was in a part before, and what they depend on is in this part or has succeeded.
+
+        A group is whole. Dependencies on what has succeeded are left out, and ``$a`` in a URL is replaced by the Location
+        that was reported for ``a``. A run that is not finished has a part that is not reported, or gives one. Once a part is
+        answered, start its units by `start_unit`, in the order of the batch, and report their requests.
+
+        >>> from odb_batch import Run
+        >>> batch = {"requests": [{"id": "a", "method": "post", "url": "Orders"},
+        ...                       {"id": "b", "method": "get", "url": "$a/Lines", "dependsOn": ["a"]}]}
+        >>> with Run(batch) as run:
+        ...     run.part(batch, 1).ids
+        ...     run.start("a")
+        ...     run.report("a", 201, {"location": "/Orders(7)"})
+        ...     run.part(batch, 1).document
+        ('a',)
+        b'{"requests":[{"id":"b","method":"get","url":"/Orders(7)/Lines"}]}'
+
+        Args:
+            batch: The batch of the run.
+            limit: How many requests the part may have, from 1 to 10,000.
+
+        Raises:
+            Fault: The batch is refused, or by F90 a request of the part, at its position in the batch: it refers to one for which
+                no Location was reported that its URL may have.
+            ValueError: A group has more requests than the limit, it is another batch than that of the run, or the run is closed.
+            MemoryError: An allocation failed.
+        """
+        if isinstance(limit, bool) or not isinstance(limit, int) or not 1 <= limit <= MAX_REQUESTS:
+            raise ValueError(f"limit must be a whole number from 1 to {MAX_REQUESTS}, not {limit!r}")
+        given = document_bytes(batch)
+        with self._lock:
+            self._require_open()
+            status, text, positions = library.call_part(self._pointer, given, limit, len(given) + MORE, self._listed)
+        if status == library.REFUSED:
+            raise read_fault(text, given)
+        if status == library.WRONG_OPTION:
+            raise ValueError("it is another batch than that of the run, or a group has more requests than the limit")
+        _settle("odb_run_part", status, "")
+        return Part(text, tuple(map(self._ids.__getitem__, positions))) if positions else None
 
     def _begin(self, name: str, request_id: str) -> None:
         """Calls a function that starts a request or its unit."""

@@ -348,11 +348,11 @@ static int is_right(const struct trial *trial, const struct arguments *given, si
     return right;
 }
 
-/* Calls without a buffer. */
-static int is_measured(const struct trial *trial, const struct arguments *given)
+/* Calls without a buffer, or with one of size 0 at any address. */
+static int is_measured(const struct trial *trial, const struct arguments *given, uint8_t *text)
 {
     size_t wanted = strlen(trial->text), length = 77;
-    uint32_t status = trial->made(given, NULL, 0, &length);
+    uint32_t status = trial->made(given, text, 0, &length);
     return length == wanted && status == (wanted > 0 ? ODB_SMALL_BUFFER : trial->status);
 }
 
@@ -390,7 +390,8 @@ static void try_all(const struct trial *trial)
     given.seed = odb_seed();
     for (size_t size = 0; size <= strlen(trial->text); size++)
         count(trial, "a buffer of size", (long)size, is_right(trial, &given, size));
-    count(trial, "no buffer", 0, is_measured(trial, &given));
+    count(trial, "no buffer", 0, is_measured(trial, &given, NULL));
+    count(trial, "a buffer of size 0", 0, is_measured(trial, &given, (uint8_t *)1));
     try_allocations(trial, &given, 0);
     try_allocations(trial, &given, 1);
     free((void *)given.batch.bytes);

@@ -1,18 +1,10 @@
-/* Tries the call that opens a live run and gives what is to be sent of its requests.
- *
- * The last line that it prints is `N tries, M wrong`; a wrong one is shown before it. Buffers are blocks of just
- * their size, so that valgrind and the sanitizers see what goes beyond. */
+/* Tries the call that opens a live run and gives what is to be sent of its requests. The last line that it prints is `N tries,
+ * M wrong`; a wrong one is shown before it. */
 
 #include "odb_batch.h"
 
-#include "allocations.h"
-#include "tries.h"
+#include "buffers.h"
 
-#include <stdio.h>
-#include <stdlib.h>
-#include <string.h>
-
-#define FILLING 0xa5
 #define MOST 2   /* requests of the batch */
 #define ROOM 256 /* more than the text of the batch, and than any line */
 
@@ -33,24 +25,6 @@ static uint32_t ask(struct opening *it, char *text, size_t room, odb_request *re
 {
     return odb_run_open_requests((const uint8_t *)it->batch, strlen(it->batch), (const uint8_t *)it->events, strlen(it->events),
                                  it->mode, it->width, &it->run, (uint8_t *)text, room, &it->length, requests, most, &it->count, 7);
-}
-
-static void *filled(size_t size)
-{
-    void *block = malloc(size > 0 ? size : 1);
-    if (block == NULL)
-        exit(70);
-    memset(block, FILLING, size);
-    return block;
-}
-
-static int is_unchanged(const void *at, size_t size)
-{
-    const unsigned char *bytes = at;
-    for (size_t i = 0; i < size; i++)
-        if (bytes[i] != FILLING)
-            return 0;
-    return 1;
 }
 
 /* Whether the text and the requests are those that `odb_requests` gives. */
@@ -76,33 +50,25 @@ static int goes_on(odb_live_run *run)
         && memcmp(text, wanted, length) == 0;
 }
 
-/* Opens with buffers of each size, of which only the last ones are large enough. */
-static void try_sizes(void)
+static void open_into(void *given, struct answer *it)
 {
-    struct opening it = {BATCH, NONE, ODB_CONTINUE, 1, {NULL}, 77, 77};
-    uint32_t asked = ask(&it, NULL, 0, NULL, 0);
-    size_t whole = it.length;
-    count("the sizes", 0, asked == ODB_SMALL_BUFFER && it.count == MOST && whole < ROOM && it.run.at == NULL);
-    for (size_t room = 0; room <= whole + 1; room++) {
-        for (size_t most = 0; most <= MOST + 1; most++) {
-            char *text = filled(room);
-            odb_request *requests = filled(most * sizeof *requests);
-            it.run.at = NULL;
-            uint32_t status = ask(&it, text, room, requests, most);
-            int fits = room >= whole && most >= MOST;
-            int right = it.length == whole && it.count == MOST && status == (fits ? ODB_DONE : ODB_SMALL_BUFFER)
-                && (it.run.at != NULL) == fits;
-            if (fits && right)
-                right = are_requests(text, it.length, requests, it.count) && goes_on(&it.run);
-            right = right && is_unchanged(text + (fits ? whole : 0), fits ? room - whole : room);
-            right = right && is_unchanged(requests + (fits ? MOST : 0), (fits ? most - MOST : most) * sizeof *requests);
-            count("a size", (long)(room * 10 + most), right);
-            if (it.run.at != NULL)
-                odb_run_close(it.run);
-            free(requests);
-            free(text);
-        }
-    }
+    struct opening *opening = given;
+    opening->run.at = NULL;
+    it->status = ask(opening, it->text, it->room, it->items, it->most);
+    it->length = opening->length;
+    it->count = opening->count;
+}
+
+/* Whether a run is opened just then, and goes on; closes it. */
+static int is_opened(void *given, const struct answer *it, int is_done)
+{
+    odb_live_run *run = &((struct opening *)given)->run;
+    int right = (run->at != NULL) == is_done;
+    if (is_done && right)
+        right = are_requests(it->text, it->length, it->items, it->count) && goes_on(run);
+    if (run->at != NULL)
+        odb_run_close(*run);
+    return right;
 }
 
 static void try_events(void)
@@ -129,33 +95,19 @@ static void try_refused(const char *batch, const char *events, uint32_t mode, ui
     free(requests);
 }
 
-/* Has each allocation fail in turn. */
-static void try_memory(void)
-{
-    char text[ROOM];
-    odb_request requests[MOST];
-    for (long after = 0;; after++) {
-        struct opening it = {BATCH, STARTED, ODB_CONTINUE, 1, {NULL}, 77, 77};
-        refuse_after(after, 1);
-        uint32_t status = ask(&it, text, ROOM, requests, MOST);
-        if (!allow_all()) {
-            count("with all memory", after, status == ODB_DONE && it.count == MOST);
-            odb_run_close(it.run);
-            return;
-        }
-        count("without memory", after, status == ODB_OUT_OF_MEMORY && it.length == 0 && it.count == 0 && it.run.at == NULL);
-    }
-}
-
 int main(void)
 {
-    try_sizes();
+    struct opening it = {BATCH, NONE, ODB_CONTINUE, 1, {NULL}, 77, 77};
+    uint32_t asked = ask(&it, NULL, 0, NULL, 0);
+    struct listing all = {&it, open_into, is_opened, sizeof(odb_request), it.length, MOST, ODB_DONE};
+    count("the sizes", 0, asked == ODB_SMALL_BUFFER && it.count == MOST && it.length < ROOM && it.run.at == NULL);
+    try_sizes(&all, 0);
+    try_memory(&all, 0);
     try_events();
     try_refused("{\"requests\":7}", NONE, ODB_STOP, 1, ODB_REFUSED, "fault F04 NoRequests batch\n");
     try_refused(BATCH, "{\"events\":[{\"start\":\"b\"}]}", ODB_STOP, 1, ODB_REFUSED, "fault S4 Waiting /events/0\n");
     try_refused(BATCH, NONE, 2, 1, ODB_WRONG_OPTION, "");
     try_refused(BATCH, NONE, ODB_STOP, 0, ODB_WRONG_OPTION, "");
     try_refused(BATCH, NONE, ODB_STOP, ODB_MAX_WIDTH + 1, ODB_WRONG_OPTION, "");
-    try_memory();
     return ended();
 }

@@ -1,18 +1,10 @@
-/* Tries the call for what is to be sent of each request of a batch.
- *
- * The last line that it prints is `N tries, M wrong`; a wrong one is shown before it. Buffers are blocks of just
- * their size, so that valgrind and the sanitizers see what goes beyond. */
+/* Tries the call for what is to be sent of each request of a batch. The last line that it prints is `N tries, M wrong`; a
+ * wrong one is shown before it. */
 
 #include "odb_batch.h"
 
-#include "allocations.h"
-#include "tries.h"
+#include "buffers.h"
 
-#include <stdio.h>
-#include <stdlib.h>
-#include <string.h>
-
-#define FILLING 0xa5
 #define MOST 3        /* requests of the batch */
 #define ROOM 256      /* more than the text of the batch */
 
@@ -59,47 +51,19 @@ static uint32_t ask(const char *batch, char *text, size_t room, size_t *length, 
     return odb_requests((const uint8_t *)batch, strlen(batch), (uint8_t *)text, room, length, requests, most, count, 7);
 }
 
-/* Whether all bytes are as they were before. */
-static int is_unchanged(const void *at, size_t size)
+static void ask_whole(void *batch, struct answer *it)
 {
-    const unsigned char *bytes = at;
-    for (size_t i = 0; i < size; i++)
-        if (bytes[i] != FILLING)
+    it->status = ask(batch, it->text, it->room, &it->length, it->items, it->most, &it->count);
+}
+
+static int are_requests(void *batch, const struct answer *it, int is_done)
+{
+    const odb_request *found = it->items;
+    (void)batch;
+    for (size_t at = 0; is_done && at < MOST; at++)
+        if (!request_is(it->text, &found[at], &wanted[at]))
             return 0;
     return 1;
-}
-
-static void *filled(size_t size)
-{
-    void *block = malloc(size > 0 ? size : 1);
-    if (block == NULL)
-        exit(70);
-    memset(block, FILLING, size);
-    return block;
-}
-
-/* Asks with buffers of each size, of which only the last ones are large enough. */
-static void try_sizes(void)
-{
-    size_t whole = 77, number = 77;
-    count("the sizes", 0, ask(BATCH, NULL, 0, &whole, NULL, 0, &number) == ODB_SMALL_BUFFER && number == MOST && whole < ROOM);
-    for (size_t room = 0; room <= whole + 1; room++) {
-        for (size_t most = 0; most <= MOST + 1; most++) {
-            char *text = filled(room);
-            odb_request *requests = filled(most * sizeof *requests);
-            size_t length = 77, found = 77;
-            uint32_t status = ask(BATCH, text, room, &length, requests, most, &found);
-            int fits = room >= whole && most >= MOST;
-            int right = length == whole && found == MOST && status == (fits ? ODB_DONE : ODB_SMALL_BUFFER);
-            for (size_t at = 0; right && fits && at < MOST; at++)
-                right = request_is(text, &requests[at], &wanted[at]);
-            right = right && is_unchanged(text + (fits ? whole : 0), fits ? room - whole : room);
-            right = right && is_unchanged(requests + (fits ? MOST : 0), (fits ? most - MOST : most) * sizeof *requests);
-            count("a size", (long)(room * 10 + most), right);
-            free(requests);
-            free(text);
-        }
-    }
 }
 
 static void try_refused(void)
@@ -121,28 +85,16 @@ static void try_none(void)
     count("no requests", 0, ask("{\"requests\":[]}", NULL, 0, &length, NULL, 0, &found) == ODB_DONE && length == 0 && found == 0);
 }
 
-/* Has each allocation fail in turn. */
-static void try_memory(void)
-{
-    char text[ROOM];
-    odb_request requests[MOST];
-    for (long after = 0;; after++) {
-        size_t length = 77, found = 77;
-        refuse_after(after, 1);
-        uint32_t status = ask(BATCH, text, ROOM, &length, requests, MOST, &found);
-        if (!allow_all()) {
-            count("with all memory", after, status == ODB_DONE && found == MOST);
-            return;
-        }
-        count("without memory", after, status == ODB_OUT_OF_MEMORY && length == 0 && found == 0);
-    }
-}
-
 int main(void)
 {
-    try_sizes();
+    char batch[] = BATCH;
+    struct listing all = {batch, ask_whole, are_requests, sizeof(odb_request), 77, MOST, ODB_DONE};
+    size_t number = 77;
+    uint32_t asked = ask(BATCH, NULL, 0, &all.length, NULL, 0, &number);
+    count("the sizes", 0, asked == ODB_SMALL_BUFFER && number == MOST && all.length < ROOM);
+    try_sizes(&all, 0);
+    try_memory(&all, 0);
     try_refused();
     try_none();
-    try_memory();
     return ended();
 }

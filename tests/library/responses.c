@@ -1,18 +1,10 @@
-/* Tries the call for the responses in the document of a service.
- *
- * The last line that it prints is `N tries, M wrong`; a wrong one is shown before it. Buffers are blocks of just
- * their size, so that valgrind and the sanitizers see what goes beyond. */
+/* Tries the call for the responses in the document of a service. The last line that it prints is `N tries, M wrong`; a wrong
+ * one is shown before it. */
 
 #include "odb_batch.h"
 
-#include "allocations.h"
-#include "tries.h"
+#include "buffers.h"
 
-#include <stdio.h>
-#include <stdlib.h>
-#include <string.h>
-
-#define FILLING 0xa5
 #define MOST 4        /* responses of the document */
 #define ROOM 256      /* more than their text */
 
@@ -62,48 +54,19 @@ static uint32_t ask(const char *document, char *text, size_t room, size_t *lengt
     return odb_responses((const uint8_t *)document, size, (uint8_t *)text, room, length, responses, most, count);
 }
 
-/* Whether all bytes are as they were before. */
-static int is_unchanged(const void *at, size_t size)
+static void ask_whole(void *document, struct answer *it)
 {
-    const unsigned char *bytes = at;
-    for (size_t i = 0; i < size; i++)
-        if (bytes[i] != FILLING)
+    it->status = ask(document, it->text, it->room, &it->length, it->items, it->most, &it->count);
+}
+
+static int are_responses(void *document, const struct answer *it, int is_done)
+{
+    const odb_response *found = it->items;
+    (void)document;
+    for (size_t at = 0; is_done && at < MOST; at++)
+        if (!response_is(it->text, &found[at], &wanted[at]))
             return 0;
     return 1;
-}
-
-static void *filled(size_t size)
-{
-    void *block = malloc(size > 0 ? size : 1);
-    if (block == NULL)
-        exit(70);
-    memset(block, FILLING, size);
-    return block;
-}
-
-/* Asks with buffers of each size, of which only the last ones are large enough. */
-static void try_sizes(void)
-{
-    size_t whole = 77, number = 77;
-    uint32_t asked = ask(DOCUMENT, NULL, 0, &whole, NULL, 0, &number);
-    count("the sizes", 0, asked == ODB_SMALL_BUFFER && number == MOST && whole < ROOM);
-    for (size_t room = 0; room <= whole + 1; room++) {
-        for (size_t most = 0; most <= MOST + 1; most++) {
-            char *text = filled(room);
-            odb_response *responses = filled(most * sizeof *responses);
-            size_t length = 77, found = 77;
-            uint32_t status = ask(DOCUMENT, text, room, &length, responses, most, &found);
-            int fits = room >= whole && most >= MOST;
-            int right = length == whole && found == MOST && status == (fits ? ODB_DONE : ODB_SMALL_BUFFER);
-            for (size_t at = 0; right && fits && at < MOST; at++)
-                right = response_is(text, &responses[at], &wanted[at]);
-            right = right && is_unchanged(text + (fits ? whole : 0), fits ? room - whole : room);
-            right = right && is_unchanged(responses + (fits ? MOST : 0), (fits ? most - MOST : most) * sizeof *responses);
-            count("a size", (long)(room * 10 + most), right);
-            free(responses);
-            free(text);
-        }
-    }
 }
 
 static void try_refused(void)
@@ -130,28 +93,16 @@ static void try_none(void)
     count("no responses", 0, status == ODB_DONE && length == 0 && found == 0);
 }
 
-/* Has each allocation fail in turn. */
-static void try_memory(void)
-{
-    char text[ROOM];
-    odb_response responses[MOST];
-    for (long after = 0;; after++) {
-        size_t length = 77, found = 77;
-        refuse_after(after, 1);
-        uint32_t status = ask(DOCUMENT, text, ROOM, &length, responses, MOST, &found);
-        if (!allow_all()) {
-            count("with all memory", after, status == ODB_DONE && found == MOST);
-            return;
-        }
-        count("without memory", after, status == ODB_OUT_OF_MEMORY && length == 0 && found == 0);
-    }
-}
-
 int main(void)
 {
-    try_sizes();
+    char document[] = DOCUMENT;
+    struct listing all = {document, ask_whole, are_responses, sizeof(odb_response), 77, MOST, ODB_DONE};
+    size_t number = 77;
+    uint32_t asked = ask(DOCUMENT, NULL, 0, &all.length, NULL, 0, &number);
+    count("the sizes", 0, asked == ODB_SMALL_BUFFER && number == MOST && all.length < ROOM);
+    try_sizes(&all, 0);
+    try_memory(&all, 0);
     try_refused();
     try_none();
-    try_memory();
     return ended();
 }

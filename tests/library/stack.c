@@ -120,6 +120,11 @@ static int find(void)
         && is_done(odb_where(bytes(batch), strlen(batch), bytes("/requests/0"), 11, &found));
 }
 
+static int constants(void)
+{
+    return is_done(odb_constants(text, sizeof text, &length));
+}
+
 /* Asks where a request with a long path of dot segments is sent, from a long list of roots. */
 static int resolve(void)
 {
@@ -221,6 +226,7 @@ static int live(void)
         && is_done(odb_run_ids(&opened, text, sizeof text, &length))
         && is_done(odb_run_next_unit(&opened, positions, 1, &count))
         && is_done(odb_run_next(&opened, ODB_LAST, &step, positions))
+        && is_done(odb_run_part(&opened, bytes(batch), strlen(batch), 1, text, sizeof text, &length, positions, 1, &count, 7))
         && is_done(odb_run_start(&opened, 0)) && is_done(odb_run_state(&opened, 0, &state, &status))
         && is_done(odb_run_running(&opened, positions, 1, &count))
         && is_done(odb_run_report(&opened, 0, 200, bytes(headers), strlen(headers), bytes(second), strlen(second)))
@@ -444,6 +450,7 @@ static void measure_chain(void)
 int main(void)
 {
     measure("where a request is sent", resolve);
+    measure("the constants", constants);
     for (size_t at = 0; at < SHAPES; at++) {
         shape = &shapes[at];
         printf("%s\n", shape->name);

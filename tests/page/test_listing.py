@@ -13,7 +13,9 @@ SCRIPT = """
 const [root, text, lines, offset] = process.argv.slice(1)
 const words = Array.from(lines.matchAll(/[^ \\n]+/g)).filter(([word]) => word !== 'fault')
 const numbersOf = ({ 0: word, index }, at) => [index, word.length, ...(at % 3 === 2 ? [1, 1, Number(offset)] : [])]
+const constants = { forms: ['lines', 'json'], modes: ['continue', 'stop'], orders: ['first'], limits: { width: 1 } }
 const exports = {
+  constants: () => [0, Buffer.from(JSON.stringify(constants))],
   call: () => [1, Buffer.from(lines)],
   explain: (code) => [0, Buffer.from(code + ' Name\\nMeaning.\\nrefused: a case')],
   faults: () => [1, Buffer.from(lines), Float64Array.from(words.flatMap(numbersOf))],

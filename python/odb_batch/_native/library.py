@@ -61,6 +61,7 @@ _PARAMETERS: dict[str, list[Any]] = {
     "odb_run_as": [*_BYTES, *_BYTES, *_NUMBER * 3, *_SEEDED],
     "odb_replay_as": [*_BYTES, *_BYTES, *_NUMBER * 5, *_SEEDED],
     "odb_explain": [*_BYTES, *_TEXT],
+    "odb_constants": [*_TEXT],
     "odb_where": [*_BYTES, *_BYTES, ctypes.c_void_p],
     "odb_faults": [*_BYTES, *_TEXT, *_LIST],
     "odb_requests": [*_BYTES, *_TEXT, *_LIST],
@@ -72,6 +73,7 @@ _PARAMETERS: dict[str, list[Any]] = {
     "odb_run_running": [*_RUN, *_POSITIONS],
     "odb_run_undone": [*_RUN, *_POSITIONS],
     "odb_run_next_unit": [*_RUN, *_POSITIONS],
+    "odb_run_part": [*_RUN, *_BYTES, *_NUMBER, *_TEXT, *_POSITIONS, ctypes.c_uint64],
     "odb_run_state": [*_RUN, *_NUMBER, _PLACE, _PLACE],
     "odb_run_stop": [*_RUN],
     "odb_run_ids": [*_RUN, *_TEXT],
@@ -221,6 +223,20 @@ def call_responses(document: bytes, room: int, most: int) -> Listed:
 def call_faults(batch: bytes, room: int, most: int) -> Listed:
     """Lists the faults of a batch."""
     return _call_list("odb_faults", _OF_FAULT, (batch,), room, most)
+
+
+def call_part(run: Any, batch: bytes, limit: int, room: int, positions: Any) -> tuple[int, bytes, list[int]]:
+    """The status of a call for the next part of a run, its text, and the positions of its requests, for which there is room."""
+    length, count = ctypes.c_size_t(), ctypes.c_size_t()
+    sizes = ctypes.byref(length), ctypes.byref(count)
+    while True:
+        text = ctypes.create_string_buffer(room)
+        status = LIBRARY.odb_run_part(
+            run, batch, len(batch), limit, text, room, sizes[0], positions, len(positions), sizes[1], _SEED
+        )
+        if status != SMALL_BUFFER:
+            return status, ctypes.string_at(text, length.value), positions[: count.value]
+        room = length.value
 
 
 def call_where(document: bytes, place: bytes) -> tuple[int, list[int]]:

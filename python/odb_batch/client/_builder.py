@@ -7,6 +7,7 @@ from collections import ChainMap
 from typing import AbstractSet, Any, Iterable, Iterator, Mapping, MutableMapping, Optional, Union
 from urllib.parse import unquote
 
+from .._native.constants import listed_names
 from ..commands import Counts, check
 from ..documents.requests import Request
 from ..driver.references import CONDITIONS
@@ -64,7 +65,7 @@ Id = Optional[str]
 After = Union[Name, Iterable[Name]]
 
 # Ids to which no URL refers, since $ and such a name mean something else (OData URL Conventions 4.01).
-_RESERVED = frozenset({"all", "batch", "crossjoin", "entity", "id", "metadata", "root"})
+_RESERVED = frozenset(listed_names("reserved_ids"))
 
 
 class Builder:

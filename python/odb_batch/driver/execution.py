@@ -4,6 +4,7 @@ from dataclasses import dataclass
 from typing import Callable, Generator, Optional, Sequence, Union
 
 from .._native.calls import MAX_WIDTH, Mode
+from .._native.constants import listed_names
 from ..commands import plan
 from ..documents.encoding import Report, Start
 from ..documents.requests import Request
@@ -41,12 +42,7 @@ class Unit:
 
 
 # Headers of an answer that speak of its connection, or have no place in JSON: Set-Cookie may come several times.
-_NOT_SHOWN = frozenset(
-    {
-        "connection", "content-encoding", "content-length", "date", "keep-alive", "proxy-authenticate", "server",
-        "set-cookie", "te", "trailer", "transfer-encoding", "upgrade",
-    }
-)  # fmt: skip
+_NOT_SHOWN = frozenset(listed_names("headers", "not_shown"))
 # How many bytes of a body a live run takes.
 MAX_BODY_BYTES = 16_777_216
 TOO_LONG = Refusal(507, "TooLong", "The answer is too long for a batch").answer

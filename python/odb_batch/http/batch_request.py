@@ -8,40 +8,25 @@ from typing import Iterable, Mapping
 from urllib.parse import quote
 
 from .._native.calls import Mode
+from .._native.constants import listed_names
 from ..values import Value
 from .bodies import media_type
-from .messages import LOG, Refusal
+from .messages import LOG, Refusal, rejection
 
 _FORWARDED = re.compile(r'host="?([^";,\s]+)', re.IGNORECASE)
 # What stays as it is in a path.
 _PLAIN = "/$()'*,;=@:!&+~"
 _IS_HOST = re.compile(r"[A-Za-z0-9._~-]*|\[[0-9A-Fa-f:.]+\]").fullmatch
 # What a batch has for itself: its requests do not inherit it.
-_NOT_INHERITED = frozenset(
-    {
-        "accept", "accept-encoding", "connection", "digest", "expect", "http2-settings", "idempotency-key",
-        "keep-alive", "prefer", "proxy-connection", "range", "signature", "signature-input", "te", "trailer", "transfer-encoding",
-        "upgrade", "x-http-method", "x-http-method-override", "x-method-override",
-    }
-)  # fmt: skip
-_NOT_INHERITED_PREFIXES = ("content-", "if-", "repeatability-")
+_NOT_INHERITED = frozenset(listed_names("headers", "not_inherited"))
+_NOT_INHERITED_PREFIXES = listed_names("headers", "not_inherited_prefixes")
 # What a request of a batch may say for itself. Another header could be one by which a proxy says who the client is.
-_ALLOWED = frozenset(
-    {
-        "accept", "accept-charset", "accept-language", "content-language", "content-type", "idempotency-key",
-        "if-match",
-        "if-modified-since", "if-none-match", "if-unmodified-since", "isolation", "odata-isolation", "odata-maxversion",
-        "odata-version", "prefer", "repeatability-first-sent", "repeatability-request-id",
-        # What usual clients set: for traces (W3C Trace Context), for logs, and against forged requests.
-        "client-request-id", "traceparent", "tracestate", "x-correlation-id", "x-csrf-token", "x-request-id",
-        "x-requested-with",
-    }
-)  # fmt: skip
-_ALLOWED_PREFIXES = ("sap-",)
+_ALLOWED, _ALLOWED_PREFIXES = frozenset(listed_names("headers", "allowed")), listed_names("headers", "allowed_prefixes")
 # What clients set on each request by themselves: of a request of a batch it is dropped. The first are of a connection,
 # which such a request has not; the others may be allowed.
-_OF_CONNECTION = frozenset({"accept-encoding", "connection", "content-length", "host"})
-_USUALLY_DROPPED = frozenset({"cache-control", "date", "pragma", "user-agent"})
+_OF_CONNECTION, _USUALLY_DROPPED = (
+    frozenset(listed_names("headers", name)) for name in ("of_connection", "usually_dropped")
+)
 # The headers of which the log has a line; a client chooses names, so they are not many.
 _WARNED: set[str] = set()
 _WARNED_LOCK, _MAX_WARNED = threading.Lock(), 100
@@ -49,7 +34,7 @@ _WARNED_LOCK, _MAX_WARNED = threading.Lock(), 100
 _IS_FIELD_VALUE = re.compile("[\t -~\xa0-\xff]*").fullmatch
 _PREFERENCES = re.compile(r'(?:[^,"]|"[^"]*"?)+')
 # The preferences that are for the batch alone.
-_OF_BATCH = frozenset({"callback", "continue-on-error", "respond-async", "wait"})
+_OF_BATCH = frozenset(listed_names("preferences"))
 
 
 def batch_folder(path: str) -> str:
@@ -101,8 +86,7 @@ class BatchRequest:
         if not _is_authority(host):
             raise Refusal(400, "BadHost", "The host is not a name with a port")
         if not is_kept and any(name.startswith("repeatability-") for name in headers):
-            message = "Batches are not kept here, so they cannot be repeated"
-            raise Refusal(501, "NotRepeatable", message, repeatability_result="rejected")
+            raise rejection(501, "NotRepeatable", "Batches are not kept here, so they cannot be repeated")
         self.base = f"{scheme}://{host}{quote(folder, _PLAIN)}"
         hosts = dict.fromkeys((host, *forwarded_hosts(headers)))
         self.roots = [f"{prefix}://{name}{quote(root, _PLAIN)}" for name in hosts for prefix in ("http", "https")]

@@ -89,6 +89,11 @@ class Refusal(Exception):
         self.answer = Answer(status, {"content-type": "application/json", **more}, {"error": error})
 
 
+def rejection(status: int, code: str, message: str) -> Refusal:
+    """Returns the refusal of a batch because of the headers by which it may be sent again."""
+    return Refusal(status, code, message, repeatability_result="rejected")
+
+
 class GroupFailed(Exception):
     """Raised in the block of a transaction, which is rolled back by it: a request of the group has failed."""
 

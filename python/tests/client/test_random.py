@@ -7,23 +7,13 @@ from hypothesis import strategies as st
 
 from odb_batch import check, plan
 from odb_batch.client import Batch
-from odb_batch.testing import Scripted, batches
+from odb_batch.testing import Scripted
 from support import rules
 from support.profiles import share
 from support.rules_of_rests import kept
+from support.scripted import STATUSES, scripted
 
-STATUSES = st.sampled_from([200, 201, 204, 201, 200, 304, 404, 409, 408, 424, 429, 500, 502, 503, 504])
 MODES = st.sampled_from(["continue", "stop"])
-
-
-@st.composite
-def scripted(draw):
-    """A batch, a script for it, and a limit that leaves its groups whole."""
-    batch = draw(batches())
-    script = {it["id"]: draw(STATUSES) for it in batch["requests"]}
-    groups = [it.get("atomicityGroup") for it in batch["requests"]]
-    least = max((groups.count(it) for it in groups if it is not None), default=1)
-    return batch, script, draw(st.integers(least, 20))
 
 
 def statuses_of(results):

@@ -1,0 +1,42 @@
+'use strict'
+
+// The parts of a live run. The laws of parts are proved; python/tests/test_parts.py sends random batches in parts.
+
+const { deepStrictEqual, strictEqual, throws } = require('node:assert')
+const { describe, it } = require('node:test')
+
+const { Run } = require('..')
+
+const ORDER = {
+  requests: [
+    { id: 'o', method: 'post', url: 'Orders' },
+    { id: 'l', method: 'post', url: '$o/Lines', dependsOn: ['o'], atomicityGroup: 'g' },
+    { id: 'm', method: 'get', url: 'Stock', atomicityGroup: 'g' },
+    { id: 's', method: 'get', url: 'Stock', dependsOn: ['g'] },
+  ],
+}
+
+describe('parts of a live run', () => {
+  it('go one after another', () => {
+    const run = new Run(ORDER)
+    deepStrictEqual(run.part(ORDER, 2).ids, ['o'])
+    strictEqual(run.part(ORDER, 2), null)
+    run.start('o')
+    run.report('o', 201, { location: '/Orders(7)' })
+    const part = run.part(ORDER)
+    deepStrictEqual(part.ids, ['l', 'm', 's'])
+    deepStrictEqual(JSON.parse(part.document.toString()).requests.map(({ url }) => url), ['/Orders(7)/Lines', 'Stock', 'Stock'])
+    run.close()
+  })
+
+  it('are refused, and the run is as it was', () => {
+    const run = new Run(ORDER)
+    for (const limit of [0, 10001, '2', 1.5]) throws(() => run.part(ORDER, limit), /limit must be/)
+    throws(() => run.part(ORDER, 1), /another batch/)
+    throws(() => run.part({ requests: [] }), /another batch/)
+    throws(() => run.part({ requests: 7 }), { code: 'F04' })
+    deepStrictEqual(run.part(ORDER).ids, ['o', 'l', 'm', 's'])
+    run.close()
+    throws(() => run.part(ORDER), { code: 'ERR_ODB_CLOSED' })
+  })
+})
