@@ -8,9 +8,10 @@ CREATE TABLE odb_gateway (holder bigint PRIMARY KEY, name text NOT NULL, until t
 CREATE TABLE odb_part (
     batch bytea NOT NULL, number integer NOT NULL, holder bigint NOT NULL, writer bigint NOT NULL,
     open boolean NOT NULL, at timestamptz NOT NULL, text bytea NOT NULL, PRIMARY KEY (batch, number)
-) WITH (autovacuum_vacuum_scale_factor = 0.02, autovacuum_vacuum_insert_scale_factor = 0.05);
-ALTER TABLE odb_part ALTER COLUMN text SET STORAGE EXTERNAL;
+);
 CREATE INDEX odb_part_at ON odb_part (at) WHERE number = 0;
+ALTER TABLE odb_part SET (autovacuum_vacuum_scale_factor = 0.02, autovacuum_vacuum_insert_scale_factor = 0.05);
+ALTER TABLE odb_part ALTER COLUMN text SET STORAGE EXTERNAL;
 
 GRANT SELECT ON odb_form TO gateway_role;
 GRANT SELECT, INSERT, UPDATE, DELETE ON odb_gateway TO gateway_role;

@@ -149,7 +149,7 @@ def test_ids_and_clients_do_not_run_into_each_other():
     keys = set()
     for client, id in (("a", "bc"), ("ab", "c"), ("1:a", "b"), ("1", ":ab")):
         headers = {"x-client": client, "repeatability-request-id": id, "repeatability-first-sent": FIRST_SENT}
-        keys.add(Repeatability(options).read(headers).key)
+        keys.add(Repeatability(options).read(headers))
     assert len(keys) == 4
 
 
@@ -159,7 +159,7 @@ def test_ids_and_clients_do_not_run_into_each_other():
 def test_a_device_that_hangs_does_not_keep_the_process(upstream, tmp_path):
     """Threads that do not end are left behind."""
     before = "import time; from odb_batch.journals import SqliteStore"
-    program = f"import sys; {before}; SqliteStore._append = lambda *given: time.sleep(100_000); {MAIN}"
+    program = f"import sys; {before}; SqliteStore._write = lambda *given: time.sleep(100_000); {MAIN}"
     words = ["--upstream", upstream().url, "--journal", str(tmp_path), "--one-client", "--grace", "0.1"]
     command = [sys.executable, "-c", program, "gateway", "--listen", "127.0.0.1:0", *words, "--metrics", "/metrics"]
     with subprocess.Popen(command, env=with_package(), stderr=subprocess.PIPE, text=True) as process:

@@ -8,11 +8,11 @@ import threading
 
 import pytest
 
-from odb_batch import Report, Start
+from odb_batch import Refusal, Report, Start
 from odb_batch.journals import Journals, SqliteStore
 from odb_batch.journals import _sqlite
 from odb_batch.journals._encoding import digest
-from support.journals import EVENTS, FIRST, events_of, opened, soon, written
+from support.journals import EVENTS, FIRST, events_of, opened, parts_of, soon, written
 from support.servers import SECONDS
 
 
@@ -77,7 +77,7 @@ def test_the_loop_goes_on_while_the_file_is_read_and_written(tmp_path, monkeypat
 
                 return wait
 
-            for name in ("_append", "_append_piece", "_read", "_sync"):
+            for name in ("_write", "_read", "_sync"):
                 monkeypatch.setattr(journals.store, name, waiting(getattr(journals.store, name)))
             await written(journals, [Start("a"), report])
             async with journals.journal(b"x", FIRST) as journal:
@@ -85,7 +85,7 @@ def test_the_loop_goes_on_while_the_file_is_read_and_written(tmp_path, monkeypat
                 assert journal.events == [Start("a"), report]
 
     asyncio.run(run())
-    assert {*moves} == {("_append", True), ("_append_piece", True), ("_read", True), ("_sync", True)}
+    assert {*moves} == {("_write", True), ("_read", True), ("_sync", True)}
 
 
 def test_a_lock_file_that_is_removed_before_it_is_locked_is_made_again(tmp_path, monkeypatch):
@@ -108,20 +108,20 @@ def test_a_lock_file_that_is_removed_before_it_is_locked_is_made_again(tmp_path,
 
 
 def test_a_text_whose_pieces_were_removed_is_not_kept(tmp_path, monkeypatch):
-    append = SqliteStore._append
+    write = SqliteStore._write
 
-    def removing(store, parts):
-        with store._transaction() as execute:
-            execute("DELETE FROM piece")
-        return append(store, parts)
+    def removing(store, words, rows):
+        write(store, "DELETE FROM odb_part", [()])
+        return write(store, words, rows)
 
     async def run():
         async with opened(str(tmp_path)) as journals:
-            monkeypatch.setattr(SqliteStore, "_append", removing)
-            with pytest.raises(OSError, match="piece"):
+            monkeypatch.setattr(SqliteStore, "_write", removing)
+            with pytest.raises(Refusal):
                 await written(journals, [Report("a", 200, {}, b"1" * 300_000)])
             monkeypatch.undo()
             await soon(lambda: not journals._releases)
+            assert await parts_of(journals) == []
 
     asyncio.run(run())
 
@@ -130,11 +130,12 @@ def test_pieces_go_with_their_batch(tmp_path):
     async def run():
         async with opened(str(tmp_path)) as journals:
             await written(journals, [Start("a"), Report("a", 200, {}, b"1" * 1_000_000)])
+            assert len(await parts_of(journals)) == 5
             await journals.store.prune(await journals.store.now() + 1_000)
 
     asyncio.run(run())
     with contextlib.closing(sqlite3.connect(tmp_path / "journal.sqlite")) as connection:
-        assert [connection.execute(f"SELECT count(*) FROM {it}").fetchone() for it in ("part", "piece")] == [(0,), (0,)]
+        assert connection.execute("SELECT count(*) FROM odb_part").fetchone() == (0,)
 
 
 @pytest.mark.parametrize("kind", ["full", "write", "sync"])
@@ -145,43 +146,40 @@ def test_nothing_is_kept_after_a_failure(tmp_path, monkeypatch, kind):
             async with journals.journal(b"x", FIRST) as journal:
                 journal.write(Start("a"))
                 await journal.sync()
-                execute = sqlite3.Connection.execute
-                if kind == "full":
-                    journals.store._to_write.close
-                    await journals.store._run(journals.store._writer, full, journals.store._to_write)
-                else:
-                    real = journals.store._to_write
-                    journals.store._to_write = Failing(real, kind)
+                store = journals.store
+                await store._run(store._writer, FAILURES[kind], store._to_write, True)
                 journal.write(Report("a", 200, {}, b"1" * 200_000))
                 for _ in range(2):
                     with pytest.raises(OSError):
                         await journal.sync()
-                if kind == "full":
-                    await journals.store._run(journals.store._writer, execute, journals.store._to_write,
-                                              "PRAGMA max_page_count = 1000000")  # fmt: skip
-                else:
-                    journals.store._to_write = real
+                await store._run(store._writer, FAILURES[kind], store._to_write, False)
             await soon(lambda: not journals._releases)
             assert await events_of(journals) == [Start("a")]
 
     asyncio.run(run())
 
 
-def full(connection):
+def fill(connection, fails):
+    """Gives the file no page more than it has, or many."""
     (count,) = connection.execute("PRAGMA page_count").fetchone()
-    connection.execute(f"PRAGMA max_page_count = {count}")
+    connection.execute(f"PRAGMA max_page_count = {count if fails else 1_000_000}")
 
 
-class Failing:
-    """A connection that fails where it writes, or where it commits."""
+def deny(action, *of):
+    """What has a connection refuse a step of SQLite, or no more."""
 
-    def __init__(self, real, kind):
-        self.real, self.kind = real, kind
+    def change(connection, fails):
+        wanted = (action, *of) if fails else ()
+        connection.set_authorizer(
+            lambda *given: sqlite3.SQLITE_DENY if wanted and given[: len(wanted)] == wanted else sqlite3.SQLITE_OK
+        )
 
-    def execute(self, words, *given):
-        if words.startswith("INSERT" if self.kind == "write" else "COMMIT"):
-            raise sqlite3.OperationalError("disk I/O error")
-        return self.real.execute(words, *given)
+    return change
+
+
+FAILURES = {
+    "full": fill, "write": deny(sqlite3.SQLITE_INSERT, "odb_part"), "sync": deny(sqlite3.SQLITE_TRANSACTION, "COMMIT"),
+}  # fmt: skip
 
 
 def test_a_size_that_the_folder_may_have(tmp_path):

@@ -1,12 +1,13 @@
 """What stores keep of batches: the kit for any of them, and journals over both."""
 
 import asyncio
+import contextlib
 
 import pytest
 
 from odb_batch import Refusal, Report, ReportUnit, Start
 from odb_batch.journals import SqliteStore, store_of
-from odb_batch.journals._encoding import encode_events
+from odb_batch.journals._encoding import PIECE, encode_events
 from odb_batch.journals.testing import CHECKS
 from support.journals import EVENTS, FIRST, LEASE, events_of, opened, parts_of, soon, written
 
@@ -134,6 +135,97 @@ def test_an_answer_is_kept_soon_while_another_one_is_waited_for(place):
                 journal.write(Report("a", 200, {}, b"1"))
                 await soon(lambda: journals.parts == 2)
                 assert b'{"report":[["a"' in (await parts_of(journals))[1].text
+
+    asyncio.run(run())
+
+
+LONG = Report("a", 200, {}, b"1" * 2 * PIECE)
+
+
+async def broken_off(journals, monkeypatch, events, count):
+    """Writes events, of whose last text only so many pieces are kept, as if the process had ended then."""
+    async with journals.journal(b"x", FIRST) as journal:
+        for event in events[:-1]:
+            journal.write(event)
+            await journal.sync()
+        append, given = journals.store.append, []
+
+        async def ending(parts):
+            given.extend(parts)
+            if len(given) > count:
+                raise OSError("it has ended")
+            return await append(parts)
+
+        with monkeypatch.context() as patched:
+            patched.setattr(journals.store, "append", ending)
+            journal.write(events[-1])
+            with pytest.raises(OSError, match="it has ended"):
+                await journal.sync()
+            assert not journal.has_kept or len(events) > 1
+    await soon(lambda: not journals._releases)
+    return given
+
+
+@pytest.mark.parametrize("count", [0, 1, 2])
+def test_a_text_whose_last_piece_is_not_kept_is_left_out(place, monkeypatch, count):
+    async def run():
+        async with opened(place) as one, opened(place) as other:
+            await broken_off(one, monkeypatch, [Start("a"), LONG], count)
+            parts = await parts_of(other)
+            assert [len(it.text) == PIECE for it in parts] == [False] + [True] * count + [False]
+            assert [it.is_open for it in parts] == [True] * (1 + count) + [False]
+            assert await written(other, [LONG]) == [Start("a")]
+            assert await events_of(one) == [Start("a"), LONG]
+
+    asyncio.run(run())
+
+
+def test_a_batch_whose_first_text_was_broken_off_begins_anew(place, monkeypatch):
+    async def run():
+        async with opened(place) as one, opened(place) as other:
+            await broken_off(one, monkeypatch, [LONG], 1)
+            assert await written(other, EVENTS[:2]) == []
+            assert await events_of(one) == EVENTS[:2]
+            with pytest.raises(Refusal) as error:
+                await events_of(one, first=FIRST[:-2] + b" }\n")
+            assert status_of(error) == 422
+
+    asyncio.run(run())
+
+
+def test_others_wait_while_pieces_are_kept(place, monkeypatch):
+    """A request is out until the last piece of its answer is kept."""
+    async def run():
+        async with opened(place) as one, opened(place) as other:
+            async with one.journal(b"x", FIRST) as journal:
+                journal.write(Start("a"))
+                await journal.sync()
+                append, statuses = one.store.append, []
+
+                async def asking(parts):
+                    with contextlib.suppress(Refusal):
+                        await events_of(other)
+                        statuses.append(200)
+                    return await append(parts)
+
+                monkeypatch.setattr(one.store, "append", asking)
+                journal.write(LONG)
+                await journal.sync()
+                monkeypatch.undo()
+                assert statuses == [] and len(await parts_of(other)) == 4
+            assert await events_of(other) == [Start("a"), LONG]
+
+    asyncio.run(run())
+
+
+def test_a_text_as_long_as_its_pieces(place):
+    async def run():
+        async with opened(place) as journals:
+            size = len(b"".join(encode_events([Report("a", 200, {}, b"1" * PIECE)]))) - PIECE
+            exact = Report("a", 200, {}, b"1" * (2 * PIECE - size))
+            await written(journals, [Start("a"), exact])
+            assert [len(it.text) for it in await parts_of(journals)][1:] == [PIECE, PIECE, 0]
+            assert await events_of(journals) == [Start("a"), exact]
 
     asyncio.run(run())
 

@@ -9,7 +9,7 @@ import pytest
 from odb_batch import Refusal, Report, Start
 from odb_batch.journals import Late, SqliteStore
 from odb_batch.journals import _journals as journals_module
-from odb_batch.journals._encoding import digest
+from odb_batch.journals._encoding import PIECE, digest
 from support.cuts import Cut
 from support.journals import EVENTS, FIRST, LEASE, events_of, opened, parts_of, soon, stop_renewing, written
 
@@ -177,9 +177,13 @@ def test_a_long_text_keeps_no_short_one_waiting(place, monkeypatch):
 
 def test_pieces_of_a_long_text_take_turns_with_short_ones(tmp_path, monkeypatch):
     """SQLite has one writer."""
-    done, append, append_piece = [], SqliteStore._append, SqliteStore._append_piece
-    monkeypatch.setattr(SqliteStore, "_append", lambda *given: (done.append("part"), append(*given))[1])
-    monkeypatch.setattr(SqliteStore, "_append_piece", lambda *given: (done.append("piece"), append_piece(*given))[1])
+    done, write = [], SqliteStore._write
+
+    def writing(store, words, rows):
+        done.append("piece" if len(rows[0][-1]) == PIECE else "part")
+        return write(store, words, rows)
+
+    monkeypatch.setattr(SqliteStore, "_write", writing)
 
     async def run():
         async with opened(str(tmp_path)) as journals:
@@ -227,7 +231,7 @@ def test_a_second_try_sees_what_it_has_waited_for(schema):
             first = "INSERT INTO odb_part VALUES ($1, 0, $2, 1, true, now(), $3)"
             await connection.execute(first, batch, holder, b"")
             async with journals.journal(b"x", FIRST) as journal:
-                assert journal._mark == (holder, 1)
+                assert journal._writer == 1
                 journal.write(Start("a"))
                 syncing = asyncio.ensure_future(journal.sync())
                 waits = "SELECT count(*) FROM pg_locks WHERE NOT granted"

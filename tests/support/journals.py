@@ -79,14 +79,14 @@ def count_at(place):
     if not os.path.exists(path):
         return 0
     with contextlib.closing(sqlite3.connect(path)) as connection:
-        return connection.execute("SELECT count(DISTINCT batch) FROM part").fetchone()[0]
+        return connection.execute("SELECT count(DISTINCT batch) FROM odb_part").fetchone()[0]
 
 
 def age(place, seconds):
     """Has all that is kept in a folder been written so many seconds earlier."""
     with contextlib.closing(sqlite3.connect(os.path.join(place, "journal.sqlite"))) as connection:
         with connection:
-            connection.execute("UPDATE part SET at = at - ?", (seconds,))
+            connection.execute("UPDATE odb_part SET at = at - ?", (seconds,))
 
 
 async def soon(condition):

@@ -21,7 +21,7 @@ from ._failures import error_code
 from ._log import BATCH, log_line, trace_id
 from ._metrics import Counts, Metrics
 from ._options import Options
-from ._repeatability import AHEAD, Repeatability
+from ._repeatability import AHEAD, FIRST_SENT, Repeatability
 from ._upstream import UpstreamClient
 
 # For how many seconds the body of a batch is waited for.
@@ -218,17 +218,17 @@ class Gateway:
         self._require_running()
         if self._counts.batches_running >= self._options.batches:
             raise Refusal(503, "Busy", "There are as many batches as may be at once", retry_after="1")
-        repeatable = self._repeatability.read(headers)
+        name = self._repeatability.read(headers)
         self._counts.batches_running += 1
         try:
             document = await self._read(request, budget)
             self._require_running()
-            if self._journals is not None and repeatable is not None:
+            if self._journals is not None and name is not None:
                 same = (request.path, str(self._options.groups == "forward"), headers.get("prefer", ""))
-                parts = {"sender": digest(*map(str.encode, same)), "sent": repeatable.first_sent}
+                parts = {"sender": digest(*map(str.encode, same)), "sent": headers[FIRST_SENT]}
                 first = identity(batch=digest(document), mode=batch.mode, **parts)
-                opening = self._journals.journal(repeatable.key, first, budget.hold)
-                return await self._continue(digest(repeatable.key), opening, document, batch)
+                opening = self._journals.journal(name, first, budget.hold)
+                return await self._continue(digest(name), opening, document, batch)
             upstream, client = self._upstream, request.protocol
             return await batch.perform(document, None, lambda: upstream.is_stopping or client.transport is None)
         finally:

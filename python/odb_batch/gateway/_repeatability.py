@@ -2,19 +2,14 @@
 
 import time
 from email.utils import format_datetime, parsedate_to_datetime
-from typing import Callable, Mapping, NamedTuple, Optional
+from typing import Callable, Mapping, Optional
 
-from ..http.messages import Refusal
+from ..http.messages import rejection
 from ._options import Options
 
 ID, FIRST_SENT = "repeatability-request-id", "repeatability-first-sent"
 #: By how many seconds the clock of a client may be ahead. Journals are kept so much longer.
 AHEAD = 300.0
-
-
-def rejection(status: int, code: str, message: str) -> Refusal:
-    """Returns the refusal of a batch because of the headers by which it may be sent again."""
-    return Refusal(status, code, message, repeatability_result="rejected")
 
 
 def http_date_seconds(date: str) -> Optional[float]:
@@ -24,18 +19,6 @@ def http_date_seconds(date: str) -> Optional[float]:
         return moment.timestamp() if format_datetime(moment, usegmt=True) == date else None
     except (IndexError, OverflowError, TypeError, ValueError):
         return None
-
-
-class Repeatable(NamedTuple):
-    """What a client says of a batch that may be sent again.
-
-    Attributes:
-        key: Who it is, and the id: the name of the batch.
-        first_sent: When it has sent the batch for the first time, as it has written that.
-    """
-
-    key: bytes
-    first_sent: str
 
 
 class Repeatability:
@@ -49,8 +32,9 @@ class Repeatability:
     def __init__(self, options: Options, now: Callable[[], float] = time.time) -> None:
         self._options, self._now = options, now
 
-    def read(self, headers: Mapping[str, str]) -> Optional[Repeatable]:
-        """Returns what the headers of a batch say; None if they do not ask for it.
+    def read(self, headers: Mapping[str, str]) -> Optional[bytes]:
+        """Returns by which name a batch may be sent again: who its client is, and the id; None if the headers do not ask
+        for it.
 
         Raises:
             Refusal: There is no journal (501). The id, the date or the client is missing or none (400). The batch would
@@ -65,7 +49,7 @@ class Repeatability:
             raise rejection(501, "NotRepeatable", "There is no journal here, so a batch cannot be repeated")
         self._require_kept(date or "")
         client = self._client(headers).encode()
-        return Repeatable(b"%d:%s%s" % (len(client), client, request_id.encode()), date or "")
+        return b"%d:%s%s" % (len(client), client, request_id.encode())
 
     def _require_kept(self, date: str) -> None:
         moment = http_date_seconds(date)

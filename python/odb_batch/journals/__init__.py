@@ -21,12 +21,10 @@ __all__ = [
     "digest", "identity", "store_of",
 ]  # fmt: skip
 
-_SCHEMES = ("postgresql://", "postgres://")
-
 
 def is_database(place: str) -> bool:
     """Returns whether a place is one of PostgreSQL, not a folder."""
-    return place.startswith(_SCHEMES)
+    return place.startswith(("postgresql://", "postgres://"))
 
 
 def store_of(place: str, lease: float = 15.0, most: int = MOST_BYTES) -> Store:

@@ -4,12 +4,18 @@ reports come as they are.
 
 import hashlib
 import json
-from typing import Any, Dict, List, Sequence, Tuple
+from itertools import groupby
+from typing import Any, Sequence
 
 from ..documents.encoding import Report, Start
 from ..driver.journal import JournalEvent, ReportUnit, StartUnit, Stop
+from ..http.messages import rejection
+from ._stores import Part
 
 _ENCODER = json.JSONEncoder(separators=(",", ":"))
+#: A text with as many bytes goes on in the next part: a longer one is kept in pieces, between which others have their turn.
+PIECE = 262_144
+_DAMAGED = "the journal of the batch is damaged"
 
 
 def identity(**parts: str) -> bytes:
@@ -22,26 +28,37 @@ def digest(*texts: bytes) -> str:
     return hashlib.sha256(b"".join(b"%d:%s" % (len(text), text) for text in texts)).hexdigest()
 
 
-def encode_events(events: Sequence[JournalEvent]) -> List[bytes]:
+def join_texts(parts: Sequence[Part]) -> bytes:
+    """Returns what parts keep, without what a writer has broken off; raises ValueError if one is missing."""
+    if [part.number for part in parts] != [*range(len(parts))]:
+        raise ValueError("a part of the batch is missing")
+    whole: list[bytes] = []
+    for _, written in groupby(parts, key=lambda part: part.mark):
+        texts = [part.text for part in written]
+        while texts and len(texts[-1]) == PIECE:
+            texts.pop()
+        whole += texts
+    return b"".join(whole)
+
+
+def encode_events(events: Sequence[JournalEvent]) -> list[bytes]:
     """Returns the text of some events: their line, and the bodies of their reports, which are not copied."""
-    bodies: List[bytes] = []
-    line = _ENCODER.encode([_members(event, bodies) for event in events])
+    reports = [reports_of(event) for event in events]
+    line = _ENCODER.encode([_members(event, its) for event, its in zip(events, reports)])
+    bodies = [report.body for its in reports for report in its if report.body is not None]
     return [line.encode(), b"\n", *bodies]
 
 
-def _members(event: JournalEvent, bodies: List[bytes]) -> Dict[str, Any]:
-    """Returns what a line has of an event; adds the bodies of its reports to those of the others."""
+def _members(event: JournalEvent, reports: Sequence[Report]) -> dict[str, Any]:
+    """Returns what a line has of an event with these reports."""
     if isinstance(event, (Start, StartUnit)):
         return {"start": event.id if isinstance(event, Start) else event.ids}
     if isinstance(event, Stop):
         return {"stop": True}
-    heads = []
-    for report in reports_of(event):
-        size = None
-        if report.body is not None:
-            bodies.append(bytes(report.body))
-            size = len(bodies[-1])
-        heads.append((report.id, report.status, dict(report.headers or {}), size))
+    heads = [
+        (report.id, report.status, dict(report.headers or {}), None if report.body is None else len(report.body))
+        for report in reports
+    ]
     return {"report" if isinstance(event, Report) else "unit": heads}
 
 
@@ -50,10 +67,18 @@ def reports_of(event: JournalEvent) -> Sequence[Report]:
     return event.reports if isinstance(event, ReportUnit) else (event,) if isinstance(event, Report) else ()
 
 
-def decode_events(text: bytes) -> List[JournalEvent]:
-    """Returns the events of a text; raises ValueError if it is damaged."""
-    events: List[JournalEvent] = []
-    at = 0
+def decode_batch(first: bytes, text: bytes) -> list[JournalEvent]:
+    """Returns the events of a batch; raises Refusal if it has another first line (422), or ValueError if it is damaged."""
+    if not text.startswith(first):
+        if not text.startswith(b"{"):
+            raise ValueError(_DAMAGED)
+        raise rejection(422, "AnotherBatch", "The Repeatability-Request-ID is that of another batch")
+    return decode_events(text, len(first))
+
+
+def decode_events(text: bytes, at: int = 0) -> list[JournalEvent]:
+    """Returns the events of a text from a place on; raises ValueError if it is damaged."""
+    events: list[JournalEvent] = []
     try:
         while at < len(text):
             end = text.index(b"\n", at) + 1
@@ -64,24 +89,25 @@ def decode_events(text: bytes) -> List[JournalEvent]:
                 event, at = _decode_event(members, text, at)
                 events.append(event)
     except (ValueError, KeyError, TypeError, RecursionError):
-        raise ValueError("the journal of the batch is damaged") from None
+        raise ValueError(_DAMAGED) from None
     return events
 
 
-def _decode_event(members: Dict[str, Any], text: bytes, at: int) -> Tuple[JournalEvent, int]:
+def _decode_event(members: dict[str, Any], text: bytes, at: int) -> tuple[JournalEvent, int]:
     """Returns an event whose bodies begin at a place of the text, and the place after them."""
     if "start" in members:
         start = members["start"]
         return Start(start) if isinstance(start, str) else StartUnit(tuple(map(str, start))), at
     if "stop" in members:
         return Stop(), at
-    reports = []
-    for request_id, status, headers, size in members["unit" if "unit" in members else "report"]:
+    reports: list[Report] = []
+    is_unit = "unit" in members
+    for request_id, status, headers, size in members["unit" if is_unit else "report"]:
         if size is not None and not 0 <= size <= len(text) - at:
             raise ValueError
         reports.append(Report(str(request_id), status, headers, None if size is None else text[at : at + size]))
         at += size or 0
-    if "unit" in members:
+    if is_unit:
         return ReportUnit(tuple(reports)), at
-    (report,) = reports
+    [report] = reports
     return report, at

@@ -2,13 +2,13 @@
 
 import asyncio
 import contextlib
-from typing import TYPE_CHECKING, List, Optional, Sequence, Set
+from typing import TYPE_CHECKING, Iterator, Optional, Sequence
 
-from ..documents.encoding import Start
+from ..documents.encoding import Report, Start
 from ..driver.journal import JournalEvent, StartUnit
 from ..http.messages import Refusal
-from ._encoding import decode_events, encode_events, reports_of
-from ._stores import NOBODY, Late, Mark, Part, clock
+from ._encoding import PIECE, decode_batch, encode_events, join_texts, reports_of
+from ._stores import NOBODY, Late, Part, clock
 
 if TYPE_CHECKING:
     from ._journals import Journals
@@ -32,38 +32,38 @@ class StoreJournal:
     Attributes:
         batch: The name of the batch in the store.
         events: What has happened before.
-        has_kept: Whether something was kept since it was opened. Before that nothing was sent but GETs.
+        has_kept: Whether a text was kept since it was opened. Before that nothing was sent but GETs.
         size: About how many bytes no part has yet.
         failure: Why nothing more is appended: another one has the batch, or it is not known what was kept.
-        append: The end of the append that has begun, or is waited for; None if there is none.
     """
 
-    def __init__(self, owner: "Journals", batch: bytes, first: bytes, parts: Sequence[Part]) -> None:
-        self._owner, self.batch, self.events = owner, batch, _decode_events(first, parts)
+    def __init__(self, owner: "Journals", batch: bytes, parts: Sequence[Part], first: bytes = b"") -> None:
+        text = join_texts(parts) if parts else b""
+        self._owner, self.batch, self.events = owner, batch, decode_batch(first, text) if text and first else []
         # What no part has yet.
-        self._text, self._new = b"" if parts else first, []  # type: bytes, List[JournalEvent]
+        self._text, self._new = b"" if text else first, []  # type: bytes, list[JournalEvent]
         self.size = 0
-        # How many parts are kept, and how many have begun; and who has written the last one that is kept.
-        self._kept = self._begun = len(parts)
+        # How many texts are kept, and how many have begun, with those that were there.
+        self._kept = self._begun = self._number = len(parts)
         self._after = parts[-1].mark if parts else NOBODY
         self._lease = self._next_lease = owner.store.lease
-        self._mark: Mark = (self._lease.holder, next(owner.writers))
+        self._writer = next(owner.writers)
         # Which requests are out, and which were.
-        self._out: Set[str] = set()
+        self._out: set[str] = set()
         for event in self.events:
             self._note(event)
         self._was_out = frozenset(self._out)
-        self._is_open = self._is_left = self.has_kept = False
+        # Whether others have to wait, because of what is kept or on its way.
+        self._is_open = bool(parts) and parts[-1].is_open and self._after[0] == self._lease.holder
+        self.has_kept = False
         self.failure: Optional[Exception] = None
         self._timer: Optional[asyncio.TimerHandle] = None
-        self.append: Optional[asyncio.Event] = None
 
     def write(self, event: JournalEvent) -> None:
         """Appends an event; raises what has failed before."""
         self._require()
         self._new.append(event)
-        self._note(event)
-        for report in reports_of(event):
+        for report in self._note(event):
             self.size += _HEAD + len(report.body or b"")
             if report.id in self._was_out:
                 self._owner.lost += report.status == 500 and b'"Lost"' in (report.body or b"")
@@ -71,11 +71,14 @@ class StoreJournal:
                 with contextlib.suppress(RuntimeError):  # what is lost is written by another thread, and synced at once
                     self._timer = asyncio.get_running_loop().call_later(_SOON, self._flush)
 
-    def _note(self, event: JournalEvent) -> None:
+    def _note(self, event: JournalEvent) -> Sequence[Report]:
+        """Notes what is out after an event; returns its reports."""
         if isinstance(event, (Start, StartUnit)):
             self._out.update(event.ids if isinstance(event, StartUnit) else (event.id,))
-        else:
-            self._out.difference_update(report.id for report in reports_of(event))
+            return ()
+        reports = reports_of(event)
+        self._out.difference_update([report.id for report in reports])
+        return reports
 
     def _flush(self) -> None:
         """Keeps an answer that the process might else lose while the batch waits for another one."""
@@ -97,7 +100,7 @@ class StoreJournal:
             await self._owner.store.confirm()
 
     async def _keep(self, count: int) -> None:
-        """Returns once so many parts are kept."""
+        """Returns once so many texts are kept."""
         while self._kept < count:
             self._require()  # after a failure the same number must not have another text
             await self._owner.flush(self).wait()
@@ -125,61 +128,35 @@ class StoreJournal:
 
     # The append
 
-    def next_part(self) -> Part:
-        """Returns what no part has yet, maybe nothing; `end_append` says what has become of it."""
+    def next_parts(self) -> Iterator[Part]:
+        """Yields what keeps all that no part has yet, maybe nothing; `end_append` says what has become of it."""
         text = b"".join([self._text, *(encode_events(self._new) if self._new else ())])
         self._text, self._new, self.size = b"", [], 0
-        self._next_lease = self._owner.store.lease
-        self._mark = (self._next_lease.holder, self._mark[1])
-        self._is_open = bool(self._out) and not self._is_left
-        self._begun += 1
-        return Part(self.batch, self._kept, self._mark, self._after, self._is_open, text)
+        self._begun, self._next_lease = self._begun + 1, self._owner.store.lease
+        self._is_open = bool(self._out)
+        mark = self._next_lease.holder, self._writer
+        for at in range(0, len(text) + 1, PIECE):  # the last piece is shorter, and may be empty
+            is_open = self._is_open or at + PIECE <= len(text)
+            yield Part(self.batch, self._number, mark, self._after, is_open, text[at : at + PIECE])
+            self._number, self._after = self._number + 1, mark
 
     def end_append(self, error: Optional[Exception]) -> None:
-        """Notes that the part is kept; or why all that comes is refused: another one has the batch, or it is not known
-        whether the part is kept, and the next one would have its number."""
+        """Notes that the text is kept; or why all that comes is refused: another one has the batch, or it is not known
+        whether a part is kept, and the next one would have its number."""
         self.failure = error
         if error is None:
-            self._kept, self._after = self._kept + 1, self._mark
             # Not before: what was started under another lease may have been taken over.
-            self._lease, self.has_kept = self._next_lease, True
-        append, self.append = self.append, None
-        if append is not None:
-            append.set()
+            self._kept, self._lease, self.has_kept = self._kept + 1, self._next_lease, True
 
     # The end
 
     def leave(self) -> bool:
         """Ends the journal; returns whether others have to be let on, as something is out or not kept."""
-        self._is_left = True
+        self._out.clear()
         if self._timer is not None:
             self._timer.cancel()
-        if self.failure is not None:
-            return not isinstance(self.failure, Refusal)
-        return self._is_open or bool(self._new)
+        return self._is_open or self._kept < self._begun or bool(self._new) or self.failure is not None
 
     async def end(self) -> None:
-        """Keeps what is written, and that nothing is out any more; raises what has failed."""
+        """Keeps what is written, and that others may go on; raises what has failed."""
         await self._keep(self._begun + 1)
-
-    def has_written(self, part: Part) -> bool:
-        """Returns whether a part is of this journal, also one that was not known to be kept."""
-        return part.mark in (self._mark, self._after)
-
-
-def _decode_events(first: bytes, parts: Sequence[Part]) -> List[JournalEvent]:
-    """Returns the events of a batch; raises Refusal if they are those of another one (422), or ValueError if damaged."""
-    events: List[JournalEvent] = []
-    for number, part in enumerate(parts):
-        if part.number != number:
-            raise ValueError("a part of the batch is missing")
-        text = part.text
-        if number == 0:
-            if not text.startswith(b"{"):
-                raise ValueError("the journal of the batch is damaged")
-            if not text.startswith(first):
-                message = "The Repeatability-Request-ID is that of another batch"
-                raise Refusal(422, "AnotherBatch", message, repeatability_result="rejected")
-            text = text[len(first) :]
-        events.extend(decode_events(text))
-    return events

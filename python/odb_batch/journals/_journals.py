@@ -4,16 +4,16 @@ import asyncio
 import contextlib
 import itertools
 from collections import deque
-from typing import AsyncIterator, Awaitable, Callable, Coroutine, Deque, Iterator, List, Set, Tuple
+from typing import AsyncIterator, Awaitable, Callable, Coroutine, Iterator
 
 from ..http.messages import LOG, Refusal
+from ._encoding import PIECE, digest
 from ._journal import StoreJournal, in_progress
-from ._encoding import digest
 from ._stores import Hold, Part, Store, clock
 
 # After so many bytes, or with so many parts, no further part is appended at once.
 _MOST_BYTES, _MOST_PARTS = 1_048_576, 256
-# A part with more bytes keeps no others waiting: it goes beside them.
+# What has more bytes keeps no others waiting: it goes beside them.
 _LONG = 65_536
 # How often a lease is renewed in its time.
 _RENEWALS = 5
@@ -24,6 +24,7 @@ _PRUNE_SECONDS, _PRUNED_WHILE_KEPT = 60.0, 24
 # For how many seconds a batch has to have been too old before it is removed, unless it is kept for less: the clock may
 # be wrong when the machine starts.
 _PATIENCE = 3_600.0
+_Waiting = asyncio.Queue[StoreJournal]
 
 
 class Journals:
@@ -50,11 +51,13 @@ class Journals:
     ) -> None:
         self.store, self._keep, self._ahead, self._steady = store, keep, ahead, steady
         self.writers = itertools.count(1)
-        self._active: Set[bytes] = set()
-        self._tasks: "Set[asyncio.Task[None]]" = set()
-        self._releases: "Set[asyncio.Task[None]]" = set()
+        self._active: set[bytes] = set()
+        # What is set at the end of the append of a journal that has begun, or is waited for.
+        self._appends: dict[StoreJournal, asyncio.Event] = {}
+        self._tasks: "set[asyncio.Task[None]]" = set()
+        self._releases: "set[asyncio.Task[None]]" = set()
         # What the clocks have shown: that nobody sets, and that of the store.
-        self._shown: Deque[Tuple[float, float]] = deque()
+        self._shown: deque[tuple[float, float]] = deque()
         self._is_open = False
         self.appends = self.parts = self.bytes = self.refused = self.lost = 0
         self.seconds = 0.0
@@ -74,28 +77,25 @@ class Journals:
             self._spawn(self._open_later(), self._tasks)
 
     async def _open_later(self) -> None:
-        while not self._is_open:
-            await asyncio.sleep(_AGAIN)
-            try:
-                await self._start()
-            except ConnectionError:
-                pass
-            except OSError as error:
-                LOG.error("the journal cannot be used: %s", error)
-                return None if self.broken.done() else self.broken.set_exception(error)
+        try:
+            while not self._is_open:
+                await asyncio.sleep(_AGAIN)
+                with contextlib.suppress(ConnectionError):
+                    await self._start()
+        except OSError as error:
+            LOG.error("the journal cannot be used: %s", error)
+            self.broken.set_exception(error)
 
     async def _start(self) -> None:
         await self.store.open()
         self._is_open = True
-        self._short: "asyncio.Queue[StoreJournal]" = asyncio.Queue()
-        self._long: "asyncio.Queue[StoreJournal]" = asyncio.Queue()
+        self._short, self._long = asyncio.Queue(), asyncio.Queue()  # type: _Waiting, _Waiting
         for waiting in [self._long, *[self._short] * self.store.width]:
             self._spawn(self._append_waiting(waiting), self._tasks)
         often = min(max(_PRUNE_SECONDS, self._keep / _PRUNED_WHILE_KEPT), self._keep)
         self._spawn(self._repeat(often, self.prune, "old journals cannot be removed"), self._tasks)
-        lease = self.store.lease.seconds
-        if lease < float("inf"):
-            self._spawn(self._repeat(lease / _RENEWALS, self.store.renew, "the lease is not renewed"), self._tasks)
+        often = self.store.lease.seconds / _RENEWALS
+        self._spawn(self._repeat(often, self.store.renew, "the lease is not renewed"), self._tasks)
 
     async def _repeat(self, seconds: float, work: Callable[[], Awaitable[None]], failure: str) -> None:
         """Does something again and again."""
@@ -117,7 +117,7 @@ class Journals:
         if self._is_open:
             await self.store.close()
 
-    def _spawn(self, work: "Coroutine[None, None, None]", tasks: "Set[asyncio.Task[None]]") -> None:
+    def _spawn(self, work: "Coroutine[None, None, None]", tasks: "set[asyncio.Task[None]]") -> None:
         task = asyncio.ensure_future(work)
         tasks.add(task)  # the loop alone would not keep it
         task.add_done_callback(tasks.discard)
@@ -125,9 +125,7 @@ class Journals:
     # Opening
 
     @contextlib.asynccontextmanager
-    async def journal(
-        self, name: bytes, first: bytes, hold: Hold = lambda size: None
-    ) -> AsyncIterator[StoreJournal]:
+    async def journal(self, name: bytes, first: bytes, hold: Hold = lambda size: None) -> AsyncIterator[StoreJournal]:
         """Opens the journal of a batch. Whoever keeps its next event has the batch.
 
         Args:
@@ -143,10 +141,17 @@ class Journals:
         batch = bytes.fromhex(digest(name))
         if batch in self._active:
             raise in_progress()
+        if not self._is_open:
+            raise OSError("the journal was not reached yet")
         self._active.add(batch)
         with contextlib.ExitStack() as ends:
             ends.callback(self._active.discard, batch)
-            journal = StoreJournal(self, batch, first, await self._read(batch, hold))
+            parts = await self.store.read(batch, hold)
+            # What this process has open and does not perform any more was left open by a failure.
+            holder = parts[-1].mark[0] if parts and parts[-1].is_open else self.store.lease.holder
+            if holder != self.store.lease.holder and not await self.store.is_over(holder):
+                raise in_progress()
+            journal = StoreJournal(self, batch, parts, first)
             try:
                 yield journal
             finally:
@@ -154,23 +159,13 @@ class Journals:
                     ends.pop_all()  # it is active until it is released
                     self._spawn(self._release(journal), self._releases)
 
-    async def _read(self, batch: bytes, hold: Hold) -> List[Part]:
-        if not self._is_open:
-            raise OSError("the journal was not reached yet")
-        parts = await self.store.read(batch, hold)
-        if parts and parts[-1].is_open:
-            holder, _ = parts[-1].mark
-            # What this process has open and does not perform any more was left open by a failure.
-            if holder != self.store.lease.holder and not await self.store.is_over(holder):
-                raise in_progress()
-        return parts
-
     async def _release(self, journal: StoreJournal) -> None:
         """Lets others go on with a batch that is left open: else they would wait for as long as the process lives."""
         while True:
             try:
-                if await self._is_released(journal):
-                    return
+                if journal.failure is not None:  # it is not known what is kept
+                    journal = StoreJournal(self, journal.batch, await self.store.read(journal.batch, lambda size: None))
+                return await journal.end() if journal.leave() else None
             except (OSError, Refusal) as error:
                 LOG.error("a batch is left open: %s", error)
             finally:
@@ -180,27 +175,16 @@ class Journals:
                 return
             self._active.add(journal.batch)
 
-    async def _is_released(self, journal: StoreJournal) -> bool:
-        if journal.failure is None:
-            await journal.end()
-            return True
-        parts = await self.store.read(journal.batch, lambda size: None)
-        if not parts or not parts[-1].is_open or not journal.has_written(parts[-1]):
-            return True
-        mark = parts[-1].mark
-        part = Part(journal.batch, len(parts), (mark[0], next(self.writers)), mark, False, b"")
-        return bool(await self.store.append([part]))
-
     # Appending
 
     def flush(self, journal: StoreJournal) -> asyncio.Event:
         """Returns what is set at the end of the next append of a journal, or of the one that is on its way."""
-        if journal.append is None:
-            journal.append = asyncio.Event()
+        if journal not in self._appends:
+            self._appends[journal] = asyncio.Event()
             (self._long if journal.size > _LONG else self._short).put_nowait(journal)
-        return journal.append
+        return self._appends[journal]
 
-    async def _append_waiting(self, waiting: "asyncio.Queue[StoreJournal]") -> None:
+    async def _append_waiting(self, waiting: _Waiting) -> None:
         """Appends what waits: what has come while others were on their way goes together."""
         while True:
             journals = [await waiting.get()]
@@ -211,21 +195,23 @@ class Journals:
                 size += journals[-1].size
             await self._append(journals)
 
-    async def _append(self, journals: List[StoreJournal]) -> None:
-        began, kept = clock(), set()  # type: float, Set[bytes]
-        failure: Exception = OSError("it was broken off")
+    async def _append(self, journals: list[StoreJournal]) -> None:
+        kept, failure = set(), OSError("it was broken off")  # type: set[bytes], Exception
         try:
-            parts = [journal.next_part() for journal in journals]
-            kept, failure = await self.store.append(parts), in_progress()
-            self.appends, self.parts = self.appends + 1, self.parts + len(parts)
-            self.bytes += sum(len(part.text) for part in parts)
+            for parts in _groups(journals):
+                began = clock()
+                found = await self.store.append(parts)
+                self.appends, self.parts = self.appends + 1, self.parts + len(parts)
+                self.bytes += sum([len(part.text) for part in parts])
+                self.seconds += clock() - began
+            kept, failure = found, in_progress()
             self.refused += len(parts) - len(kept)
-            self.seconds += clock() - began
         except Exception as error:
             failure = error if isinstance(error, OSError) else OSError(f"{type(error).__name__}: {error}")
         finally:
             for journal in journals:
                 journal.end_append(None if journal.batch in kept else failure)
+                self._appends.pop(journal).set()
 
     # Removing
 
@@ -241,7 +227,7 @@ class Journals:
         if self._shown[0][0] <= now - patience:
             await self.store.prune(min(shown for _, shown in self._shown) - self._keep - self._ahead)
 
-    def metrics(self) -> Iterator[Tuple[str, str, float]]:
+    def metrics(self) -> Iterator[tuple[str, str, float]]:
         """Yields the name and the help of each metric, and its value; what ends with _total is a counter."""
         yield "journal_appends_total", "Commits of the journal.", self.appends
         yield "journal_parts_total", "Parts of batches in these; by the commits: how many share one.", self.parts
@@ -251,5 +237,18 @@ class Journals:
         yield "journal_refused_total", "Batches that another gateway has taken over.", self.refused
         yield "journal_lost_total", "Requests that were answered 500 Lost.", self.lost
         if self.store.lease.seconds < float("inf"):
-            left = self.store.lease.deadline - clock()
-            yield "journal_lease_seconds", "What is left of the lease.", round(max(left, 0.0), 3)
+            left = round(max(self.store.lease.deadline - clock(), 0.0), 3)
+            yield "journal_lease_seconds", "What is left of the lease.", left
+
+
+def _groups(journals: list[StoreJournal]) -> Iterator[list[Part]]:
+    """Yields the parts that go together: pieces of long texts alone, and then the last part of each journal, which is
+    refused where one of its pieces was."""
+    ends = []
+    for journal in journals:
+        for part in journal.next_parts():
+            if len(part.text) == PIECE:
+                yield [part]
+            else:
+                ends.append(part)
+    yield ends

@@ -4,10 +4,10 @@ import math
 import secrets
 import time
 from dataclasses import dataclass
-from typing import Any, Callable, Iterable, List, Protocol, Sequence, Set, Tuple
+from typing import Callable, Protocol, Sequence
 
 #: Who has written a part: a holder, and a number of it for each time that it opens a batch.
-Mark = Tuple[int, int]
+Mark = tuple[int, int]
 #: Has written the part before the first one.
 NOBODY: Mark = (0, 0)
 #: Reserves memory for as many bytes, or raises an exception.
@@ -63,14 +63,6 @@ class Part:
     text: bytes
 
 
-def parts_of(batch: bytes, rows: Iterable[Sequence[Any]]) -> List[Part]:
-    """Returns the parts of a batch, in order: the number, the holder, the writer, whether it is open, and the text."""
-    parts: List[Part] = []
-    for number, holder, writer, is_open, text in rows:
-        parts.append(Part(batch, number, (holder, writer), parts[-1].mark if parts else NOBODY, bool(is_open), text))
-    return parts
-
-
 class Store(Protocol):
     """A database with the parts of batches, for one process: :mod:`odb_batch.journals.testing` says whether it is one.
 
@@ -102,11 +94,11 @@ class Store(Protocol):
     async def now(self) -> float:
         """Returns the seconds since 1970 of the clock by which parts have their time."""
 
-    async def read(self, batch: bytes, hold: Hold) -> List[Part]:
+    async def read(self, batch: bytes, hold: Hold) -> list[Part]:
         """Returns the parts of a batch in order, all of one moment. `hold` is called with the size of their texts
         before these are read."""
 
-    async def append(self, parts: Sequence[Part]) -> Set[bytes]:
+    async def append(self, parts: Sequence[Part]) -> set[bytes]:
         """Appends parts of different batches, each if the part before has the mark `after`, and no other part its
         number.
 
