@@ -11,6 +11,16 @@ from ._stage import Shown, Stage
 LISTS = ("get-filtered", "get-listed", "get-filtered", "get-listed")
 
 
+class OneOf:
+    """Any list of one entity."""
+
+    def __eq__(self, other: object) -> bool:
+        return isinstance(other, list) and len(other) == 1
+
+    def __repr__(self) -> str:
+        return "one entity"
+
+
 def read_after_each(stage: Stage, group: Optional[str] = None) -> None:
     """Reads of one entity, with a change between each two of them."""
     subject = stage.subject()
@@ -58,6 +68,15 @@ def list_after_delete(stage: Stage) -> None:
     stage.add("after", "get", url, needs=["drop"], shows=Shown({"value": []}), promise="order")
 
 
+def list_after_create(stage: Stage) -> None:
+    """A list of what has a mark, before it is created and after."""
+    subject = stage.subject(False)
+    url = stage.entities.url_of_marked(subject.entity.mark)
+    stage.add("before", "get", url, shows=Shown({"value": []}), promise="order")
+    stage.act("new", "create", subject, needs=["before"])
+    stage.add("after", "get", url, needs=["new"], shows=Shown({"value": OneOf()}), promise="order")
+
+
 def delete_twice(stage: Stage) -> None:
     subject = stage.subject()
     stage.act("first", "delete", subject)
@@ -94,6 +113,7 @@ CASES = (
     Case("again-create", "alone", "a POST of what is created", create_twice, kind="key", needs=["named"]),
     Case("again-lists", "alone", "lists of one set by different options", together(LISTS), needs=["text", "filter"]),
     Case("again-list", "order", "a list before and after a delete", list_after_delete, needs=["text", "filter"]),
+    Case("again-list-new", "order", "a list before and after a POST", list_after_create, needs=["text", "filter"]),
     Case("again-property", "order", "a property before and after a change", read_property, needs=["patch", "property"]),
     Case("again-delete", "order", "a delete of what is deleted", delete_twice, kind="missing"),
     Case("again-change", "order", "a change, another one, and the first once more", change_twice, needs=["patch"]),

@@ -11,6 +11,10 @@ from ._stage import Stage, Step
 from ._twin import Parts, Taking, Twin, parts_alone
 
 
+# Targets that are no entity, so that none is looked at afterwards, nor removed.
+NAMELESS = ("no set", "count", "value", "null", "decimal", "part")
+
+
 class Asked(NamedTuple):
     """A request of a row, the entity of its own that it is about, and the mark that it writes."""
 
@@ -26,7 +30,7 @@ def make_asked(entities: Entities, row: Row, request_id: str, **where: Any) -> A
     if row.target == "missing" and row.method in ("patch", "put"):
         # such a request creates the entity in some services
         entities.note(url)
-    if row.target in ("found", "found both"):
+    if row.target.startswith("found"):
         url = entities.url_of_marked(entity.mark)
     headers = dict(row.headers)
     if any("{etag}" in value for value in headers.values()):
@@ -34,13 +38,16 @@ def make_asked(entities: Entities, row: Row, request_id: str, **where: Any) -> A
         headers = {name: value.replace("{etag}", tag) for name, value in headers.items()}
     scratch = Stage(entities)
     scratch.add(request_id, row.method, url, BODIES[row.body](entities, entity, mark), headers=headers, **where)
-    return Asked(scratch.steps[0], Entity("", {}) if row.target in ("no set", "count") else entity, mark)
+    return Asked(scratch.steps[0], entity._replace(url="") if row.target in NAMELESS else entity, mark)
 
 
-def with_twin(entities: Entities, own: Asked, first: Asked, second: Asked) -> Step:
-    """The request of a batch, with two others like it: one is sent alone now, and one after the batch."""
+def with_twin(entities: Entities, own: Asked, first: Asked, second: Asked, is_last: bool = True) -> Step:
+    """The request of a batch, with two others like it: one is sent alone now, and one after the batch.
 
-    is_read = own.step.request["method"] == "get"
+    Unless it is the last to change its entity, nobody looks at that afterwards.
+    """
+
+    is_read = own.step.request["method"] == "get" or not is_last
 
     def parts(found: Asked) -> Parts:
         taking = Taking(entities, found.entity, [found.mark], is_read)

@@ -2,16 +2,15 @@
 
 import itertools
 import secrets
-import time
-import uuid
-from functools import partial
-from typing import Any, Callable, Iterator, Mapping, NamedTuple, Optional, Sequence
-from urllib.parse import quote
+from typing import Any, Callable, Mapping, NamedTuple, Optional, Sequence
 
+from ._keys import KEYS, literals
 from ._service import GONE, Reply, Service, Unusable, etag_of
 
 # How many pages of a set are listed, and how many entities of it. A set with more is not listed.
 MAX_PAGES, MAX_LISTED = 100, 5_000
+# What is said where an effect does not show at once.
+BEHIND = "does the service commit after it has answered?"
 
 Listing = dict[str, dict[str, Any]]
 
@@ -39,48 +38,11 @@ class Effect(NamedTuple):
         url: The URL of its entity; empty if that is found by its mark alone.
         is_there: Whether the entity is there afterwards.
         mark: What its text property has then, or None if that says nothing.
-        tag: Its ETag before, in place of which there is another one then; None if that says nothing.
     """
 
     url: str
     is_there: bool
     mark: Any = None
-    tag: Optional[str] = None
-
-
-# What ends a key with characters that a URL escapes.
-ODD_END = "%41 \u00e4"
-# Where keys are looked for that a service does not give: far above those that it counts.
-FAR = (2_000_000_000, 30_000)
-# How often it is looked, within a second, for what was created and cannot be read at once.
-LOOKS, PAUSE = 20, 0.05
-# How many entities are made, read and removed to see whether that shows at once.
-ROUNDS = 8
-BEHIND = "does the service commit after it has answered?"
-
-# Keys that a service may take, and None for one that makes its own: each is tried in turn.
-KEYS: tuple[Callable[[], Any], ...] = (
-    lambda: f"conformance-{secrets.token_hex(6)}",
-    lambda: str(uuid.uuid4()),
-    lambda: secrets.randbelow(2_000_000_000),
-    lambda: None,
-)
-
-
-def keys_far_from(key: Any) -> Iterator[Callable[[], Any]]:
-    """Ways to make keys of the kind of one that a service has given, and that it does not give next."""
-    if isinstance(key, int):
-        for far in FAR:
-            yield partial(next, itertools.count(far - secrets.randbelow(1_000), -7))
-    else:
-        yield from (KEYS[1], KEYS[0])
-
-
-def literals(value: Any) -> Iterator[str]:
-    """How a value may be written in a URL."""
-    if isinstance(value, str):
-        yield quote("'" + value.replace("'", "''") + "'", safe="'")
-    yield quote(str(value), safe="")
 
 
 class Entities:
@@ -90,8 +52,10 @@ class Entities:
         made: The URLs of what may be there, by their addresses.
         left: The URLs of what could not be removed.
         are_named: Whether the client gives the keys. Otherwise the URL of an entity is known once it is made.
+        odd_end: What ends a key with characters that a URL escapes; empty if none may.
         text: The property whose value may be any text or number; None if there is none.
         lacks: What the service does not have, with the reason to print: names of `learning.LACKS`.
+        failures: What requests that fail are answered alone, by names of `failure_kinds.KINDS`.
         before: What the set has besides, if it can be listed.
         spare, lent: What requests read and change, and no request removes; it lasts from case to case.
         has_version: Whether the service says alone which version of OData an answer has.
@@ -107,9 +71,11 @@ class Entities:
         self.left: list[str] = []
         self.new_key: Callable[[], Any] = KEYS[-1]
         self.are_named, self.are_quoted = False, True
+        self.odd_end = ""
         self.text: Optional[str] = None
         self.numbers = itertools.count(secrets.randbelow(8_000) + 1_000)
         self.lacks: dict[str, str] = {}
+        self.failures: dict[str, int] = {}
         self.before: Optional[Listing] = None
         self.spare: list[Entity] = []
         self.lent: list[Entity] = []
@@ -118,65 +84,6 @@ class Entities:
         self.unused: Optional[Callable[[], Any]] = None
         self.removed: set[str] = set()
         self.notes: list[str] = []
-
-    def learn_keys(self) -> None:
-        """Makes one entity, to learn how keys are given and written; raises Unusable if none can be made."""
-        refusals = []
-        for new_key in KEYS:
-            key = new_key()
-            answer = self.post(self.body_with(key))
-            if answer.is_success:
-                value = self.key_of(answer)
-                self.are_named = key is not None and value == key
-                self.new_key = new_key if self.are_named else KEYS[-1]
-                self._learn_to_write(value, answer)
-                if not self.are_named:
-                    self._learn_reuse(value)
-                return
-            refusals.append(answer)
-        raise Unusable(f"{self.set} takes no entity: POST {self.service.root}{self.set} is answered {refusals[-1]}")
-
-    def _learn_to_write(self, value: Any, answer: Reply) -> None:
-        """Finds out how the key of an entity that is there is written in its URL."""
-        urls = [f"{self.set}({literal})" for literal in literals(value)]
-        for url in urls:
-            if self.service.ask("GET", url).is_success:
-                self._note_found(url, answer)
-                self.are_quoted = url == urls[0]
-                return
-        place = f"{self.service.root}{urls[0]}"
-        for _ in range(LOOKS):
-            time.sleep(PAUSE)
-            late = next((url for url in urls if self.service.ask("GET", url).is_success), None)
-            if late is not None:
-                self._note_found(late, answer)
-                raise Unusable(f"{place} was created, and cannot be read at once: {BEHIND}")
-        raise Unusable(f"{place} was created, and cannot be read")
-
-    def _learn_reuse(self, key: Any) -> None:
-        """Finds out whether the key of an entity that is removed is given again, as by an INTEGER PRIMARY KEY of
-        SQLite. What is missing then has a key that is never given."""
-        self._remove(self.url_of(key))
-        entity = self.make()
-        if entity.key != key:
-            return
-        self.notes.append(f"new entities of {self.set} have the keys of removed ones")
-        for new_key in keys_far_from(key):
-            if self.service.ask("GET", self.url_of(new_key())).status in GONE:
-                self.unused = new_key
-                self.notes[-1] += "; what has to be missing has keys far from these"
-                return
-
-    def require_reads(self) -> None:
-        """Raises Unusable unless what is created can be read at once, and what is removed is gone at once."""
-        for _ in range(ROUNDS):
-            entity = self.make()
-            place = f"{self.service.root}{entity.url}"
-            if self.read(entity.url) is None:
-                raise Unusable(f"{place} was created, and cannot be read at once: {BEHIND}")
-            if self._remove(entity.url) and self.read(entity.url) is not None:
-                raise Unusable(f"{place} was deleted, and can be read all the same: {BEHIND}")
-            self.made.pop(self.service.address(entity.url), None)
 
     # Making
 
@@ -200,7 +107,7 @@ class Entities:
 
     def odd_key(self) -> str:
         """A key with characters that a URL escapes, among them a percent sign."""
-        return f"{self.new_key()}{ODD_END}"
+        return f"{self.new_key()}{self.odd_end}"
 
     def fresh(self, key: Any = None) -> Entity:
         """An entity that is not there yet, for a batch to create, with a key if that is given."""
@@ -224,7 +131,7 @@ class Entities:
             raise Unusable(f"POST {self.service.root}{self.set} is answered {answer}, and was answered 2xx before")
         key = entity.key if self.are_named else self.key_of(answer)
         url = entity.url or self.url_of(key)
-        self._note_found(url, answer)
+        self.note_found(url, answer)
         return entity._replace(url=url, key=key)
 
     def borrow(self) -> Entity:
@@ -257,7 +164,7 @@ class Entities:
             key, mark = self.unused(), self.new_mark()
             return Entity(self.url_of(key), self.body_with(None, mark), key, mark)
         entity = self.make()
-        self._remove(entity.url)
+        self.remove(entity.url)
         return entity
 
     def hold_keys(self) -> None:
@@ -280,7 +187,8 @@ class Entities:
 
     def url_of_marked(self, mark: Any) -> str:
         """The URL of the entities that have a mark, by a query option."""
-        return f"{self.set}?$filter={self.text}%20eq%20{next(literals(mark))}"
+        literal = next(literals(mark)).replace("+", "%2B")
+        return f"{self.set}?$filter={self.text}%20eq%20{literal}"
 
     def key_of(self, answer: Reply) -> Any:
         """The key of an entity that was created, by its representation, or by what its Location shows."""
@@ -304,6 +212,12 @@ class Entities:
         """The ETag of the entity at a URL, by a plain request; None if it has none."""
         answer = self.service.ask("GET", url)
         return etag_of(answer.headers, answer.value)
+
+    def shown(self, url: str) -> dict[str, Any]:
+        """What is read at a URL by a plain request: the status, the ETag, and the members of the body."""
+        answer = self.service.ask("GET", url)
+        members = answer.value if isinstance(answer.value, dict) else {}
+        return {"its status": answer.status, "its ETag": etag_of(answer.headers, answer.value), **members}
 
     def list_all(self) -> Optional[Listing]:
         """The whole set by URLs, by plain requests; None if it cannot be listed."""
@@ -344,8 +258,6 @@ class Entities:
 
     def is_shown(self, effect: Effect, listing: Optional[Listing]) -> bool:
         """Whether an effect shows, in a listing or by a plain request."""
-        if effect.tag is not None and self.tag_of(effect.url) != effect.tag:
-            return True
         if not effect.url:
             return (effect.mark in self.marks(listing)) == effect.is_there
         entity = self.read(effect.url) if listing is None else listing.get(effect.url)
@@ -368,7 +280,7 @@ class Entities:
         if url:
             self.made.setdefault(self.service.address(url), url)
 
-    def _note_found(self, url: str, answer: Reply) -> None:
+    def note_found(self, url: str, answer: Reply) -> None:
         """Notes what was created by its own URL, in place of its Location."""
         self.made.pop(self.service.address(answer.headers.get("location", "")), None)
         self.note(url)
@@ -380,7 +292,7 @@ class Entities:
         for address, url in [pair for pair in self.made.items() if pair[1] not in kept]:
             try:
                 # What leads to another server is left there.
-                if not address.startswith(here) or not self._remove(url):
+                if not address.startswith(here) or not self.remove(url):
                     self.left.append(url)
                     if self.before is not None:
                         self.before[url] = {}
@@ -396,7 +308,7 @@ class Entities:
         self.left, self.made = [], {}
         return found
 
-    def _remove(self, url: str) -> bool:
+    def remove(self, url: str) -> bool:
         """Removes an entity; returns whether it is gone."""
         answer = self.service.ask("DELETE", url)
         if answer.status == 428:

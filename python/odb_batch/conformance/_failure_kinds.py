@@ -72,8 +72,8 @@ KINDS = {
 
 
 def fail(stage: Stage, name: str, kind: str, **where: Any) -> None:
-    """A request that fails by itself."""
-    KINDS[kind].add(stage, name, where)
+    """A request that fails by itself, as it does alone."""
+    KINDS[kind].add(stage, name, {"status": stage.entities.failures.get(kind), **where})
 
 
 def ask_alone(entities: Entities, request: dict[str, Any]) -> Reply:
@@ -86,14 +86,15 @@ def ask_alone(entities: Entities, request: dict[str, Any]) -> Reply:
     return answer
 
 
-def failing_kinds(entities: Entities) -> list[str]:
-    """The ways to fail that the service has, as plain requests show: it answers them 4xx or 501."""
-    found = []
+def learn_failures(entities: Entities) -> dict[str, int]:
+    """The ways to fail that the service has, each with its status alone: 4xx or 501."""
+    found = {}
     for name, kind in KINDS.items():
         if name == "key" and not entities.are_named:
             continue
         stage = Stage(entities)
         kind.add(stage, "1", {})
-        if ask_alone(entities, stage.steps[0].request).status in REFUSED:
-            found.append(name)
+        status = ask_alone(entities, stage.steps[0].request).status
+        if status in REFUSED:
+            found[name] = status
     return found

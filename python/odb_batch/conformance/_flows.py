@@ -107,6 +107,18 @@ def many(requests: int) -> Callable[[Stage], None]:
     return write
 
 
+def long_chain(requests: int) -> Callable[[Stage], None]:
+    """Reads, each of which needs the one before it, and a write at the end."""
+
+    def write(stage: Stage) -> None:
+        subject = stage.lasting()
+        for k in range(requests - 1):
+            stage.act(f"c{k}", "read", subject, needs=[f"c{k - 1}"] if k else [])
+        stage.write("end", needs=[f"c{requests - 2}"] if requests > 1 else [])
+
+    return write
+
+
 def all_of_it(stage: Stage) -> None:
     """What batches that are sent at once do: chains, groups and reads under the same ids, on entities of their own."""
     for k in range(3):
@@ -147,5 +159,6 @@ def longest_batches(requests: int) -> list[Case]:
     whole = partial(group, size=requests)
     return [
         Case("many", "once", shows, many(requests), may_be_refused=True),
+        Case("chain-many", "order", shows, long_chain(requests), may_be_refused=True),
         Case("group-many", "group", f"a group of {requests} writes", whole, may_be_refused=True),
     ]

@@ -11,6 +11,7 @@ CASE = ("A", "a", "Ab", "aB")
 SIGNS = ("A-1", "A.1", "A_1", "A~1", "-", "~", "._~-")
 NUMBERS = ("1", "01", "10", "1.0", "-1")
 KEYS = ("post-key", "get-key", "patch-key", "delete-key")
+QUERIES = ("get-filtered", "get-found-by-signs", "get-option")
 LONG = tuple("x" * 60 + letter for letter in "abc")
 
 
@@ -56,12 +57,19 @@ def other_urls(form: Callable[[str], str]) -> Callable[[Stage], None]:
         subject = stage.subject()
         stage.act("drop", "delete", subject, url(subject))
         stage.act("look", "read", subject, url(subject), needs=["drop"], promise="order")
+        first = len(stage.steps)
+        together(QUERIES)(stage)
+        for at, step in enumerate(stage.steps[first:], first):
+            by_form = {**step.request, "url": form(urljoin(root, step.request["url"]))}
+            stage.steps[at] = step._replace(request=by_form)
 
     return write
 
 
 def path_of(url: str) -> str:
-    return urlsplit(url).path
+    """The path of a URL, and its query."""
+    parts = urlsplit(url)
+    return f"{parts.path}?{parts.query}" if parts.query else parts.path
 
 
 def methods(stage: Stage) -> None:
@@ -83,5 +91,6 @@ CASES = (
     Case("methods-upper", "alone", "methods in upper case", methods),
     Case("urls-absolute", "alone", "absolute URLs", other_urls(lambda url: url), needs=["absolute"]),
     Case("urls-escaped", "alone", "keys with characters that a URL escapes", together(KEYS), needs=["odd keys"]),
+    Case("urls-queries", "alone", "query options that a URL escapes", together(QUERIES), needs=["signs"]),
     Case("urls-rooted", "alone", "URLs that begin with /", other_urls(path_of), needs=["rooted"]),
 )

@@ -6,7 +6,7 @@ from typing import Any, Iterator, NamedTuple, Optional
 from .. import Fault, Mode, match
 from ._entities import BEHIND, Entities, Listing
 from ._promises import Case
-from ._service import Reply, is_success
+from ._service import GONE, Reply, is_success
 from ._stage import ABSENT, DONE, FAILS, OPEN, SKIPPED, UNDONE, Stage, Step
 from ._twin import Taking, Twin, differences, media_type, parts_in_batch
 
@@ -52,7 +52,7 @@ class Judge:
                 # A list may be behind: what it shows is asked anew before it is called broken.
                 checks = self._check_step_by(None, step, expected)
             found += checks
-        return found
+        return [*found, *self._check_stop()]
 
     def _check_step_by(self, listing: Optional[Listing], step: Step, expected: str) -> list[Check]:
         performed = self.entities.is_shown(step.effect, listing) if step.effect is not None else None
@@ -96,15 +96,29 @@ class Judge:
         elif expected == DONE:
             yield from self._check_done(step, status, performed)
         elif expected == OPEN:
-            yield from self._check_stop(step, status, performed)
             # Whether there is anything to look at depends on how far the batch came, so it counts if it is broken.
             yield from (check for check in self._check_open(step, status, performed) if check.rule is not None)
         else:
             promise = "failed" if expected == SKIPPED else step.promise or ("group" if step.group else "alone")
             if status is not None:
-                is_right = fits(expected, status) and step.status in (None, status)
-                yield check(promise, is_right, wrong_text(step, expected, status))
+                yield check(promise, fits(expected, status), wrong_text(step, expected, status))
+                if not is_success(status):
+                    yield from self._check_error(step, expected, status)
             yield from unseen(promise, step, status, performed)
+            if step.after is not None:
+                yield Check(promise, step.after())
+
+    def _check_error(self, step: Step, expected: str, status: int) -> Iterator[Check]:
+        """A request that fails by itself is answered as alone, and no other member of its group as if it had failed."""
+        if expected == FAILS and step.status is not None and not {status, step.status} <= {*GONE}:
+            is_other = status == 424 and self._follows_from_another(step)
+            text = f"{step.id} is answered {status}, and alone {step.status}"
+            yield check(step.promise or "alone", is_other or status == step.status, text)
+        if expected == UNDONE:
+            failing = [other.id for other in self.stage.steps if other.unit == step.unit and other.fails]
+            causes = [name for name in failing if self.statuses.get(name) == status != 424]
+            text = f"{step.id} is answered {status} as {' and '.join(causes)}, as if it had failed itself"
+            yield check("group", not causes, text)
 
     def _check_done(self, step: Step, status: Optional[int], performed: Optional[bool]) -> Iterator[Check]:
         """A request that has to succeed."""
@@ -164,11 +178,13 @@ class Judge:
         elif performed:
             yield Check("once", f"{step.id} was performed, and has no response")
 
-    def _check_stop(self, step: Step, status: Optional[int], performed: Optional[bool]) -> Iterator[Check]:
-        """The last of many requests in a row after an error: it cannot have been on its way."""
-        if self.case.promise == "stop" and step is self.stage.steps[-1]:
-            text = f"{step.id}, the last of many requests in a row, is performed after an error"
-            yield check("stop", not (is_success(status) if performed is None else performed), text)
+    def _check_stop(self) -> Iterator[Check]:
+        """Of several requests that fail, the first ends the batch: not all of the others can have been on their way."""
+        failing = [step.id for step in self.stage.steps if step.fails] if self.case.promise == "stop" else []
+        if len(failing) > 1:
+            goes_on = all(is_error(self.statuses.get(name, 424)) for name in failing)
+            text = f"each of {len(failing)} requests that fail is performed: no error ends the batch"
+            yield check("stop", not goes_on, text)
 
     def _follows_from_another(self, step: Step) -> bool:
         """Whether a request is answered 424 for the error of another, which is judged by itself: a member of its group,
@@ -181,6 +197,11 @@ class Judge:
         needs = {name for other in unit for name in other.needs}
         causes = [other.id for other in self.stage.steps if other.unit != step.unit and {other.id, other.unit} & needs]
         return any(request_id in self.statuses and not is_success(self.statuses[request_id]) for request_id in causes)
+
+
+def is_error(status: int) -> bool:
+    """Whether a status is an error of a request that was performed."""
+    return status >= 400 and status != 424
 
 
 def fits(expected: str, status: int) -> bool:

@@ -5,8 +5,12 @@ from urllib.parse import urljoin, urlsplit
 
 from ._entities import Entities, Entity
 from ._judge import responses_of
+from ._keys import ODD_ENDS
+from ._learning_keys import learn_keys, require_reads
+from ._rows import with_signs
 from ._service import GONE, REFUSED, Reply, Unanswered, etag_of
 from ._stage import QUERY, Stage
+from ._stops import link_by, row
 from ._values import learn_values
 
 # What a service may lack, and the reason why a case does not apply then.
@@ -27,9 +31,12 @@ LACKS = {
     "null": "no other property takes null in place of a value",
     "odd keys": "the service takes no keys with %, a blank and letters that are not ASCII",
     "property": "alone, a property cannot be read by a URL of its own",
+    "value": "alone, a property cannot be read by a URL of its own",
     "filter": "alone, $filter is not applied",
+    "signs": "alone, $filter does not find a text with %, + and a quote",
     "options": "alone, $select is not applied",
     "query": "alone, a query option of the client's own is refused",
+    "continue": "the service does not apply the preference continue-on-error",
     "$ to read": "the service takes no reference to a read",
     "$ to patch": "the service takes no reference to a PATCH",
     "$ to put": "the service takes no reference to a PUT",
@@ -44,8 +51,8 @@ MAX_TRIED = 8
 
 def learn(entities: Entities) -> None:
     """Learns all that cases need; raises Unusable if no entity can be made."""
-    entities.learn_keys()
-    entities.require_reads()
+    learn_keys(entities)
+    require_reads(entities)
     entities.clear()
     entities.before = entities.list_all()
     entities.text = text_property(entities)
@@ -66,6 +73,8 @@ def learn(entities: Entities) -> None:
     entities.lacks.update(no_values)
     entities.lacks.update(learn_features(entities))
     entities.lacks.update(learn_references(entities))
+    if "dependencies" not in entities.lacks and not goes_on(entities):
+        entities.lacks["continue"] = LACKS["continue"]
     entities.find_new()
     entities.clear()
 
@@ -92,11 +101,15 @@ def takes_odd_keys(entities: Entities) -> bool:
     server that refuses such a URL would keep the entity."""
     if not entities.are_named or not isinstance(entities.new_key(), str):
         return False
-    entity, ask = entities.fresh(entities.odd_key()), entities.service.ask
-    if ask("GET", entity.url).status not in GONE or not entities.post(entity.body).is_success:
-        return False
-    shown = ask("GET", entity.url).value
-    return isinstance(shown, dict) and shown.get(entities.key) == entity.key
+    for end in ODD_ENDS:
+        entity, ask = entities.fresh(f"{entities.new_key()}{end}"), entities.service.ask
+        if ask("GET", entity.url).status not in GONE or not entities.post(entity.body).is_success:
+            break
+        shown = ask("GET", entity.url).value
+        if not isinstance(shown, dict) or shown.get(entities.key) != entity.key:
+            break
+        entities.odd_end = end
+    return entities.odd_end != ""
 
 
 def changes(entities: Entities, act: str) -> bool:
@@ -114,12 +127,15 @@ def learn_reads(entities: Entities) -> dict[str, bool]:
     whole = ask("GET", entity.url)
     entities.has_version = "odata-version" in whole.headers
     part = ask("GET", f"{entity.url}/{text}").value if text else None
+    plain = ask("GET", f"{entity.url}/{text}/$value").text.decode("utf-8", "replace") if text else None
     some = ask("GET", f"{entity.url}?$select={entities.key}")
     return {
         "etags": etag_of(whole.headers, whole.value) is not None,
         "property": isinstance(part, dict) and part.get("value") == entity.mark,
+        "value": plain == str(entity.mark),
         "query": ask("GET", f"{entity.url}{QUERY}").is_success,
         "filter": text is not None and is_filtered(entities, entity),
+        "signs": text is not None and is_filtered(entities, with_signs(entities)),
         "options": some.is_success and isinstance(some.value, dict) and bool(text) and text not in some.value,
     }
 
@@ -221,13 +237,24 @@ def learn_references(entities: Entities) -> dict[str, str]:
             continue
         stage = Stage(entities)
         subject = stage.subject()
-        stage.act("1", act, subject)
+        stage.create("0")
+        stage.act("1", act, subject, needs=["0"])
         stage.act("2", "read", subject, "$1", needs=["1"])
-        responses = responses_of(entities.service.batch(stage.document())) or []
+        answer = entities.service.batch(stage.document())
+        note_created(entities, answer)
+        responses = responses_of(answer) or []
         statuses = [found.get("status") for found in responses if found.get("id") == "2"]
         if statuses != [200] if act != "read" else not responses or 501 in statuses:
             lacking[f"$ to {act}"] = LACKS[f"$ to {act}"]
     return lacking
+
+
+def goes_on(entities: Entities) -> bool:
+    """Whether a batch goes on after errors if it prefers that: all of some requests that fail are performed."""
+    stage = Stage(entities)
+    row(stage, "body", link_by(stage, "read"))
+    statuses = statuses_of(entities.service.batch(stage.document()))
+    return len(statuses) == len(stage.steps) and 424 not in statuses
 
 
 def statuses_of(answer: Reply) -> list[Any]:

@@ -44,7 +44,7 @@ class Case(NamedTuple):
         may_be_refused: Whether the service may refuse the batch for its size.
         at_once: How many batches of the case are sent at the same time.
         needs: What the service has to have, by names of `learning.LACKS`; else the case does not apply.
-        says_false: Whether a batch without continue-on-error says continue-on-error=false.
+        says: What the header Prefer of its batch is, in place of continue-on-error or none.
     """
 
     name: str
@@ -56,9 +56,9 @@ class Case(NamedTuple):
     may_be_refused: bool = False
     at_once: int = 1
     needs: Sequence[str] = ()
-    says_false: bool = False
+    says: Optional[str] = None
 
     @property
     def prefer(self) -> str:
         """The header Prefer of its batch; empty if it has none."""
-        return CONTINUE if not self.stops else f"{CONTINUE}=false" if self.says_false else ""
+        return self.says or ("" if self.stops else CONTINUE)

@@ -11,7 +11,10 @@ FOUR = ("a", "b", "c", "d")
 # Ids that are easily taken for each other.
 CASE, NUMBERS = ("Ab", "aB", "ab", "AB"), ("1", "10", "100", "01", "1.0")
 # Requests that are sent by a reference, and alone by a URL.
-ALIKE = ("get", "get-if-match", "patch-whole", "put-mark", "put-whole", "patch-stale", "delete-match")
+ALIKE = (
+    "get", "get-if-match", "patch-whole", "patch-signs", "post-entity", "put-mark", "put-whole", "patch-stale",
+    "delete-match",
+)  # fmt: skip
 SIGNS = ("a-b", "a.b", "a_b", "a~b", "-", "~")
 
 

@@ -9,11 +9,12 @@ from ._failure_kinds import NO_TAG
 
 ODD = "ä \"\\/ € & '%41 <b>"
 MINIMAL, WHOLE = {"Prefer": "return=minimal"}, {"Prefer": "return=representation"}
-RIGHT, WRONG = {"If-Match": "{etag}"}, {"If-Match": NO_TAG}
+RIGHT, KNOWN, WRONG = {"If-Match": "{etag}"}, {"If-None-Match": "{etag}"}, {"If-Match": NO_TAG}
 JSON = "application/json;odata.metadata="
 ONE_OF, KNOWN_OF = {"If-Match": f"{NO_TAG}, {{etag}}"}, {"If-None-Match": f"{{etag}}, {NO_TAG}"}
-WEAK, NEW = {"If-Match": "W/{etag}"}, {"If-None-Match": "*"}
+ANY, WEAK, NEW = {"If-Match": "*"}, {"If-Match": "W/{etag}"}, {"If-None-Match": "*"}
 SMALL, LESS = {"if-match": NO_TAG}, {"prefer": "return=minimal"}
+MANY = {"OData-MaxVersion": "4.01", "Accept": "application/json", **WHOLE}
 WEIGHTS = {"Accept": "application/json;q=0.5, */*;q=0.1"}
 NO_TYPE, FULL_TYPE = {"Content-Type": ""}, {"Content-Type": "application/json;charset=utf-8"}
 
@@ -26,6 +27,8 @@ TEXTS: dict[str, Callable[[Any], str]] = {
     "lines": lambda mark: f"a\tb\r\nc\n{mark}",
     "two blanks": lambda mark: f"a  b {mark}",
     "control": lambda mark: f"\x01\x7f{mark}",
+    "in a URL": lambda mark: f"{mark}%41+ä'&#",
+    "signs": lambda mark: f"$new $1 100% {{{mark}}} %24 $",
     "forms": lambda mark: f"A+b e\u0301 \ufb01 {mark}",
     "long 300": lambda mark: f"{mark}".ljust(300, "x"),
     "long 5000": lambda mark: f"{mark}".ljust(5_000, "x"),
@@ -40,6 +43,8 @@ NUMBERS = {
     "digits": Number("12345678901234567890.1234567890"),
     "negative": Number("-0.50"),
     "nothing": Number("0"),
+    "whole-number": Number("10.0"),
+    "hundreds": Number("1200"),
 }
 
 
@@ -65,20 +70,46 @@ class Row(NamedTuple):
     needs: tuple[str, ...] = ()
 
 
-def pair(entities: Entities) -> Entity:
-    """Makes two entities that have the mark of the first."""
+def several(entities: Entities) -> Entity:
+    """Makes six entities that have the mark of the first."""
     entity = entities.make()
 
     def same(_: Any) -> Any:
         return entity.mark
 
-    entities.make(text=same)
+    for _ in range(5):
+        entities.make(text=same)
     return entity
+
+
+def with_signs(entities: Entities) -> Entity:
+    """Makes an entity whose mark a URL escapes."""
+    mark = TEXTS["in a URL"](entities.new_mark())
+    return entities.make(text=lambda _: mark)._replace(mark=mark)
 
 
 def nullable(entities: Entities) -> list[tuple[str, Any]]:
     """Properties that take null, of them a text if there is one, each with a value."""
     return [entities.values[kind] for kind in ("null", "null string") if kind in entities.values]
+
+
+def property_of(kind: str, value: Any, entities: Entities) -> Entity:
+    """A property of an entity that takes values of some kind, and has this one."""
+    name, _ = entities.values[kind]
+    entity = entities.make({name: value})
+    return entity._replace(url=f"{entity.url}/{name}")
+
+
+def part_of(entities: Entities) -> Entity:
+    """The key of an entity, by a query option."""
+    entity = entities.make()
+    return entity._replace(url=f"{entity.url}?$select={entities.key}")
+
+
+def value_of(entities: Entities) -> Entity:
+    """The text property of an entity, as it is."""
+    entity = entities.make()
+    return entity._replace(url=f"{entity.url}/{entities.text}/$value")
 
 
 # Each makes an entity, or names one, that the request is about.
@@ -89,13 +120,18 @@ TARGETS: dict[str, Callable[[Entities], Entity]] = {
     "found": lambda entities: entities.make(),
     "odd key": lambda entities: entities.make(key=entities.odd_key()),
     "new odd key": lambda entities: entities.fresh(entities.odd_key()),
-    "found both": pair,
+    "found all": several,
+    "found by signs": with_signs,
     "formed": lambda entities: entities.make({}, TEXTS["forms"]),
     "filled": lambda entities: entities.make(dict(nullable(entities))),
     "valued": lambda entities: entities.make(dict(entities.values.values()), TEXTS["beyond"]),
     "no text": lambda entities: entities.make({}, lambda mark: ""),
     "blank": lambda entities: entities.make({}, TEXTS["blanks"]),
     "itself": lambda entities: entities.make(),
+    "value": value_of,
+    "null": partial(property_of, "null", None),
+    "decimal": partial(property_of, "decimal", NUMBERS["zero"]),
+    "part": part_of,
     "count": lambda entities: Entity(f"{entities.set}/$count", {}),
     "no set": lambda entities: Entity("ConformanceNoSuchSet", {}),
 }
@@ -125,11 +161,13 @@ BODIES: dict[str, Callable[[Entities, Entity, Any], Any]] = {
     "text reference": partial(with_other_text, "$new"),
     **{name: partial(with_number, NUMBERS[name]) for name in NUMBERS},
     "integer": lambda entities, entity, mark: {**entity.body, **dict([entities.values["integer"]])},
+    "values": lambda entities, entity, mark: {**entities.change("put", mark), **dict(entities.values.values())},
     "no text": lambda entities, entity, mark: {entities.text: ""},
     "whole null": lambda entities, entity, mark: {**entity.body, **dict.fromkeys(dict(nullable(entities)))},
     "null": lambda entities, entity, mark: dict.fromkeys(dict(nullable(entities))),
     "mark": lambda entities, entity, mark: entities.change("patch", mark),
     "odd mark": lambda entities, entity, mark: entities.change("patch", TEXTS["odd"](mark)),
+    "signs mark": lambda entities, entity, mark: entities.change("patch", TEXTS["signs"](mark)),
     "blanks mark": lambda entities, entity, mark: entities.change("patch", TEXTS["blanks"](mark)),
     "other": lambda entities, entity, mark: entities.change("put", mark),
     "empty": lambda entities, entity, mark: {},
@@ -143,6 +181,7 @@ ROWS = (
     Row("get", "a read", "get", "there"),
     Row("get-missing", "a read of what is missing", "get", "missing"),
     Row("get-filtered", "a read with a query option", "get", "found", needs=("text", "filter")),
+    Row("get-value", "a read of a text as it is", "get", "value", needs=("value",)),
     Row("get-no-set", "a read of a set that does not exist", "get", "no set"),
     Row("get-count", "a read of how many there are", "get", "count"),
     Row("post", "a POST", "post", "new", "whole"),
@@ -161,6 +200,7 @@ ROWS = (
     Row("patch-whole", "a PATCH that prefers a body", "patch", "there", "mark", WHOLE, ("patch",)),
     Row("patch-odd", "a PATCH with letters that are not ASCII", "patch", "there", "odd mark", needs=("patch",)),
     Row("patch-missing", "a PATCH of what is missing", "patch", "missing", "mark", needs=("patch",)),
+    Row("patch-signs", "a PATCH with $ and other signs", "patch", "there", "signs mark", needs=("patch",)),
     Row("patch-empty", "a PATCH of nothing", "patch", "there", "empty", needs=("patch",)),
     Row("patch-list", "a PATCH with an array", "patch", "there", "list", needs=("patch",)),
     Row("patch-unknown", "a PATCH of a property that does not exist", "patch", "there", "unknown", needs=("patch",)),
@@ -171,7 +211,7 @@ ROWS = (
     Row("put-mark", "a PUT of one property", "put", "there", "mark", needs=("put",)),
     Row("delete", "a delete", "delete", "there"),
     Row("delete-missing", "a delete of what is missing", "delete", "missing"),
-    Row("get-known", "a read of what is known", "get", "there", "", {"If-None-Match": "{etag}"}, ("etags",)),
+    Row("get-known", "a read of what is known", "get", "there", "", KNOWN, ("etags",)),
     Row("get-if-match", "a read with the right ETag", "get", "there", "", RIGHT, ("etags",)),
     Row("patch-match", "a PATCH with the right ETag", "patch", "there", "mark", RIGHT, ("etags", "patch")),
     Row("patch-stale", "a PATCH with a wrong ETag", "patch", "there", "mark", WRONG, ("etags", "patch")),
@@ -180,7 +220,7 @@ ROWS = (
     Row("put-new", "a PUT of what is to be new", "put", "there", "other", NEW, ("etags", "put")),
     Row("delete-match", "a delete with the right ETag", "delete", "there", "", RIGHT, ("etags",)),
     Row("delete-stale", "a delete with a wrong ETag", "delete", "there", "", WRONG, ("etags",)),
-    Row("delete-any", "a delete with any ETag", "delete", "there", "", {"If-Match": "*"}, ("etags",)),
+    Row("delete-any", "a delete with any ETag", "delete", "there", "", ANY, ("etags",)),
 )
 # Those of which several are in one batch.
 PARTS = (
@@ -206,7 +246,16 @@ PARTS = (
         for text in LIKE_OTHERS
     ),
     Row("post-reference", "a POST of the text $new", "post", "new", "text reference", needs=("string",)),
-    Row("get-listed", "a read of two entities of a set", "get", "found both", needs=("text", "filter")),
+    Row("get-listed", "a read of six entities of a set", "get", "found all", needs=("text", "filter")),
+    Row("get-found-by-signs", "a filter by signs that a URL escapes", "get", "found by signs", needs=("signs",)),
+    Row("patch-missing-any", "a PATCH of any that is there", "patch", "missing", "mark", ANY, ("etags", "patch")),
+    Row("get-null", "a read of a property that is null", "get", "null", needs=("null", "property")),
+    Row("get-decimal", "a read of a property that is 9.990", "get", "decimal", needs=("decimal", "property")),
+    Row("get-option", "a read of a part", "get", "part", needs=("options",)),
+    Row("patch-headers", "a PATCH with many headers", "patch", "there", "mark", {**MANY, **WRONG}, ("etags", "patch")),
+    Row("get-headers", "a read with many headers", "get", "there", "", {**MANY, **KNOWN}, ("etags",)),
+    Row("patch-values", "a PATCH with several values", "patch", "there", "values", WHOLE, ("patch", "decimal")),
+    Row("put-values", "a PUT with several values", "put", "there", "values", WHOLE, ("put", "decimal")),
     Row("post-key", "a POST of a key that a URL escapes", "post", "new odd key", "whole", needs=("odd keys",)),
     Row("get-key", "a read by such a key", "get", "odd key", needs=("odd keys",)),
     Row("patch-key", "a PATCH by such a key", "patch", "odd key", "mark", needs=("odd keys", "patch")),

@@ -4,7 +4,7 @@ from concurrent.futures import ThreadPoolExecutor
 from typing import Callable, NamedTuple, Optional, Union
 
 from ._entities import Entities
-from ._failure_kinds import KINDS, failing_kinds
+from ._failure_kinds import KINDS, learn_failures
 from ._judge import Check, Judge, clear_responses, left_over, responses_of
 from ._learning import learn, note_created, refusal
 from ._promises import Case
@@ -47,7 +47,6 @@ class Runner:
     Attributes:
         requests: How many requests a batch may have; one with more is not sent.
         has_learned: Whether it is known what the service has.
-        kinds: The ways to fail that the service has.
         continues: Whether it applies the preference continue-on-error, as far as is known.
         late: How many batches of a run had no answer in time.
     """
@@ -55,7 +54,6 @@ class Runner:
     def __init__(self, service: Service, entities: Entities, requests: int) -> None:
         self.service, self.entities, self.requests = service, entities, requests
         self.has_learned = False
-        self.kinds: list[str] = []
         self.continues = True
         self.late = 0
 
@@ -84,7 +82,7 @@ class Runner:
     def _learn(self) -> None:
         self.service.require_batches(self.entities.set)
         learn(self.entities)
-        self.kinds = failing_kinds(self.entities)
+        self.entities.failures = learn_failures(self.entities)
         self.entities.clear()
         self.has_learned = True
 
@@ -120,7 +118,7 @@ class Runner:
 
     def _lack(self, case: Case) -> Optional[str]:
         """What the service lacks that a case needs."""
-        if case.kind is not None and case.kind not in self.kinds:
+        if case.kind is not None and case.kind not in self.entities.failures:
             return f"alone, no request fails by {KINDS[case.kind].text}"
         return next((self.entities.lacks[need] for need in case.needs if need in self.entities.lacks), None)
 
@@ -162,7 +160,7 @@ class Runner:
             if isinstance(answer, Unanswered):
                 found, text = [Check("answered", f"the batch is not answered: {answer.reason}")], b""
             else:
-                stops = case.stops or not self._applies_preference(stage, answer)
+                stops = case.stops or case.says is None and not self._applies_preference(stage, answer)
                 if stops and case.promise == "continue":
                     return Result(case, [], "the service does not apply the preference continue-on-error")
                 found, text = Judge(case, stage, answer, stops).checks(listing), answer.text
@@ -171,8 +169,8 @@ class Runner:
                 result = result._replace(batch=stage.document(), response=text)
         if listing is not None:
             checks += left_over(case, stages, listing, known)
-            if any(step.twin for stage in stages for step in stage.steps):
-                # a request alone came after the batch
+            if any(step.twin or step.after for stage in stages for step in stage.steps):
+                # plain requests came after the batch
                 listing = self.entities.find_new()
             if listing is not None and all(isinstance(answer, Reply) for answer in answers):
                 self.entities.settle(listing)

@@ -1,7 +1,7 @@
 """A batch as it is written: its requests, what each is expected to be answered, and what shows that it was done."""
 
 import itertools
-from typing import Any, NamedTuple, Optional, Sequence
+from typing import Any, Callable, NamedTuple, Optional, Sequence
 from urllib.parse import unquote
 
 from ._entities import Effect, Entities, Entity
@@ -14,6 +14,8 @@ from ._twin import Twin
 DONE, FAILS, SKIPPED, UNDONE, OPEN = "done", "fails", "skipped", "undone", "open"
 
 METHODS = {"create": "post", "read": "get", "patch": "patch", "put": "put", "delete": "delete"}
+# How each fails: one that creates if its entity is there, each other one if it is not; names of `failure_kinds.KINDS`.
+FAILURES = {"create": "key", "read": "read", "patch": "patch", "put": "put", "delete": "missing"}
 
 
 # A query option that says nothing to a service.
@@ -45,6 +47,7 @@ class Step(NamedTuple):
         effect: What shows that it was performed, or None if nothing does.
         shows: What it returns, or None if that is not looked at.
         twin: The same request as it was answered alone, or None.
+        after: Looks after the batch, by plain requests; returns what is wrong, or None.
     """
 
     request: dict[str, Any]
@@ -54,6 +57,7 @@ class Step(NamedTuple):
     effect: Optional[Effect] = None
     shows: Optional[Shown] = None
     twin: Optional[Twin] = None
+    after: Optional[Callable[[], Optional[str]]] = None
 
     @property
     def id(self) -> str:
@@ -154,6 +158,8 @@ class Stage:
         """A request on an entity, by its URL or by another way to lead to it."""
         entity, fails = subject.entity, subject.is_there == (act == "create")
         self.subjects[name] = subject
+        if fails:
+            where.setdefault("status", self.entities.failures.get(FAILURES[act]))
         if act == "read":
             shows = None if fails else self._expected_values(subject)
             self.add(name, "get", by or entity.url, fails=fails, shows=shows, **where)

@@ -50,7 +50,7 @@ class Twin(NamedTuple):
     Attributes:
         entity: What the request of the batch is about.
         marks: What it writes to the text property.
-        is_read: Whether it changes nothing, so that nobody has to look afterwards.
+        is_read: Whether nobody has to look afterwards, since it changes nothing, or another one does.
         alone: Returns the parts of two requests alone, and sends the second of them.
     """
 
@@ -82,7 +82,7 @@ class Taking:
         entities: The entities.
         entity: What the request is about.
         marks: What it writes to the text property.
-        is_read: Whether it changes nothing, so that nobody has to look afterwards.
+        is_read: That of the twin.
     """
 
     def __init__(self, entities: Entities, entity: Entity, marks: Sequence[Any], is_read: bool) -> None:
@@ -98,7 +98,7 @@ class Taking:
         if value is not None and status < 500:
             found["Content-Type"] = media_type(headers)
             if "json" not in found["Content-Type"]:
-                found["the body"] = "not JSON"
+                found["the body"] = self._plain(value) if is_text(found["Content-Type"], status) else "not JSON"
             else:
                 found.update(self._body(value) if status < 400 else error_parts(value))
         if url and not self.is_read:
@@ -155,7 +155,8 @@ class Taking:
             if isinstance(text, int):
                 value = re.sub(rf"(?<![0-9]){text}(?![0-9])", name, value)
             else:
-                value = value.replace(text, name).replace(quote(text), name)
+                for form in (text.replace("'", "''"), text, quote(text)):
+                    value = value.replace(form, name)
         return value
 
     def _body(self, value: Any, path: str = "the body") -> Parts:
@@ -174,6 +175,11 @@ class Taking:
         return found
 
 
+def is_text(kind: str, status: int) -> bool:
+    """Whether a body is a text that is compared; what else is not JSON is compared by its media type alone."""
+    return kind.startswith("text/") and status < 400
+
+
 def error_parts(value: Any) -> Parts:
     """The parts of an error object; its message is for people."""
     error = value.get("error") if isinstance(value, dict) else None
@@ -184,8 +190,9 @@ def error_parts(value: Any) -> Parts:
 
 def parts_alone(taking: Taking, answer: Reply) -> Parts:
     """The parts of a request that was sent alone."""
-    # a text that is not JSON is compared by its media type alone
     value = answer.value
+    if is_text(media_type(answer.headers), answer.status):
+        value = answer.text.decode("utf-8", "replace")
     found = taking.parts(answer.status, answer.headers, ("" if value is None else value) if answer.text else None)
     if "location" in answer.headers:
         found.setdefault(HOST, host_of(taking.entities.service.root))

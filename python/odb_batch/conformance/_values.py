@@ -7,6 +7,7 @@ from ._entities import Entities, Entity
 from ._exact_json import Number
 from ._promises import Case
 from ._rows import LIKE_OTHERS, ROWS_BY_NAME
+from ._rows import NUMBERS as EXACT
 from ._stage import Stage
 
 # What is tried for a property: a value for each kind.
@@ -60,10 +61,11 @@ def like_reference(stage: Stage) -> None:
 TEXT = ["text"]
 BLANKS, BEYOND = ("post-blanks", "patch-blanks", "get-blanks"), ("post-beyond", "get-beyond")
 LONG, FORMS = ("post-long-300", "post-long-5000", "post-long-70000"), ("post-forms", "get-forms")
-NULLS = ("patch-null", "post-with-null")
+NULLS = ("patch-null", "post-with-null", "get-null")
 LINES = ("post-lines", "post-two-blanks", "post-control")
-NUMBERS = ("post-zero", "post-exponent", "post-digits", "post-negative", "post-nothing", "get-numbers")
+NUMBERS = [*(f"post-{name}" for name in EXACT), "get-numbers", "get-decimal"]
 ALIKE = [f"post-{text}" for text in LIKE_OTHERS]
+CHANGES = ("patch-values", "put-values", "get-numbers")
 AS_THEY_ARE = together(["post-odd", "patch-odd", *BEYOND], is_ascii=False)
 
 CASES = (
@@ -79,6 +81,7 @@ CASES = (
     Case("values-empty", "alone", "a text that is empty", together(["patch-no-text", "get-no-text"]), needs=TEXT),
     Case("values-null", "alone", "null in place of a value", together(NULLS), needs=["null"]),
     Case("values-numbers", "alone", "numbers with a fraction, and 0", together(NUMBERS), needs=["decimal"]),
+    Case("values-together", "alone", "changes of several values", together(CHANGES), needs=["decimal"]),
     Case("values-integer", "alone", "an integer above 2 ** 53", together(["post-integer"]), needs=["integer"]),
 )
 

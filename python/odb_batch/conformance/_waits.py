@@ -98,6 +98,16 @@ def look_at_group(stage: Stage) -> None:
         stage.act(f"look{k}", "read", subject, needs=[f"g{k}"], promise="order")
 
 
+def group_of_reads(stage: Stage) -> None:
+    """Groups that only read, and changes that depend on them."""
+    for k in range(TIMES):
+        subject = stage.subject()
+        for member in range(2):
+            needs = [] if member else [lead(stage, f"c{k}-")]
+            stage.act(f"g{k}-{member}", "read", subject, group=f"g{k}", needs=needs, promise="order")
+        stage.act(f"drop{k}", "delete", subject, needs=[f"g{k}"], promise="order")
+
+
 def group_after_slow(stage: Stage) -> None:
     """Groups whose last member depends on a late write, and sees it."""
     for k in range(TIMES):
@@ -126,6 +136,7 @@ def late_reference(stage: Stage) -> None:
 
 GROUPS = (
     ("wait-for-group", "a read depends on a group whose last member comes late", look_at_group, ()),
+    ("wait-for-reads", "a delete depends on a group of reads", group_of_reads, ()),
     ("group-waits", "the last member of a group depends on a late write", group_after_slow, ("named",)),
     ("group-waits-for-group", "a group depends on a group that comes late", group_after_group, ("named",)),
     ("reference-waits", "a reference to what a late write creates", late_reference, ()),

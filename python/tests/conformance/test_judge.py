@@ -75,7 +75,7 @@ def by_unittest(folder):
 def test_cases_have_names_in_the_order_of_the_tool():
     names = conformance_cases()
     assert names == [line.split()[0] for line in tool("--list").out.splitlines()]
-    assert len(names) == len(set(names)) == 253
+    assert len(names) == len(set(names)) == 274
     assert conformance_cases("group-fails-*-[14]")[:2] == ["group-fails-missing-1", "group-fails-missing-4"]
 
 
@@ -182,7 +182,7 @@ def test_an_error_may_come_late(late, is_kept, monkeypatch):
     batches = []
     with service() as (running, _), serving(app) as root:
         monkeypatch.setenv("LIBRARY_PORT", str(running.port))
-        broken = "c29, the last of many requests in a row, is performed after an error"
+        broken = "each of 25 requests that fail is performed: no error ends the batch"
         with contextlib.nullcontext() if is_kept else pytest.raises(AssertionError, match=broken):
             judge(root + "/library/", "stop-after-failure", **BOOKS)
     assert len(batches) == 3
@@ -267,4 +267,4 @@ def test_its_modules_shadow_nobodys(tmp_path):
             (tmp_path / name).write_text("raise SystemExit('shadowed')")
             (tmp_path / name.lstrip("_")).write_text("raise SystemExit('shadowed')")
     done = tool("--list", cwd=tmp_path)
-    assert (done.status, done.error, len(done.out.splitlines())) == (0, "", 253)
+    assert (done.status, done.error, len(done.out.splitlines())) == (0, "", 274)

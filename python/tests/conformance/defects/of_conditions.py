@@ -3,7 +3,7 @@
 import json
 import re
 
-from patching import Execution, change_document, change_requests
+from patching import Execution, change_answers, change_document, change_requests
 
 CONDITIONS = ("if-match", "if-none-match")
 # What stands for a reference, so that the library leaves it as it is.
@@ -167,3 +167,69 @@ def last_of_several_known():
 def tags_of_new_as_any():
     """$ and the id of a POST in a condition stand for any ETag."""
     stand(lambda execution, id, group: "*" if execution.requests[id]["method"] == "post" else execution.tags[id])
+
+
+def tags_of_changed_members_unknown():
+    """In a group $ and the id of a PATCH stand for an ETag that no entity has."""
+
+    def tag_of(execution, id, group):
+        return '"0"' if group and execution.requests[id]["method"] == "patch" else execution.tags[id]
+
+    stand(tag_of)
+
+
+def last_tags_of_members():
+    """After a group $ and the id of a member stand for the last ETag that the group gave the same entity."""
+
+    def tag_of(execution, id, group):
+        given = execution.requests[id]
+        inside = execution.members(given["atomicityGroup"]) if "atomicityGroup" in given and not group else [id]
+        same = [name for name in inside if execution.requests[name]["url"] == given["url"]]
+        return execution.tags[same[-1]]
+
+    stand(tag_of)
+
+
+def by_name(is_same):
+    """Has $ and an id in a condition stand for the ETag of the first id that is taken for theirs."""
+
+    def tag_of(execution, id, group):
+        return execution.tags[next(name for name in execution.requests if name in execution.tags and is_same(name, id))]
+
+    stand(tag_of)
+
+
+def tags_in_any_case():
+    """Ids in conditions are compared without their case."""
+    by_name(lambda name, id: name.lower() == id.lower())
+
+
+def tags_by_prefix():
+    """$ and an id in a condition stand for the ETag of the first id that it begins with."""
+    by_name(lambda name, id: id.startswith(name))
+
+
+def conditions_before_groups():
+    """In a group an ETag is compared with the one before the group, so a condition holds though a member changed the
+    entity."""
+    answer = Execution.answer
+
+    def answering(self, request):
+        self.changed = getattr(self, "changed", set())
+        key = request.group, request.url
+        if request.group and key in self.changed and not self.requests[request.id]["headers"].get("If-Match", "").startswith("$"):
+            request = request._replace(headers={name: it for name, it in request.headers.items() if name != "if-match"})
+        self.changed.add(key)
+        return answer(self, request)
+
+    Execution.answer = answering
+
+
+def any_creates():
+    """A PATCH with If-Match: * of what is missing is answered 201."""
+
+    def change(given, answer):
+        is_any = given["method"] == "patch" and "*" in given.get("headers", {}).values()
+        return answer._replace(status=201) if is_any and not answer.is_success else answer
+
+    change_answers(change)

@@ -3,7 +3,9 @@
 import json
 from contextlib import contextmanager
 
+import entities
 import store
+from odb_batch import Refusal
 from patching import Execution, change_responses, hide_failures, is_success, request_of
 
 
@@ -176,3 +178,55 @@ def groups_before_a_failure_lost():
         return document
 
     Execution.respond = responding
+
+
+def other_values_stay():
+    """What a failed group changed by PATCH stays, but for the title."""
+
+    def change(request):
+        body = {name: it for name, it in json.loads(request.body).items() if name != "Title"}
+        return request._replace(body=json.dumps(body).encode())
+
+    stays("PATCH", change=change)
+
+
+def keys_stay_taken():
+    """What a failed group created has a key that is taken afterwards."""
+    answer, respond, create = Execution.answer, Execution.respond, entities._create
+    taken = set()
+
+    def answering(self, request):
+        found = answer(self, request)
+        self.made = getattr(self, "made", {})
+        if found.status == 201 and request.group:
+            self.made[request.id] = json.loads(found.body)["Id"]
+        return found
+
+    def responding(self):
+        document = respond(self)
+        statuses = {it["id"]: it["status"] for it in json.loads(document)["responses"]}
+        taken.update(key for id, key in getattr(self, "made", {}).items() if not is_success(statuses[id]))
+        return document
+
+    def creating(database, target, request):
+        if isinstance(request.body, dict) and request.body.get("Id") in taken:
+            raise Refusal(409, "Conflict", "The key is taken")
+        return create(database, target, request)
+
+    Execution.answer, Execution.respond, entities._OF_SET["POST"] = answering, responding, creating
+
+
+def undone_at_the_end():
+    """What a failed group changed by PATCH is undone at the end of the batch."""
+    answer = Execution.answer
+
+    def answering(self, request):
+        found = answer(self, request)
+        self.done = getattr(self, "done", {})
+        if request.group and request.method == "PATCH":
+            self.done[request.url] = json.loads(request.body)
+        if request.method != "GET" or request.url not in self.done or not found.is_success:
+            return found
+        return found._replace(body=json.dumps({**json.loads(found.body), **self.done[request.url]}).encode())
+
+    Execution.answer = answering

@@ -164,3 +164,13 @@ def weights_refused():
         return answer(self, request)
 
     Execution.answer = answering
+
+
+def three_headers():
+    """A request has three headers at most."""
+
+    def change(requests):
+        for it in requests:
+            it["headers"] = dict([*it.get("headers", {}).items()][:3])
+
+    change_document(change)

@@ -79,3 +79,41 @@ def lists_of_members_cut():
                 it["body"]["value"] = it["body"]["value"][:1]
 
     of_members(change)
+
+
+def nulls_of_members_lost():
+    """Members of a group are answered without what is null."""
+
+    def change(members):
+        for it in members:
+            if isinstance(it.get("body"), dict):
+                it["body"] = {name: value for name, value in it["body"].items() if value is not None}
+
+    of_members(change)
+
+
+def bodies_of_members_at_the_end():
+    """What a member creates is answered as it is at the end of the group."""
+
+    def change(responses, requests):
+        for it in responses:
+            url = it.get("headers", {}).get("location", "").rpartition("/")[2]
+            if it["status"] == 201 and "atomicityGroup" in it:
+                later = [given for given in requests.values() if given["url"] in (url, f"${it['id']}")]
+                changes = [given["body"] for given in later if given["method"] == "patch"]
+                it["body"].update((name, value) for body in changes for name, value in body.items())
+
+    change_responses(change)
+
+
+def undone_as_the_failure():
+    """Each member of a group that fails is answered what the one is that fails."""
+
+    def change(responses, requests):
+        failed = {it["atomicityGroup"]: it for it in responses if "atomicityGroup" in it and 400 <= it["status"] != 424}
+        for it in responses:
+            cause = failed.get(it.get("atomicityGroup"))
+            if cause:
+                it.update((name, value) for name, value in cause.items() if name != "id")
+
+    change_responses(change)

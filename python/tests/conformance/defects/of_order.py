@@ -1,10 +1,11 @@
 """Defects in the order of requests."""
 
+import json
 import threading
 import time
 
 from odb_batch import Answer
-from patching import Execution, change_needs
+from patching import Execution, change_document, change_needs
 
 
 def no_waiting():
@@ -164,3 +165,45 @@ def groups_keep_reads():
         return self.kept[key]
 
     Execution.answer = answering
+
+
+def chains_of_twenty():
+    """Of more than twenty requests in a row the rest is answered 424."""
+    respond = Execution.respond
+
+    def responding(self):
+        value = json.loads(respond(self))
+        length = {}
+        for it in self.requests.values():
+            length[it["id"]] = 1 + max((length.get(name, 0) for name in it.get("dependsOn", ())), default=0)
+        value["responses"] = [it if length[it["id"]] <= 20 else {"id": it["id"], "status": 424} for it in value["responses"]]
+        return json.dumps(value).encode()
+
+    Execution.respond = responding
+
+
+def far_failures_forgotten():
+    """A dependency on a request more than twenty places before does not count."""
+
+    def change(requests):
+        places = {it["id"]: at for at, it in enumerate(requests)}
+        for at, it in enumerate(requests):
+            if not it["url"].startswith("$"):
+                it["dependsOn"] = [name for name in it.get("dependsOn", ()) if at - places.get(name, at) <= 20]
+
+    change_document(change)
+
+
+def groups_of_reads_last():
+    """A group that only reads is performed after all other requests."""
+
+    def change(requests):
+        groups = {}
+        for it in requests:
+            groups.setdefault(it.get("atomicityGroup"), set()).add(it["method"].lower())
+        late = {name for name, methods in groups.items() if name and methods == {"get"}}
+        for it in requests:
+            it["dependsOn"] = [name for name in it.get("dependsOn", ()) if name not in late]
+        requests.sort(key=lambda it: it.get("atomicityGroup") in late)
+
+    change_document(change)

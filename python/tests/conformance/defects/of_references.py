@@ -210,3 +210,39 @@ def locations_decoded():
 def references_decoded_twice():
     """What a reference leads to is decoded once too often."""
     resolve(lambda execution, id: unquote(execution.locations[id]))
+
+
+def signs_of_references_lost():
+    """A PATCH by a reference loses the $ of its texts."""
+
+    def change(request):
+        return request._replace(body=request.body.replace(b"$", b"")) if request.method == "PATCH" else request
+
+    answer = Execution.answer
+
+    def answering(self, request):
+        is_referring = self.requests[request.id]["url"].startswith("$")
+        return answer(self, change(request) if is_referring else request)
+
+    Execution.answer = answering
+
+
+def posts_by_reference_as_patch():
+    """A POST to a reference changes the entity."""
+    answer = Execution.answer
+
+    def answering(self, request):
+        is_post = request.method == "POST" and self.requests[request.id]["url"].startswith("$")
+        return answer(self, request._replace(method="PATCH") if is_post else request)
+
+    Execution.answer = answering
+
+
+def locations_in_lower_case():
+    """What a reference leads to is read in lower case."""
+    resolve(lambda execution, id: re.sub(r"\(.*", lambda found: found[0].lower(), url_of(execution, id)))
+
+
+def quotes_of_locations_lost():
+    """Of two quotes in the key that a reference leads to, one is lost."""
+    resolve(lambda execution, id: url_of(execution, id).replace("''", "'"))

@@ -3,6 +3,7 @@
 import itertools
 import json
 import threading
+import time
 
 from odb_batch import Answer, Refusal
 from patching import (
@@ -292,13 +293,14 @@ def mixed_answers():
 
 
 def refuse_beside(refusal):
-    """Has a batch beside another refused."""
+    """Has a batch beside another refused. Each takes 10 ms, so that those of a test that come together meet."""
     respond, turn = Execution.respond, threading.Lock()
 
     def responding(self):
         if not turn.acquire(blocking=False):
             raise refusal
         try:
+            time.sleep(0.01)
             return respond(self)
         finally:
             turn.release()

@@ -1,6 +1,7 @@
 """Defects in how a batch ends with its first error."""
 
 import json
+import time
 
 import odb_batch.wsgi
 from patching import Execution, is_success, request_of
@@ -138,3 +139,49 @@ def false_is_true():
             self.mode = "continue"
 
     odb_batch.wsgi.BatchRequest.__init__ = preparing
+
+
+def stops_all():
+    """An error ends all batches that are performed at that time."""
+    respond, answer, running = Execution.respond, Execution.answer, set()
+
+    def responding(self):
+        self.has_ended, self.stops = False, self.options.get("mode") == "stop"
+        if self.stops:
+            self.options.update(mode="continue", stop=lambda: self.has_ended)
+        running.add(self)
+        try:
+            return respond(self)
+        finally:
+            running.discard(self)
+
+    def answering(self, request):
+        time.sleep(0.01)  # so that batches meet
+        found = answer(self, request)
+        for other in [*running] if self.stops and found.status >= 400 else ():
+            other.has_ended = True
+        return found
+
+    Execution.respond, Execution.answer = responding, answering
+
+
+def prefer_by(is_understood):
+    """Has a batch go on after an error if the value of its header Prefer is understood."""
+    prepare = odb_batch.wsgi.BatchRequest.__init__
+
+    def preparing(self, *rest, **options):
+        prepare(self, *rest, **options)
+        if not is_understood(rest[5].get("prefer", "")):
+            self.mode = "stop"
+
+    odb_batch.wsgi.BatchRequest.__init__ = preparing
+
+
+def true_not_understood():
+    """continue-on-error=true is not understood."""
+    prefer_by(lambda prefer: "=true" not in prefer)
+
+
+def preferences_not_listed():
+    """Of several preferences none is understood."""
+    prefer_by(lambda prefer: "," not in prefer)

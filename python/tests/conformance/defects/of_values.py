@@ -220,3 +220,23 @@ def signs_of_numbers_lost():
         return request._replace(body=request.body.replace(b"-0.50", b"0.50"))
 
     change_requests(change)
+
+
+def numbers_of_patches_as_floats():
+    """Numbers with a fraction become floats in a PATCH."""
+    change_bodies(lambda request: request.method == "PATCH" and b"." in request.body, lambda body: body)
+
+
+def whole_numbers_without_fraction():
+    """10.0 becomes 10."""
+    change_requests(lambda request: request._replace(body=request.body.replace(b"10.0", b"10")))
+
+
+def hundreds_with_exponent():
+    """1200 becomes 12E+2, which is as much."""
+    change_requests(lambda request: request._replace(body=re.sub(rb"\b1200\b", b"12E+2", request.body)))
+
+
+def dollars_of_patches_lost():
+    """Texts lose each $ in a PATCH."""
+    change_bodies(lambda request: request.method == "PATCH", in_texts(lambda text: text.replace("$", "")))

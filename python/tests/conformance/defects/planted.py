@@ -9,6 +9,7 @@ import of_groups
 import of_headers
 import of_members
 import of_order
+import of_reads
 import of_references
 import of_responses
 import of_stops
@@ -24,6 +25,7 @@ MODULES = (
     of_stops,
     of_groups,
     of_members,
+    of_reads,
     of_references,
     variants,
 )

@@ -1,6 +1,7 @@
 """Services without a defect, or with one that no batch shows: a service may be like that."""
 
 import itertools
+import json
 import os
 import secrets
 import signal
@@ -176,6 +177,27 @@ def properties():
     app.perform = performing
 
 
+def texts():
+    """Such a service, which also shows the text of a property as it is."""
+    properties()
+    call = app.Library.__call__
+
+    def calling(self, environ, start_response):
+        path, rest, after = environ["PATH_INFO"].partition("/$value")
+        heads = []
+        (body,) = call(self, {**environ, "PATH_INFO": path + after}, lambda *head: heads.append(head))
+        status, headers = heads[0]
+        value = json.loads(body)["value"] if rest and status.startswith("200") else None
+        if isinstance(value, str):
+            body = value.encode()
+            of_body = {"content-type": "text/plain;charset=utf-8", "content-length": str(len(body))}
+            headers = [*{**dict(headers), **of_body}.items()]
+        start_response(status, headers)
+        return [body]
+
+    app.Library.__call__ = calling
+
+
 def reused_keys():
     """The service makes the keys, and gives that of a deleted book again, as an INTEGER PRIMARY KEY of SQLite does."""
     first, *rest = store.SCHEMA
@@ -201,25 +223,55 @@ def slow():
     Execution.answer = answering
 
 
-def from_the_last():
-    """Requests that may be performed side by side are performed from the last to the first, one at a time."""
-
-    def turn(requests):
-        names = {name: it.get("atomicityGroup", it["id"]) for it in requests for name in (it["id"], unit_of(it))}
-        units, levels = {}, {}
-        for it in requests:
-            units.setdefault(unit_of(it), []).append(it)
-        for unit, members in units.items():
-            needs = {names[name] for it in members for name in it.get("dependsOn", ())} - {unit}
-            levels[unit] = 1 + max((levels[name] for name in needs), default=0)
-        order = sorted(reversed(list(units)), key=lambda unit: levels[unit])
-        requests[:] = [it for unit in order for it in units[unit]]
+def in_order(order):
+    """Has the groups and requests of a batch performed one at a time, in an order of their names: by these, and by the
+    names that each depends on."""
 
     def unit_of(request):
         return request.get("atomicityGroup", request["id"])
 
+    def turn(requests):
+        names = {name: unit_of(it) for it in requests for name in (it["id"], unit_of(it))}
+        units, needs = {}, {}
+        for it in requests:
+            units.setdefault(unit_of(it), []).append(it)
+            needs.setdefault(unit_of(it), set()).update(names[name] for name in it.get("dependsOn", ()))
+        order_of_units = order(list(units), {unit: needs[unit] - {unit} for unit in units})
+        requests[:] = [it for unit in order_of_units for it in units[unit]]
+
     change_document(turn)
     with_options(width=1)
+
+
+def from_the_last():
+    """Requests that may be performed side by side are performed from the last to the first."""
+
+    def order(units, needs):
+        levels = {}
+        for unit in units:
+            levels[unit] = 1 + max((levels[name] for name in needs[unit]), default=0)
+        return sorted(reversed(units), key=lambda unit: levels[unit])
+
+    in_order(order)
+
+
+def last_first():
+    """Of the requests that may be performed the last is performed, so that a whole chain comes before an error."""
+
+    def order(units, needs):
+        found = []
+        while len(found) < len(units):
+            ready = [unit for unit in units if unit not in found and needs[unit] <= {*found}]
+            found.append(ready[-1])
+        return found
+
+    in_order(order)
+
+
+def last_first_and_stops():
+    """Such a service, which ends each batch with its first error."""
+    last_first()
+    always_stops()
 
 
 def with_options(**options):
