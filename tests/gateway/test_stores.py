@@ -6,10 +6,11 @@ import contextlib
 import pytest
 
 from odb_batch import Refusal, Report, ReportUnit, Start
-from odb_batch.journals import SqliteStore, store_of
+from odb_batch.journals import Journals, SqliteStore, store_of
 from odb_batch.journals._encoding import PIECE, encode_events
 from odb_batch.journals.testing import CHECKS
 from support.journals import EVENTS, FIRST, LEASE, events_of, opened, parts_of, soon, written
+from support.servers import SECONDS
 
 
 @pytest.mark.parametrize("check", CHECKS, ids=lambda it: it.__name__)
@@ -108,6 +109,23 @@ def test_a_batch_is_refused_while_it_is_open(place):
                 journal.write(Report("a", 200))
                 await journal.sync()
                 assert len(await events_of(other)) == 2  # nothing is out
+
+    asyncio.run(run())
+
+
+def test_the_end_waits_for_no_task_that_has_missed_its_cancellation(tmp_path):
+    """As one does that makes a connection in the same turn of the loop."""
+    class Missing(SqliteStore):
+        async def now(self):
+            with contextlib.suppress(asyncio.CancelledError):
+                await asyncio.Event().wait()
+            return 0.0
+
+    async def run():
+        journals = Journals(Missing(str(tmp_path)))
+        await journals.open()
+        await asyncio.sleep(0)
+        await asyncio.wait_for(journals.close(), SECONDS)
 
     asyncio.run(run())
 

@@ -39,8 +39,8 @@ CALLS += [
 ]
 WRITTEN = {"odb_rest": NOTHING_LEFT, "odb_faults": "", "odb_requests": ""}
 # The calls from Python to C for each of them, the first of which is it: then its text is copied; of a run the response is
-# asked, copied, and the run closed. Before all of them the version is asked.
-FOREIGN, BEFORE = {"odb_run_open": 5, "odb_run_open_requests": 5}, 1
+# asked, copied, and the run closed. Before all of them the version is asked, and the constants are, whose text is copied.
+FOREIGN, BEFORE = {"odb_run_open": 5, "odb_run_open_requests": 5}, 3
 
 pytestmark = [pytest.mark.slow, pytest.mark.needs("cc", "valgrind")]
 

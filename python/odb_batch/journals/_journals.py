@@ -110,10 +110,12 @@ class Journals:
         """Lets others go on with what is left, and closes the store."""
         if self._releases:
             await asyncio.wait(self._releases, timeout=_END)
-        rest = [*self._tasks, *self._releases]
-        for task in rest:
-            task.cancel()
-        await asyncio.gather(*rest, return_exceptions=True)
+        rest = {*self._tasks, *self._releases}
+        while rest:
+            for task in rest:
+                task.cancel()
+            # One that makes a connection may miss it: until Python 3.12, `asyncio.wait_for` loses some.
+            _, rest = await asyncio.wait(rest, timeout=_AGAIN)
         if self._is_open:
             await self.store.close()
 
