@@ -2,6 +2,7 @@
 
 import asyncio
 import contextlib
+import gc
 import os
 import socket
 import sqlite3
@@ -52,6 +53,24 @@ def test_a_role_without_rights(postgresql, schema):
     with pytest.raises(OSError, match="permission denied for table odb_gateway") as error:
         asyncio.run(store_of(postgresql.url(name, user=f"poor_{name}")).open())
     assert not isinstance(error.value, ConnectionError)
+
+
+def test_a_statement_whose_caller_has_gone_reports_nothing(schema):
+    async def run():
+        reported = []
+        asyncio.get_running_loop().set_exception_handler(lambda loop, context: reported.append(context))
+        store = store_of(schema)
+        await store.open()
+        caller = asyncio.ensure_future(store._pruner.rows("SELECT pg_sleep(600)"))
+        await asyncio.sleep(0.1)
+        caller.cancel()
+        await asyncio.wait([caller])
+        await asyncio.sleep(0)
+        gc.collect()
+        assert reported == []
+        await store.close()
+
+    asyncio.run(run())
 
 
 @pytest.mark.parametrize("url", ["postgresql://[", "postgresql://h:x/", "postgresql://127.0.0.1:1/x?sslmode=no"])

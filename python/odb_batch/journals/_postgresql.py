@@ -195,8 +195,10 @@ class _Connection:
         """
         connection = self._connection
         timer = asyncio.get_running_loop().call_later(seconds, self.drop)
+        fetch = asyncio.ensure_future(connection.fetch(words, *given))
+        fetch.add_done_callback(lambda it: it.cancelled() or it.exception())  # also where nobody waits for it any more
         try:
-            rows: list[Any] = await asyncio.shield(connection.fetch(words, *given))
+            rows: list[Any] = await asyncio.shield(fetch)
         finally:
             timer.cancel()
         if connection.is_closed():
