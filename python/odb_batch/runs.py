@@ -1,17 +1,15 @@
 """Live runs: which requests may start now, by what has been reported so far."""
 
 import ctypes
-import json
-import threading
-import weakref
 from dataclasses import dataclass
-from typing import Any, Literal, Mapping, NoReturn, Optional, SupportsIndex, Union, get_args
+from typing import Any, Literal, Mapping, Optional, Union, get_args
 
 from ._native import library
 from ._native.calls import (
     MAX_REQUESTS, MAX_WIDTH, MORE, Mode, policy_numbers, read_fault, read_text, refused_error, status_error,
 )  # fmt: skip
-from .documents.encoding import Document, Events, body_json, document_bytes, events_bytes, json_bytes
+from ._native.handles import LiveHandle
+from .documents.encoding import Document, Events, body_json, document_bytes, events_bytes, headers_json
 from .documents.requests import Request, open_requests, requests
 from .errors.faults import Fault
 from .values import Value
@@ -49,7 +47,7 @@ class Part(Value):
     ids: tuple[str, ...]
 
 
-class Run:
+class Run(LiveHandle):
     """A live run of a batch: it says which requests may start now, and in the end what the batch is answered.
 
     The caller performs the requests. It starts those that are ``ready``, in any order, and reports what
@@ -90,10 +88,7 @@ class Run:
         MemoryError: An allocation failed.
     """
 
-    __slots__ = (
-        "_lock", "_handle", "_pointer", "_release", "_is_open", "_ids", "_at", "_listed", "_count", "_size", "_batch",
-        "__weakref__",
-    )  # fmt: skip
+    __slots__ = ("_ids", "_at", "_size", "_batch")
 
     def __init__(
         self, batch: Document, *, mode: Mode = "continue", width: int = MAX_WIDTH, events: Events = ()
@@ -103,18 +98,13 @@ class Run:
         self._size = len(given) + len(happened)
         # The batch, or what is to be sent of its requests, once that was asked for.
         self._batch: Union[bytes, tuple[Request, ...]] = given
-        self._lock = threading.Lock()
-        self._handle = library.Handle()
-        self._pointer = ctypes.byref(self._handle)
+        super().__init__()
         self._open(given, happened, (*options, self._pointer))
-        self._release, self._is_open = weakref.finalize(self, library.LIBRARY.odb_run_close, self._handle), True
-        # A thread may still be in a call when the process ends, and then all memory goes.
-        self._release.atexit = False
+        self._hold()
         # The ids of the requests by their positions, and the positions by the ids.
         self._ids = self._list_ids(len(given))
         self._at = {request_id: position for position, request_id in enumerate(self._ids)}
-        # Room for all positions, so that a list of some always fits.
-        self._listed, self._count = (ctypes.c_uint32 * max(len(self._ids), 1))(), ctypes.c_size_t()
+        self._make_room(len(self._ids))
 
     def _open(self, batch: bytes, events: bytes, options: tuple[Any, ...]) -> None:
         read_text("odb_run_open", batch, events, options=options)
@@ -122,10 +112,6 @@ class Run:
     def _list_ids(self, size: int) -> list[str]:
         """The ids of the requests of a batch of so many bytes."""
         return read_text("odb_run_ids", options=(self._pointer,), more=size // 8).decode().splitlines()
-
-    def __reduce_ex__(self, protocol: SupportsIndex) -> NoReturn:
-        # A copy would share the handle, and one of the two would free it under the other.
-        raise TypeError("a Run cannot be copied")
 
     def __repr__(self) -> str:
         if not hasattr(self, "_is_open"):
@@ -350,7 +336,7 @@ class Run:
         if isinstance(status, bool) or not isinstance(status, int):
             raise TypeError(f"a status is a whole number, not {status!r}")
         position = self._at[id]
-        heads, text = _headers_json(headers), body if type(body) is bytes else body_json(body)
+        heads, text = headers_json(headers), body if type(body) is bytes else body_json(body)
         number = min(max(status, 0), _MAX_NUMBER)
         with self._lock:
             end = self._call("odb_run_report", position, number, heads, len(heads), text, len(text))
@@ -373,39 +359,12 @@ class Run:
             self._require_open()
             return read_text("odb_run_response", options=(self._pointer,), more=self._size)[:-1]
 
-    def close(self) -> None:
-        """Frees the run, if it is not closed yet."""
-        with self._lock:
-            self._is_open = False
-            self._release()
-
-    def _require_open(self) -> None:
-        if not self._is_open:
-            raise ValueError("the run is closed")
-
-    def _call(self, name: str, *arguments: Any) -> int:
-        """Calls a function over the open run, by the thread that has the lock; returns its status."""
-        if not self._is_open:
-            raise ValueError("the run is closed")
-        status: int = getattr(library.LIBRARY, name)(self._pointer, *arguments)
-        return status
-
-    def _list_positions(self, name: str) -> tuple[int, list[int]]:
-        """The status that a function returns, and the positions that it lists, by the thread that has the lock."""
-        status = self._call(name, self._listed, len(self._listed), self._count)
-        return status, self._listed[: self._count.value]
-
     def _state(self) -> str:
         """How far the open run is, by the thread that has the lock."""
         if self._call("odb_run_finished"):
             return "finished"
         ready, running = (len(self._list_positions(name)[1]) for name in ("odb_run_ready", "odb_run_running"))
         return f"{ready} ready, {running} running"
-
-    def _positions(self, name: str) -> tuple[int, list[int]]:
-        """The status that a function returns, and the positions that it lists."""
-        with self._lock:
-            return self._list_positions(name)
 
     def _list(self, name: str) -> tuple[str, ...]:
         """The ids of the requests that a function lists, in the order of the batch."""
@@ -428,21 +387,6 @@ class ListedRun(Run):
 
     def _list_ids(self, size: int) -> list[str]:
         return [request.id for request in self.requests]
-
-
-# Writes a string; for an object json takes several times as long as for its strings.
-_encode = json.JSONEncoder(ensure_ascii=False).encode
-
-
-def _headers_json(headers: Optional[Mapping[str, str]]) -> bytes:
-    """The JSON text of the headers of a report; nothing without them."""
-    if headers is None:
-        return b""
-    given = dict(headers)
-    if not {*map(type, given), *map(type, given.values())} <= {str}:
-        return json_bytes(given)
-    texts = ",".join([f"{_encode(name)}:{_encode(value)}" for name, value in given.items()])
-    return f"{{{texts}}}".encode("utf-8", "surrogatepass")
 
 
 def _settle(name: str, status: int, request_id: str) -> None:
