@@ -48,7 +48,7 @@ from .driver.groups import MemberRefused, PreparedGroup
 from .driver.journal import Journal, JournalEvent, ReportUnit, StartUnit, Stop
 from .driver.tasks import TransactionAsync, perform_async
 from .driver.threads import Send, Transaction, perform
-from .driver.waits import Gate, SendAsync, SendGroup
+from .driver.unit_tasks import Gate, SendAsync, SendGroup
 from .errors.faults import Fault, OdbError, Refused
 from .http.messages import Answer, Answered, GroupFailed, PreparedRequest, Refusal
 from .runs import Part, RequestState, Run

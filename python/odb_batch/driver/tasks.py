@@ -9,7 +9,8 @@ from .._native.calls import Mode
 from ..documents.encoding import Document, document_bytes
 from .execution import Execution
 from .journal import Journal
-from .waits import Deadline, Gate, SendAsync, SendGroup, UnitOptions, perform_units
+from .unit_tasks import Gate, SendAsync, SendGroup, UnitOptions, perform_units
+from .waits import Deadline
 
 #: Opens the transaction of a group, by its name; see :data:`odb_batch.Transaction`.
 TransactionAsync = Callable[[str], Union[AsyncContextManager[Any], ContextManager[Any]]]
