@@ -9,7 +9,6 @@ import asyncio
 import functools
 import inspect as inspection
 import weakref
-from dataclasses import replace
 from typing import Any, Awaitable, Callable, Iterable, Mapping, MutableMapping, Optional
 from urllib.parse import quote, unquote
 
@@ -21,7 +20,7 @@ from .errors.faults import Fault
 from .http.batch_request import BatchRequest, batch_folder
 from .http.budget import BodyBudget, memory_budget
 from .http.messages import LOG, Answer, PreparedRequest, Refusal, header_dict, validate_answer
-from .http.observation import BatchObserver, OnRequest
+from .http.observation import BatchObserver, Inspect, OnRequest
 from .http.options import allowed_names, require_seconds, root_path
 from .http.responses import batch_response, error_response, length_refusal, wire_message
 
@@ -90,7 +89,7 @@ class BatchMiddleware:
         memory: Optional[int] = None,
         allowed: Iterable[str] = (),
         root: Optional[str] = None,
-        inspect: Optional[Callable[[PreparedRequest], None]] = None,
+        inspect: Optional[Inspect] = None,
         on_request: Optional[OnRequest] = None,
         stop: Optional[Callable[[], bool]] = None,
     ) -> None:
@@ -231,8 +230,7 @@ class _Inner:
 
     def __init__(self, middleware: BatchMiddleware, scope: _Scope, outer: BatchRequest, room: BodyBudget) -> None:
         self._middleware, self._headers, self._room = middleware, outer.headers, room
-        self._observer = BatchObserver(middleware.on_request)
-        self._is_seen = self._observer.is_needed or middleware.inspect is not None
+        self._observer = BatchObserver(outer.headers, middleware.inspect, middleware.on_request)
         prefix = scope.get("root_path", "")
         # In newer servers the path of a scope has its root_path in front; what is dispatched is as what came.
         self._cut = "" if scope["path"] == prefix + middleware.path else prefix
@@ -268,14 +266,11 @@ class _Inner:
         if path == self._scope["path"]:
             raise Refusal(400, "NestedBatch", "A batch has no batches")
         exchange = _Exchange(self._room, request)
-        return self._observe(request, scope, exchange) if self._is_seen else exchange.run(self._middleware.app, scope)
+        return self._observe(request, scope, exchange) if self._observer.is_needed else exchange.run(self._middleware.app, scope)
 
     async def _observe(self, request: PreparedRequest, scope: _Scope, exchange: "_Exchange") -> Answer:
         """Has a request seen, and answered."""
-        whole = replace(request, headers=self._headers.for_request(request.headers))
-        if self._middleware.inspect is not None:
-            self._middleware.inspect(whole)
-        with self._observer.begin(whole) as observed:
+        with self._observer.begin(request) as observed:
             observed.answer = validate_answer(await exchange.run(self._middleware.app, scope))
             return observed.answer
 

@@ -8,7 +8,6 @@ wait for requests to itself would never answer.
 
 import io
 from concurrent.futures import ThreadPoolExecutor
-from dataclasses import replace
 from http import HTTPStatus
 from time import monotonic
 from typing import Any, Callable, Iterable, Iterator, Mapping, Optional
@@ -21,7 +20,7 @@ from .errors.faults import Fault
 from .http.batch_request import BatchRequest, batch_folder
 from .http.budget import BodyBudget, memory_budget
 from .http.messages import Answer, PreparedRequest, Refusal, header_dict, validate_answer
-from .http.observation import BatchObserver, OnRequest
+from .http.observation import BatchObserver, Inspect, OnRequest
 from .http.options import allowed_names, require_seconds, root_path
 from .http.responses import batch_response, error_response, length_refusal, wire_message
 
@@ -101,7 +100,7 @@ class BatchMiddleware:
         memory: Optional[int] = None,
         allowed: Iterable[str] = (),
         root: Optional[str] = None,
-        inspect: Optional[Callable[[PreparedRequest], None]] = None,
+        inspect: Optional[Inspect] = None,
         on_request: Optional[OnRequest] = None,
         stop: Optional[Callable[[], bool]] = None,
     ) -> None:
@@ -203,8 +202,7 @@ class _Inner:
 
     def __init__(self, middleware: BatchMiddleware, environ: _Environ, outer: BatchRequest, room: BodyBudget) -> None:
         self._middleware, self._headers, self._room = middleware, outer.headers, room
-        self._observer = BatchObserver(middleware.on_request)
-        self._is_seen = self._observer.is_needed or middleware.inspect is not None
+        self._observer = BatchObserver(outer.headers, middleware.inspect, middleware.on_request)
         self._cut = len(_decoded(environ.get("SCRIPT_NAME", "")).encode())
         kept = {name: value for name, value in environ.items() if name not in _OF_OUTER and not name.startswith("HTTP_")}
         self._environ = {**kept, **_header_variables(outer.headers.inherited)}
@@ -233,14 +231,11 @@ class _Inner:
         if environ["PATH_INFO"] == self._middleware.path:
             raise Refusal(400, "NestedBatch", "A batch has no batches")
         reply = _Reply(self._room, request.method, self._middleware.timeout)
-        return self._observe(request, environ, reply) if self._is_seen else reply.read(self._middleware.app, environ)
+        return self._observe(request, environ, reply) if self._observer.is_needed else reply.read(self._middleware.app, environ)
 
     def _observe(self, request: PreparedRequest, environ: _Environ, reply: "_Reply") -> Answer:
         """Has a request seen, and answered."""
-        whole = replace(request, headers=self._headers.for_request(request.headers))
-        if self._middleware.inspect is not None:
-            self._middleware.inspect(whole)
-        with self._observer.begin(whole) as observed:
+        with self._observer.begin(request) as observed:
             observed.answer = validate_answer(reply.read(self._middleware.app, environ))
             return observed.answer
 

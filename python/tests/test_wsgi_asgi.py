@@ -16,6 +16,17 @@ from support.applications import JSON, OverAsgi, OverNewAsgi, OverWideWsgi, Over
 MANY = 10_000
 
 
+def late(now):
+    """An application of WSGI that takes a minute of a clock for its answer."""
+
+    def app(environ, start_response):
+        now[0] += 60
+        start_response("200 OK", [("Content-Type", "text/plain")])
+        return [b"late"]
+
+    return app
+
+
 class TestWsgi:
     def test_the_environment_of_a_request(self):
         service = OverWideWsgi("/odata/$batch")
@@ -114,14 +125,8 @@ class TestWsgi:
     def test_an_answer_that_comes_late_as_a_whole_is_taken(self, monkeypatch):
         now = [0.0]
         monkeypatch.setattr(wsgi, "monotonic", lambda: now[0])
-
-        def app(environ, start_response):
-            now[0] += 60
-            start_response("200 OK", [("Content-Type", "text/plain")])
-            return [b"late"]
-
         service = OverWsgi("/odata/$batch")
-        service.middleware.app = app
+        service.middleware.app = late(now)
         assert batch(service, {"url": "a"})["r0"]["body"] == "late"
 
     @pytest.mark.parametrize("by_write", [True, False])
@@ -167,14 +172,8 @@ class TestWsgi:
         """What runs is waited for, and nothing more starts."""
         now = [0.0]
         monkeypatch.setattr(threads, "monotonic", lambda: now[0])
-
-        def app(environ, start_response):
-            now[0] += 60
-            start_response("200 OK", [("Content-Type", "text/plain")])
-            return [b"late"]
-
         service = OverWsgi("/odata/$batch", deadline=100)
-        service.middleware.app = app
+        service.middleware.app = late(now)
         found = batch(service, *[{"url": "a"}] * 4)
         assert [it["status"] for it in found.values()] == [200, 200, 424, 424]
 

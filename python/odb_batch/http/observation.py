@@ -1,14 +1,18 @@
-"""What is seen of the requests of a batch from outside: a line of the log for each, and a hook around it."""
+"""What is seen of the requests of a batch from outside: a line of the log for each, and hooks before and around it."""
 
 import asyncio
 import itertools
 import logging
+from dataclasses import replace
 from time import perf_counter
 from typing import Callable, Optional
 from urllib.parse import urlsplit
 
+from .batch_request import HeaderPolicy
 from .messages import LOG, TIMED_OUT, Answer, PreparedRequest, exception_answer
 
+#: Is called with a request before it is sent, and may raise Refusal.
+Inspect = Callable[[PreparedRequest], None]
 #: Is called with a request before it is sent; a function that it returns is called with the answer.
 OnRequest = Callable[[PreparedRequest], Optional[Callable[[Answer], object]]]
 
@@ -26,22 +30,28 @@ def notify(on_answer: Optional[Callable[[Answer], object]], answer: Answer) -> N
 
 
 class BatchObserver:
-    """Logs each request of one batch at INFO, and calls the hook around it.
+    """Logs each request of one batch at INFO, and shows it to hooks with all its headers.
 
     Args:
-        on_request: The hook, or None.
+        headers: The headers of its requests.
+        inspect: Is called with each request before it is dispatched, or None. What it raises is the answer.
+        on_request: The hook around each request, or None.
 
     Attributes:
         is_needed: Whether there is a hook, or the log has the lines.
     """
 
-    def __init__(self, on_request: Optional[OnRequest]) -> None:
-        self._on_request, self._number = on_request, next(_NUMBERS)
-        self.is_needed = on_request is not None or _LINES.isEnabledFor(logging.INFO)
+    def __init__(self, headers: HeaderPolicy, inspect: Optional[Inspect], on_request: Optional[OnRequest]) -> None:
+        self._headers, self._inspect, self._on_request, self._number = headers, inspect, on_request, next(_NUMBERS)
+        has_hooks = inspect is not None or on_request is not None
+        self.is_needed = has_hooks or _LINES.isEnabledFor(logging.INFO)
 
     def begin(self, request: PreparedRequest) -> "ObservedRequest":
-        """Returns the block in which a request is answered; raises what the hook raises."""
-        return ObservedRequest(self._number, request, self._on_request)
+        """Returns the block in which a request is answered; raises what a hook raises."""
+        whole = replace(request, headers=self._headers.for_request(request.headers))
+        if self._inspect is not None:
+            self._inspect(whole)
+        return ObservedRequest(self._number, whole, self._on_request)
 
 
 class ObservedRequest:
