@@ -19,6 +19,7 @@ from ._service import MAX_SECONDS, ROOT, SECONDS, Service, Unusable, is_root
 
 PROGRAM = "python3 -m odb_batch conformance"
 BODY_HELP = "a body that creates an entity; the key is added. One with a property of each type judges more"
+HEADER_HELP = "a header of all requests; @FILE has one in each line"
 # Exit statuses; wrong arguments end with 2.
 BROKEN, UNUSABLE = 1, 3
 
@@ -46,6 +47,17 @@ def header_of(text: str) -> list[str]:
     return [name, value.strip()]
 
 
+def headers_of(text: str) -> list[list[str]]:
+    """The header that a text is; or, after @, those in the lines of a file, which no list of processes shows."""
+    if not text.startswith("@"):
+        return [header_of(text)]
+    try:
+        with open(text[1:], encoding="utf-8") as file:
+            return [header_of(line) for line in file.read().splitlines() if line]
+    except (OSError, UnicodeDecodeError):
+        raise argparse.ArgumentTypeError(f"{text[1:]!r} is not a file of headers that can be read") from None
+
+
 def name_of(text: str) -> str:
     require(re.fullmatch(r"\w+", text), text, "a name")
     return text
@@ -60,7 +72,7 @@ def parser() -> argparse.ArgumentParser:
     found.add_argument("--set", metavar="NAME", type=name_of, help="an entity set in which entities may be made")
     found.add_argument("--key", metavar="NAME", type=name_of, help="the key property of its entities")
     found.add_argument("--body", metavar="JSON", type=body_of, help=BODY_HELP)
-    found.add_argument("--header", metavar="H: V", type=header_of, action="append", default=[], help="of all requests")
+    found.add_argument("--header", metavar="H: V", type=headers_of, action="extend", default=[], help=HEADER_HELP)
     found.add_argument("--requests", metavar="N", type=number_of, default=REQUESTS, help="how many a batch may have; 100")
     found.add_argument("--timeout", metavar="S", type=seconds_of, default=SECONDS, help="seconds for an answer; 20")
     found.add_argument("--case", metavar="GLOB", action="append", help="runs cases of such names alone, as 'group-*'")

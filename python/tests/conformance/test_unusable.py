@@ -14,7 +14,7 @@ import time
 import pytest
 
 from common import SECONDS, rows, until
-from odb_batch.conformance._command import PROGRAM
+from odb_batch.conformance._command import PROGRAM, parser
 from odb_batch.conformance._keys import literals
 from support.commands import with_package
 from tool import ABOUT, TOOL, service, tool
@@ -203,6 +203,7 @@ def test_a_signal_raises_nothing_where_it_comes():
     ((GOOD, *ABOUT, "--body", "[]"), "argument --body: '[]' is not an object of JSON"),
     ((GOOD, *ABOUT, "--header", "here"),
      "argument --header: 'here' is not a header, such as Authorization: Bearer 123"),
+    ((GOOD, *ABOUT, "--header", "@none"), "argument --header: 'none' is not a file of headers that can be read"),
     ((GOOD, *ABOUT, "--case", "none"), "no case has a name like 'none'"),
     ((GOOD, *ABOUT, "--timeout", "0"), "argument --timeout: '0' is not a number of seconds up to 3600"),
     ((GOOD, *ABOUT, "--requests", "none"), "argument --requests: 'none' is not a whole number from 1 to 10000"),
@@ -211,6 +212,13 @@ def test_wrong_arguments(words, line):
     done = tool(*words)
     assert (done.status, done.out) == (2, "")
     assert done.error.splitlines()[-1] == f"{PROGRAM}: error: {line}"
+
+
+def test_the_headers_of_a_file(tmp_path):
+    file = tmp_path / "headers"
+    file.write_text("Authorization: Bearer 1\n\nX-A: b\n", encoding="utf-8")
+    found = parser().parse_args([GOOD, "--header", "Age: 7", "--header", f"@{file}"]).header
+    assert found == [["Age", "7"], ["Authorization", "Bearer 1"], ["X-A", "b"]]
 
 
 def test_the_cases_are_listed():
