@@ -6,7 +6,7 @@ from typing import Any, Literal, Mapping, Optional, Union, get_args
 
 from ._native import library
 from ._native.calls import (
-    MAX_REQUESTS, MAX_WIDTH, MORE, Mode, policy_numbers, read_fault, read_text, refused_error, status_error,
+    MAX_REQUESTS, MAX_WIDTH, MORE, Mode, policy_numbers, read_fault, read_text, require_done, require_number,
 )  # fmt: skip
 from ._native.handles import LiveHandle
 from .documents.encoding import Document, Events, body_json, document_bytes, events_bytes, headers_json
@@ -154,7 +154,7 @@ class Run(LiveHandle):
         status, positions = self._positions("odb_run_undone")
         if status == library.REFUSED:
             raise Fault("F66", "Unfinished", "events")
-        _settle("odb_run_undone", status, "")
+        require_done("odb_run_undone", status)
         return tuple(self._ids[position] for position in positions)
 
     @property
@@ -187,7 +187,7 @@ class Run(LiveHandle):
             ValueError: The run is closed.
         """
         status, positions = self._positions("odb_run_next_unit")
-        _settle("odb_run_next_unit", status, "")
+        require_done("odb_run_next_unit", status)
         return tuple(map(self._ids.__getitem__, positions)) or None
 
     def request(self, id: str) -> Request:
@@ -225,7 +225,7 @@ class Run(LiveHandle):
         state, status = ctypes.c_uint32(), ctypes.c_uint32()
         with self._lock:
             end = self._call("odb_run_state", position, ctypes.byref(state), ctypes.byref(status))
-        _settle("odb_run_state", end, id)
+        require_done("odb_run_state", end, id)
         return RequestState(_STATES[state.value], status.value or None)
 
     def stop(self) -> None:
@@ -293,8 +293,7 @@ class Run(LiveHandle):
             ValueError: A group has more requests than the limit, it is another batch than that of the run, or the run is closed.
             MemoryError: An allocation failed.
         """
-        if isinstance(limit, bool) or not isinstance(limit, int) or not 1 <= limit <= MAX_REQUESTS:
-            raise ValueError(f"limit must be a whole number from 1 to {MAX_REQUESTS}, not {limit!r}")
+        require_number("limit", limit, MAX_REQUESTS)
         given = document_bytes(batch)
         with self._lock:
             self._require_open()
@@ -303,7 +302,7 @@ class Run(LiveHandle):
             raise read_fault(text, given)
         if status == library.WRONG_OPTION:
             raise ValueError("it is another batch than that of the run, or a group has more requests than the limit")
-        _settle("odb_run_part", status, "")
+        require_done("odb_run_part", status)
         return Part(text, tuple(map(self._ids.__getitem__, positions))) if positions else None
 
     def _begin(self, name: str, request_id: str) -> None:
@@ -311,7 +310,7 @@ class Run(LiveHandle):
         position = self._at[request_id]
         with self._lock:
             status = self._call(name, position)
-        _settle(name, status, request_id)
+        require_done(name, status, request_id)
 
     def report(self, id: str, status: int, headers: Optional[Mapping[str, str]] = None, body: Any = None) -> None:
         """Reports what a running request was answered.
@@ -345,7 +344,7 @@ class Run(LiveHandle):
                 return
         if end == library.REFUSED:
             raise _fault(heads, text)
-        _settle("odb_run_report", end, id)
+        require_done("odb_run_report", end, id)
 
     def response(self) -> bytes:
         """Returns the response document of the finished run, as JSON without a newline.
@@ -369,7 +368,7 @@ class Run(LiveHandle):
     def _list(self, name: str) -> tuple[str, ...]:
         """The ids of the requests that a function lists, in the order of the batch."""
         status, positions = self._positions(name)
-        _settle(name, status, "")
+        require_done(name, status)
         return tuple(self._ids[position] for position in sorted(positions))
 
 
@@ -387,12 +386,6 @@ class ListedRun(Run):
 
     def _list_ids(self, size: int) -> list[str]:
         return [request.id for request in self.requests]
-
-
-def _settle(name: str, status: int, request_id: str) -> None:
-    """Raises what a call returns but that it is done."""
-    if status != library.DONE:
-        raise refused_error(status, request_id) or status_error(name, status)
 
 
 def _fault(headers: bytes, body: bytes) -> Fault:

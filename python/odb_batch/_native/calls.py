@@ -34,10 +34,15 @@ def mode_number(mode: Mode) -> int:
     return option_number(_MODES, "mode", mode)
 
 
+def require_number(name: str, number: int, most: int) -> None:
+    """Raises ValueError unless an option is a whole number from 1 to another one."""
+    if isinstance(number, bool) or not isinstance(number, int) or not 1 <= number <= most:
+        raise ValueError(f"{name} must be a whole number from 1 to {most}, not {number!r}")
+
+
 def policy_numbers(mode: Mode, width: int) -> tuple[int, int]:
     """Returns the numbers of a policy."""
-    if isinstance(width, bool) or not isinstance(width, int) or not 1 <= width <= MAX_WIDTH:
-        raise ValueError(f"width must be a whole number from 1 to {MAX_WIDTH}, not {width!r}")
+    require_number("width", width, MAX_WIDTH)
     return mode_number(mode), width
 
 
@@ -65,6 +70,12 @@ def refused_error(status: int, request_id: str) -> Optional[Refused]:
         return None
     code = f"{first}{status % 10}"
     return Refused(code, explain(code).name, request_id)
+
+
+def require_done(name: str, status: int, request_id: str = "") -> None:
+    """Raises what a function over a run returns but that it is done."""
+    if status != library.DONE:
+        raise refused_error(status, request_id) or status_error(name, status)
 
 
 def read_fault(line: bytes, *documents: bytes) -> Fault:

@@ -6,7 +6,7 @@ from dataclasses import dataclass, field, replace
 from typing import Iterable, Mapping, Optional
 from urllib.parse import unquote
 
-from .._native.calls import MAX_REQUESTS, MAX_WIDTH, Mode, policy_numbers
+from .._native.calls import MAX_REQUESTS, MAX_WIDTH, Mode, policy_numbers, require_number
 from ..commands import PlannedRequest, check, match, plan
 from ..documents.encoding import json_bytes
 from ..documents.requests import Request, requests
@@ -68,8 +68,7 @@ class Parts:
     """
 
     def __init__(self, document: bytes, limit: int, mode: Mode) -> None:
-        if isinstance(limit, bool) or not isinstance(limit, int) or not 1 <= limit <= MAX_REQUESTS:
-            raise ValueError(f"limit must be a whole number from 1 to {MAX_REQUESTS}, not {limit!r}")
+        require_number("limit", limit, MAX_REQUESTS)
         policy_numbers(mode, MAX_WIDTH)
         given, planned = requests(document), plan(document)
         self.document, self._limit, self._mode = document, limit, mode

@@ -4,7 +4,7 @@ import unittest
 import warnings
 from typing import Any, Mapping
 
-from .._native.calls import MAX_REQUESTS
+from .._native.calls import MAX_REQUESTS, require_number
 from ._cases import REQUESTS, all_cases
 from ._entities import Entities
 from ._interruption import Interruption
@@ -51,8 +51,7 @@ def judge(
     __tracebackhide__ = True  # for pytest  pylint: disable=unused-variable
     if not is_root(url):
         raise ValueError(f"{url!r} is not {ROOT}")
-    if not 1 <= requests <= MAX_REQUESTS:
-        raise ValueError(f"requests must be a whole number from 1 to {MAX_REQUESTS}, not {requests!r}")
+    require_number("requests", requests, MAX_REQUESTS)
     if not 0 < timeout <= MAX_SECONDS:
         raise ValueError(f"timeout must be a number of seconds up to {MAX_SECONDS}, not {timeout!r}")
     cases = [found for found in all_cases(requests) if found.name == case]
