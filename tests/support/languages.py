@@ -69,11 +69,9 @@ def digest(text):
 def read_calls(path):
     """Yields the calls of a file: the command and its options, and two documents."""
     with open(path, "rb") as file:
-        data = file.read()
-    while data:
-        *numbers, first, second = struct.unpack_from("<8I", data)
-        yield numbers, data[32 : 32 + first], data[32 + first : 32 + first + second]
-        data = data[32 + first + second :]
+        while head := file.read(32):
+            *numbers, first, second = struct.unpack("<8I", head)
+            yield numbers, file.read(first), file.read(second)
 
 
 def located(text, batch, second):
