@@ -280,6 +280,21 @@ uint32_t odb_responses(const uint8_t *document, size_t document_size,
                        uint8_t *text, size_t text_size, size_t *text_length,
                        odb_response *responses, size_t responses_size, size_t *count);
 
+/* A header: where its name and its value lie in a text. */
+typedef struct odb_header {
+    odb_part name;  /* in lower case */
+    odb_part value; /* with its escapes in JSON resolved */
+} odb_header;
+
+/* Gives the headers of an odb_request or an odb_response, which are a JSON object, as pairs in byte order of their names. Empty, NULL
+ * or the JSON null is none. The text has names and values, and `pairs` is a buffer of `pairs_size` structs; it may be NULL, which is one
+ * of size 0. `*count` is set to the number of headers; it must not be NULL. Returns ODB_DONE; or, with both buffers as they were,
+ * ODB_SMALL_BUFFER if one of them has too little room: `*text_length` and `*count` say how much is needed; or, with both 0,
+ * ODB_REFUSED if these are not what `odb_run_report` takes as headers, or ODB_OUT_OF_MEMORY. Takes O(n log n) time for n bytes. */
+uint32_t odb_headers(const uint8_t *headers, size_t headers_size,
+                     uint8_t *text, size_t text_size, size_t *text_length,
+                     odb_header *pairs, size_t pairs_size, size_t *count);
+
 /* Says where a request of a batch is sent, if at all. `base` is the absolute URL of the folder of `$batch`, as
  * http://host/odata/, to which `url` is joined (RFC 3986, section 5.2). `roots` has the roots of the service, one a line: absolute
  * URLs with a host that end with / and have neither user information nor query; another text allows nothing.
@@ -564,6 +579,15 @@ static inline uint32_t odb_inline_responses(ODB_INLINE_IN(document), ODB_INLINE_
                          responses && responses_size ? responses : &no_response, responses ? responses_size : 0, count);
 }
 
+static inline uint32_t odb_inline_headers(ODB_INLINE_IN(headers), ODB_INLINE_TEXT, odb_header *pairs, size_t pairs_size,
+                                          size_t *count)
+{
+    uint8_t none = 0;
+    odb_header no_header = {{0, 0}, {0, 0}};
+    return odb_headers(ODB_INLINE_SLICE(headers), ODB_INLINE_SLICE(text), text_length,
+                       pairs && pairs_size ? pairs : &no_header, pairs ? pairs_size : 0, count);
+}
+
 static inline uint32_t odb_inline_explain(ODB_INLINE_IN(code), ODB_INLINE_TEXT)
 {
     uint8_t none = 0;
@@ -680,6 +704,7 @@ static inline uint32_t odb_inline_run_response(odb_live_run *run, ODB_INLINE_TEX
 #define odb_constants odb_inline_constants
 #define odb_requests odb_inline_requests
 #define odb_responses odb_inline_responses
+#define odb_headers odb_inline_headers
 #define odb_resolve odb_inline_resolve
 #define odb_run_open odb_inline_run_open
 #define odb_run_open_requests odb_inline_run_open_requests

@@ -32,6 +32,7 @@ TYPES = {
     "&mut [u32]": ["uint32_t *{}", "size_t {}_size"],
     "&mut [Request]": ["odb_request *{}", "size_t {}_size"],
     "&mut [Response]": ["odb_response *{}", "size_t {}_size"],
+    "&mut [Header]": ["odb_header *{}", "size_t {}_size"],
     "&mut [Fault]": ["odb_fault *{}", "size_t {}_size"],
     "&mut Position": ["odb_position *{}"],
     "Handle": ["odb_live_run {}"],
@@ -49,7 +50,8 @@ HANDLES = {
 
 # The structs of the source that have the same fields for C.
 STRUCTS = {
-    "Part": "odb_part", "Request": "odb_request", "Response": "odb_response", "Position": "odb_position", "Fault": "odb_fault",
+    "Part": "odb_part", "Request": "odb_request", "Response": "odb_response", "Header": "odb_header",
+    "Position": "odb_position", "Fault": "odb_fault",
 }  # fmt: skip
 FIELDS = {"usize": "size_t", **STRUCTS}
 

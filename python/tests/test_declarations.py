@@ -16,10 +16,11 @@ KINDS = {
     "uint32_t": ctypes.c_uint32,
     "uint32_t *": ctypes.POINTER(ctypes.c_uint32),
     "uint64_t": ctypes.c_uint64,
-    # The package reads an odb_fault, an odb_request, an odb_response and an odb_position as their numbers.
+    # The package reads structs as their numbers.
     "odb_fault *": ctypes.c_void_p,
     "odb_request *": ctypes.c_void_p,
     "odb_response *": ctypes.c_void_p,
+    "odb_header *": ctypes.c_void_p,
     "odb_position *": ctypes.c_void_p,
     "odb_live_run": library.Handle,
     "odb_live_run *": ctypes.POINTER(library.Handle),

@@ -120,6 +120,14 @@ static int find(void)
         && is_done(odb_where(bytes(batch), strlen(batch), bytes("/requests/0"), 11, &found));
 }
 
+/* Asks for the pairs of headers whose one value nests. */
+static int nested_headers(void)
+{
+    static odb_header pairs[1];
+    size_t count;
+    return odb_headers(bytes(second), strlen(second), text, sizeof text, &length, pairs, 1, &count) == ODB_REFUSED;
+}
+
 static int constants(void)
 {
     return is_done(odb_constants(text, sizeof text, &length));
@@ -417,6 +425,8 @@ static void measure_deep(void)
     measure("a live run after a deep body", live_after_events);
     make(second, "", DEEPEST, "");
     measure("a live run of a deep body", live);
+    make(second, "{\"k\":", DEEPEST, "}");
+    measure("headers that nest deep", nested_headers);
     make_deep(100000);
     measure("a check of a body that is too deep", refused);
     measure("a check of a body that is too deep in JSON", refused_in_json);

@@ -30,8 +30,8 @@ def compile_c(program, standard, sources, library, *flags):
 
 
 PROGRAMS = (
-    "calls", "constants", "explanations", "faults", "live", "openings", "parts", "places", "positions", "requests", "responses",
-    "steps", "targets", "units",
+    "calls", "constants", "explanations", "faults", "headers", "live", "openings", "parts", "places", "positions", "requests",
+    "responses", "steps", "targets", "units",
 )  # fmt: skip
 
 

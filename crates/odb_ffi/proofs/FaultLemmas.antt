@@ -16,8 +16,12 @@ use Rattle.odb_ffi.specs.declared.request.Part.{Part}
 
 -- ---- a word
 
+-- the word that was appended last
+pub last-word : (old word new : List ℕ) (part : Part) → new ≡ old ++ word → part.start ≡ length old → part.length ≡ length word → IsWord new word part
+last-word old word new part is starts long = record { before = old; after = []; whole = is ∙ ap (λ t. old ++ t) (sym (append-nil word)); starts = starts; long = long }
+
 -- a word stays where it is
-kept-word : (old more new word : List ℕ) (part : Part) → new ≡ old ++ more → IsWord old word part → IsWord new word part
+pub kept-word : (old more new word : List ℕ) (part : Part) → new ≡ old ++ more → IsWord old word part → IsWord new word part
 kept-word old more new word part is held = record {
   before = held.before;
   after = held.after ++ more;

@@ -1,6 +1,7 @@
 mod AddressLemmas
 mod AnswerLemmas
 mod FaultLemmas
+mod HeaderLemmas
 mod OutcomeLemmas
 mod PositionLemmas
 mod ReportedLemmas

@@ -13,6 +13,7 @@ pub mod Responses
 pub mod Explanations
 pub mod Constants
 pub mod Faults
+pub mod Headers
 pub mod Targets
 pub mod Places
 pub mod Handles

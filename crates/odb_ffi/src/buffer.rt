@@ -1,7 +1,7 @@
 //! How a list or a text reaches the buffer of the caller.
 
 ghost use Rattle.std.specs.Prelude.{◌≤◌, length};
-ghost use Rattle.odb_ffi.specs.Lists.{BeginsWith};
+ghost use Rattle.odb_ffi.specs.Lists.{BeginsWith, Gives};
 ghost use Rattle.odb_ffi.specs.Returns.{Fills};
 
 use crate::status::{DONE, SMALL_BUFFER};
@@ -24,4 +24,27 @@ pub fn give_text(found: &str, text: &mut [u8], text_length: &mut usize) -> u32
     }
     copy_to(text, found.as_bytes());
     DONE
+}
+
+/// Copies a text and a list to the buffers if both fit, sets how long they are, and returns the status, which is then `done`.
+pub fn give_list<T: Copy>(
+    found: &str,
+    items: &[T],
+    done: u32,
+    text: &mut [u8],
+    text_length: &mut usize,
+    buffer: &mut [T],
+    count: &mut usize,
+) -> u32
+    ensures { Gives found.now items.now done result text_length.new count.new text.old text.new
+        buffer.old buffer.new }
+{
+    *text_length = found.len();
+    *count = items.len();
+    if *text_length > text.len() || *count > buffer.len() {
+        return SMALL_BUFFER;
+    }
+    copy_to(text, found.as_bytes());
+    copy_to(buffer, items);
+    done
 }

@@ -7,12 +7,12 @@ ghost use Rattle.odb_ffi.specs.Lists.{Gives};
 ghost use Rattle.odb_ffi.specs.Places.{position_in};
 ghost use Rattle.odb_ffi.specs.Faults as calls;
 
-use crate::buffer::copy_to;
+use crate::buffer::give_list;
 use crate::fault::Fault;
 use crate::options::setup_of;
 use crate::position::Position;
 use crate::request::Part;
-use crate::status::{DONE, REFUSED, SMALL_BUFFER};
+use crate::status::{DONE, REFUSED};
 use odb_doc::Refusal;
 use odb_engine::{Form, faults_in};
 use odb_spans::{Position as Found, positions_of};
@@ -111,12 +111,13 @@ pub fn give_faults(
         (calls.status_by found.now.faults.items) result text_length.new count.new text.old text.new
         faults.old faults.new }
 {
-    *text_length = found.text.len();
-    *count = found.faults.len();
-    if *text_length > text.len() || *count > faults.len() {
-        return SMALL_BUFFER;
-    }
-    copy_to(text, found.text.as_bytes());
-    copy_to(faults, &found.faults);
-    status_of(&found.faults)
+    give_list(
+        found.text.as_str(),
+        &found.faults,
+        status_of(&found.faults),
+        text,
+        text_length,
+        faults,
+        count,
+    )
 }

@@ -5,11 +5,11 @@
 //! engine states. A call of a command keeps nothing; a live run is a handle that its caller closes.
 //! `include/odb_batch.h` declares the exports for C.
 //!
-//! [`exports`], [`constant_exports`], [`explain_exports`], [`fault_exports`], [`open_exports`], [`part_exports`], [`place_exports`], [`request_exports`],
+//! [`exports`], [`constant_exports`], [`explain_exports`], [`fault_exports`], [`header_exports`], [`open_exports`], [`part_exports`], [`place_exports`], [`request_exports`],
 //! [`resolve_exports`], [`response_exports`], [`run_exports`] and [`unit_exports`] have the exports alone. What they do over slices and numbers is beside them: `options` and `status` name the
 //! numbers, `answer` does a task and copies a text to the caller's buffer, `live` and `units` drive a run, `next` says which step it
-//! takes next, `parts` gives what may be sent together, `requests` copies what is to be sent, `responses` what a service has answered, `faults` all faults, `explanations` what a fault means, [`constants`] what packages need to know, and `targets` says where a
-//! request is sent. [`request`] is one request, [`response`] one response, [`fault`] one fault, and [`position`] where an element begins. What needs a pointer is in `address`, [`handle`], `lent` and [`slot`].
+//! takes next, `parts` gives what may be sent together, `requests` copies what is to be sent, `responses` what a service has answered, `faults` all faults, `headers` headers as pairs, `explanations` what a fault means, [`constants`] what packages need to know, and `targets` says where a
+//! request is sent. [`request`] is one request, [`response`] one response, [`fault`] one fault, [`header`] one header, and [`position`] where an element begins. What needs a pointer is in `address`, [`handle`], `lent` and [`slot`].
 //! What holds of every list of calls on a live run is in [`laws`].
 #![tactic(auto)]
 
@@ -26,6 +26,9 @@ pub mod fault_exports;
 mod faults;
 mod filled;
 pub mod handle;
+pub mod header;
+pub mod header_exports;
+pub mod headers;
 pub mod laws;
 mod lent;
 mod live;

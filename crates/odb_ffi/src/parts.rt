@@ -7,9 +7,9 @@ ghost use Rattle.odb_ffi.specs.Lists.{Gives};
 ghost use Rattle.odb_ffi.specs.Parts.{GivesPart};
 
 use crate::answer::{give, wrong_option};
-use crate::buffer::copy_to;
+use crate::buffer::give_list;
 use crate::options::seed_of;
-use crate::status::{DONE, SMALL_BUFFER};
+use crate::status::DONE;
 use odb_engine::{Answer, Form, LiveRun, Part};
 use std::alloc::Global;
 
@@ -24,14 +24,15 @@ fn give_part(
     ensures { Gives (string_bytes part.now.text) part.now.positions.items 0 result text_length.new
         count.new text.old text.new positions.old positions.new }
 {
-    *text_length = part.text.len();
-    *count = part.positions.len();
-    if *text_length > text.len() || *count > positions.len() {
-        return SMALL_BUFFER;
-    }
-    copy_to(text, part.text.as_bytes());
-    copy_to(positions, &part.positions);
-    DONE
+    give_list(
+        part.text.as_str(),
+        &part.positions,
+        DONE,
+        text,
+        text_length,
+        positions,
+        count,
+    )
 }
 
 /// Marks the requests of a part as sent if the status is that of what is done.

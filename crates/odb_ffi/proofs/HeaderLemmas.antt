@@ -1,0 +1,38 @@
+-- Headers in a text that grows.
+use Rattle.std.proofs.Common.{◌≡◌, ◌∙◌, ℕ, List, [], ◌∷◌, ◌++◌, ap, append_assoc, refl}
+use Rattle.std.specs.List.{AllZip}
+use Rattle.odb_doc.specs.Headers as doc
+use Rattle.odb_ffi.specs.declared.header.Header.{Header}
+use Rattle.odb_ffi.specs.declared.request.Part.{Part}
+use Rattle.odb_ffi.specs.Faults.{IsWord}
+use Rattle.odb_ffi.specs.declared.outcome.NoOutcome.{NoOutcome}
+use Rattle.odb_ffi.specs.declared.outcome.NoOutcome.TheVariants as none
+use Rattle.odb_ffi.specs.Headers.{GivesHeaders, IsPair}
+use Rattle.odb_ffi.specs.Headers.GivesHeaders.{OutOfMemory, Refused}
+use Rattle.odb_ffi.specs.Live.{HasNoHeaders}
+use Rattle.odb_ffi.proofs.FaultLemmas.{kept-word}
+
+-- a name and a value, which were appended one after the other
+pub last-pair : (old name value between new : List ℕ) (name_part value_part : Part) → new ≡ between ++ value → IsWord between name name_part → IsWord new value value_part
+    → IsPair new (name, value) (record { name = name_part; value = value_part })
+last-pair old name value between new name_part value_part is first second = record { name = kept-word between value new name name_part is first; value = second }
+
+pub both : (old name value between new : List ℕ) → between ≡ old ++ name → new ≡ between ++ value → new ≡ old ++ (name ++ value)
+both old name value between new first second = second ∙ ap (λ t. t ++ value) first ∙ append_assoc old name value
+
+kept-pair : (old more new : List ℕ) (header : doc.Header) (pair : Header) → new ≡ old ++ more → IsPair old header pair → IsPair new header pair
+kept-pair old more new header pair is held = record { name = kept-word old more new _ _ is held.name; value = kept-word old more new _ _ is held.value }
+
+-- one header more, by a text that has grown
+pub push-pair : (old more new : List ℕ) (headers : List doc.Header) (pairs : List Header) (header : doc.Header) (pair : Header) → new ≡ old ++ more → AllZip (IsPair old) headers pairs → IsPair new header pair
+    → AllZip (IsPair new) (headers ++ header ∷ []) (pairs ++ pair ∷ [])
+push-pair old more new [] [] header pair is zip last = (last, tt)
+push-pair old more new [] (p ∷ pairs) header pair is zip last = absurd zip
+push-pair old more new (h ∷ headers) [] header pair is zip last = absurd zip
+push-pair old more new (h ∷ headers) (p ∷ pairs) header pair is zip last = (kept-pair old more new h p is zip.0, push-pair old more new headers pairs header pair is zip.1 last)
+
+-- there are no pairs
+pub not-given : (bytes : List ℕ) (cause : NoOutcome) (status : ℕ) (text : List ℕ) (pairs : List Header) → (cause ≡ none.Refused → status ≡ 1) → (cause ≡ none.OutOfMemory → status ≡ 4) → (cause ≡ none.Refused → HasNoHeaders bytes)
+    → GivesHeaders bytes status 0 0 text text pairs pairs
+not-given bytes none.Refused status text pairs refused memory not = Refused (not refl) (refused refl) refl refl refl refl
+not-given bytes none.OutOfMemory status text pairs refused memory not = OutOfMemory (record { is = memory refl; none = refl; same = refl }) refl refl

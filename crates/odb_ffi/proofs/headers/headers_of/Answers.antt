@@ -1,0 +1,19 @@
+-- The headers of an outcome as pairs.
+use Rattle.std.proofs.Common.{rules, subst, sym}
+use Rattle.odb_doc.specs.Headers.{HoldsHeaders, headers_in}
+use Rattle.odb_doc.specs.declared.recorded.outcome.Outcome.{Outcome}
+use Rattle.odb_ffi.proofs.headers.headers_of.Goals as goal
+
+pub returns-in-Ok-clause-pairs : goal.returns-in-Ok-clause-pairs
+returns-in-Ok-clause-pairs c =
+    let reported = c.in_ok-outcome.ensures.some in
+    record {
+      value = reported.headers_value;
+      is = reported.of_headers;
+      headers = headers_in c.outcome.inside.headers;
+      held = subst (λ (outcome : Outcome). HoldsHeaders reported.headers_value outcome.headers) (sym c.outcome.view_is) reported.parts.of_headers;
+      each = c.in-Ok.ensures;
+    }
+
+pub returns-in_err-outcome-clause-refused : goal.returns-in_err-outcome-clause-refused
+returns-in_err-outcome-clause-refused c = λ same. c.outcome_of.ensures.refused (search (rules, same, c.in_err-outcome.was, c.in_err-outcome.is, c.from_residual.ensures))
