@@ -3,6 +3,7 @@ mod ContentLemmas
 mod LexLemmas
 mod TokenLemmas
 mod PlaceLemmas
+mod PositionLemmas
 mod ExtentLemmas
 mod ScanLemmas
 mod WalkLemmas

@@ -2,12 +2,10 @@ use Rattle.std.proofs.Common.{◌≡◌, ◌≤◌, ◌+◌, take}
 use Rattle.std.specs.Prelude.{count_by}
 use Rattle.std.specs.List.{after_last}
 use Rattle.odb_spans.specs.Positions.{begins_character, is_newline}
-use Rattle.odb_spans.proofs.position.Position.moved_to.Given as goal
+use Rattle.odb_spans.proofs.position.counted_column.Given as goal
 
 abbrev pub invariant-loop-at : goal.invariant-loop-at
 invariant-loop-at l = record {
-  line : l.line ≡ 1 + count_by is_newline (take l.at l.text);
   column : l.column ≡ 1 + count_by begins_character (after_last is_newline (take l.at l.text));
-  few_lines : l.line ≤ 1 + l.at;
-  few_columns : l.column ≤ 1 + l.at;
+  few : l.column ≤ 1 + l.at;
 }
