@@ -63,6 +63,9 @@ PLACES = [
     Place("python/pyproject.toml", r'^version = "(.*)"$'),
     Place("python/odb_batch/_native/library.py", r"^MAJOR, MINOR = (\d+, \d+)$", "{0}, {1}"),
     Place("node/package.json", r'^  "version": "(.*)",$'),
+    Place("dotnet/src/Native.cs", r"const uint Major = (\d+, Minor = \d+);", "{0}, Minor = {1}"),
+    Place("dotnet/OdbBatch.csproj", r"<Version>(.*)</Version>"),
+    Place("dotnet/OdbBatch.nuspec", r"<version>(.*)</version>"),
     Place("tests/cases/help.txt", r"^out odb_batch (\d\S*)$"),
     Place("README.md", r"odb_batch-(\d+\.\d+\.\d+)"),
 ]
