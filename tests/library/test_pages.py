@@ -78,12 +78,6 @@ def test_java(environment, tmp_path):
     run("java", "--enable-native-access=ALL-UNNAMED", "Page", wanted=ONE + ANSWERED, cwd=tmp_path, env=environment)
 
 
-@pytest.mark.needs("dotnet")
-def test_csharp(environment, tmp_path):
-    lay_out(tmp_path, f"{EXAMPLES}/OdbRun.cs", f"{EXAMPLES}/Odb.cs", f"{PAGES}/Page.cs", f"{PAGES}/page.csproj")
-    run("dotnet", "run", wanted=ONE + ANSWERED, cwd=tmp_path, env=environment)
-
-
 def test_python(environment, tmp_path):
     lay_out(tmp_path, f"{PAGES}/check.py")
     found = {key: value for key, value in environment.items() if key != "ODB_BATCH_LIBRARY"}  # by the loader
