@@ -51,11 +51,11 @@ def pack(files, top, moment):
 
 
 def zipped(files, top, moment):
-    """The bytes of a .zip archive of the same; it takes no links."""
+    """The bytes of a .zip archive of the same, whose folder may be empty; it takes no links."""
     packed = io.BytesIO()
     with zipfile.ZipFile(packed, "w") as archive:
         for path, file in sorted(files.items()):
-            member = zipfile.ZipInfo(f"{top}/{path}", time.gmtime(moment)[:6])
+            member = zipfile.ZipInfo(f"{top}/{path}".lstrip("/"), time.gmtime(moment)[:6])
             member.compress_type, member.create_system = zipfile.ZIP_DEFLATED, 3
             member.external_attr = (0o100000 | file.mode) << 16
             archive.writestr(member, file.data)

@@ -247,6 +247,22 @@ def test_the_archive_for_macos(archive, tmp_path):
     assert "nothing of them was run" in (top / DOCS / "PROVED.md").read_text().replace("\n", " ")
 
 
+@pytest.mark.needs("mcs", "mono")
+def test_the_package_for_csharp(archive, tmp_path):
+    """Its assembly runs over the library that it has, and the types of all its files are declared, as NuGet wants it."""
+    with zipfile.ZipFile(made(archive, f"OdbBatch.{VERSION}.nupkg")) as package:
+        package.extractall(tmp_path)
+    types = (tmp_path / "[Content_Types].xml").read_text(encoding="utf-8")
+    assert all(f'Extension="{it.suffix[1:] or it.name[1:]}"' in types for it in tmp_path.rglob("*") if it.is_file())
+    assert f"<version>{VERSION}</version>" in (tmp_path / "OdbBatch.nuspec").read_text(encoding="utf-8")
+    source, assembly = tmp_path / "One.cs", tmp_path / "lib" / "netstandard2.0"
+    text = 'class One { static void Main() { System.Console.WriteLine(OdbBatch.Odb.Check("{\\"requests\\":[]}").Groups); } }'
+    source.write_text(text, encoding="utf-8")
+    run("mcs", "-r:OdbBatch.dll", "-out:One.exe", source, cwd=assembly)
+    variables = {**os.environ, "LD_LIBRARY_PATH": str(tmp_path / "runtimes" / "linux-x64" / "native")}
+    run("mono", "One.exe", wanted="0\n", cwd=assembly, env=variables)
+
+
 def test_the_packages_are_files_of_the_release(unpacked, archive):
     for kind in ("python", "node"):
         package = unpacked.package(kind)
