@@ -30,7 +30,6 @@ namespace OdbBatch.Client {
     /// <summary>A batch that is made by calls. A request that refers to an earlier one depends on it without further ado, and what depends
     /// on a request of a group depends on the group, too.</summary>
     public sealed class Batch {
-        private static readonly string[] Reserved = Odb.Names("reserved_ids");
         private readonly List<byte[]> elements = new List<byte[]>();
         private readonly Dictionary<string, string> groups = new Dictionary<string, string>(); // by each id and group its group
         private string open;
@@ -67,7 +66,7 @@ namespace OdbBatch.Client {
         /// <param name="id">Its id; without it that is the first free number.</param>
         /// <exception cref="ArgumentException">The body is not JSON, or no URL can refer to the id.</exception>
         public Reference Add(string method, string url, object body = null, IEnumerable<Name> after = null, IEnumerable<KeyValuePair<string, string>> headers = null, string id = null) {
-            if (Reserved.Contains(id)) throw new ArgumentException("no URL can refer to a request with the id " + id, nameof(id));
+            if (id != null && Odb.Names("reserved_ids").Contains(id)) throw new ArgumentException("no URL can refer to a request with the id " + id, nameof(id));
             if (method == null || url == null) throw new ArgumentNullException(method == null ? nameof(method) : nameof(url));
             id = id ?? Free("", elements.Count);
             var given = HeaderNames.Lowered(headers);

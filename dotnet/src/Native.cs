@@ -60,7 +60,8 @@ namespace OdbBatch {
         [StructLayout(LayoutKind.Sequential)] internal struct Response { internal Part Id, Group, Headers, Body; internal ulong Status; }
         [StructLayout(LayoutKind.Sequential)] internal struct Header { internal Part Name, Value; }
 
-        internal static readonly ulong Seed = DrawSeed();
+        private static readonly Lazy<ulong> Drawn = new Lazy<ulong>(DrawSeed);
+        internal static ulong Seed => Drawn.Value;
         /// <summary>UTF-8 that throws where it cannot encode or decode.</summary>
         internal static readonly UTF8Encoding Utf8 = new UTF8Encoding(false, true);
 

@@ -37,6 +37,8 @@ public class ClientTests {
 
     private static string Statuses(BatchResults results) => string.Join(" ", results.Select(it => it.Key + it.Value.Status));
 
+    private static string Successes(BatchResults results) => string.Join(" ", results.Where(it => it.Value.IsSuccess).Select(it => it.Key));
+
     private static string Responses(params string[] responses) => "{\"responses\":[" + string.Join(",", responses) + "]}";
 
     private static string Response(string id, int status, string members = "") => "{\"id\":\"" + id + "\",\"status\":" + status + members + "}";
@@ -211,6 +213,66 @@ public class ClientTests {
         }
         // A client that cannot send at all is no answer.
         Assert.Catch<InvalidOperationException>(() => Given.Awaited(Batch.SendAsync(Given.Many(2), new HttpClient(), "$batch")));
+    }
+
+    /// <summary>A random batch: groups, dependencies, references by URL and by ETag, which are all listed.</summary>
+    private static string RandomBatch(Random random) {
+        var requests = new List<string>();
+        var groups = new Dictionary<string, string>();
+        string group = null;
+        for (int left = 0, i = 0; i < 2 + random.Next(8) || left > 0; i++, left--) {
+            if (left <= 0) group = random.Next(3) == 0 ? "g" + i : null;
+            if (left <= 0) left = group == null ? 1 : 1 + random.Next(3);
+            string id = "r" + i, url = "A/" + id, headers = "", other = "r" + random.Next(i + 1);
+            var needs = groups.Keys.Where(it => random.Next(4) == 0).ToList();
+            if (other != id && random.Next(2) == 0) { url = "$" + other + "/x"; needs.Add(other); }
+            other = "r" + random.Next(i + 1);
+            if (other != id && random.Next(3) == 0) { headers = ",\"headers\":{\"If-Match\":\"$" + other + "\"}"; needs.Add(other); }
+            var names = needs.Concat(needs.Select(it => groups[it]).Where(it => it != null && it != group)).Distinct().Select(it => "\"" + it + "\"");
+            string method = new[] { "get", "post", "put", "delete" }[random.Next(4)];
+            requests.Add("{\"id\":\"" + id + (group == null ? "" : "\",\"atomicityGroup\":\"" + group) + "\",\"dependsOn\":[" + string.Join(",", names)
+                + "],\"method\":\"" + method + "\",\"url\":\"" + url + "\"" + headers + "}");
+            groups[id] = group;
+        }
+        return "{\"requests\":[" + string.Join(",", requests) + "]}";
+    }
+
+    /// <summary>Performs a batch, each request by its id and a number alone, and notes what is sent.</summary>
+    private static string Answered(string batch, int number, SortedDictionary<string, string> sent) {
+        BatchSend send = (request, cancellation) => {
+            var random = new Random(number * 1000 + int.Parse(request.Id.Substring(1)));
+            string tag;
+            lock (sent) sent.Add(request.Id, request.Url + (request.Headers.TryGetValue("if-match", out tag) ? " " + tag : ""));
+            var headers = new Dictionary<string, string>();
+            if (random.Next(4) > 0) headers["Location"] = "/odata/L/" + request.Id;
+            if (random.Next(4) > 0) headers["ETag"] = "\"" + request.Id + "\"";
+            return Task.FromResult(new BatchAnswer(new[] { 200, 201, 204, 200, 204, 304, 409, 503 }[random.Next(8)], headers));
+        };
+        var options = new PerformOptions { BaseAddress = new Uri("http://host/odata/"), Width = 1, Transaction = (group, body, c) => body() };
+        return Given.Text(Given.Awaited(BatchPerformer.PerformAsync(batch, send, options)));
+    }
+
+    [Test]
+    public void A_batch_in_parts_is_answered_as_the_whole() {
+        int compared = 0;
+        for (int number = 0; number < 300; number++) {
+            string batch = RandomBatch(new Random(number));
+            Counts counts;
+            Fault fault;
+            Assert.IsTrue(Odb.TryCheck(batch, out counts, out fault), fault + " " + batch);
+            int longest = Odb.Requests(batch).GroupBy(it => it.Group ?? it.Id).Max(it => it.Count());
+            SortedDictionary<string, string> whole = new SortedDictionary<string, string>(), parts = new SortedDictionary<string, string>();
+            string wanted = Successes(Sent(batch, new Service(it => Answered(it, number, whole))));
+            for (int limit = longest; limit <= counts.Requests; limit++) {
+                parts.Clear();
+                var results = Sent(batch, new Service(it => Answered(it, number, parts)), limit);
+                Assert.IsNull(results.Error);
+                Assert.AreEqual(wanted, Successes(results), batch);
+                CollectionAssert.IsSubsetOf(parts, whole, batch); // of a group that cannot succeed nothing is sent
+                compared++;
+            }
+        }
+        Assert.Greater(compared, 500);
     }
 
     [Test]

@@ -4,6 +4,7 @@ the library does; its own tests are dotnet/tests."""
 import os
 import shutil
 import socket
+import subprocess
 import sys
 import threading
 import time
@@ -30,7 +31,10 @@ class Built:
     def __init__(self, folder, native):
         self.folder = folder
         native("dotnet", folder)
-        run(os.path.join(DOTNET, "compile"), folder)
+        done = subprocess.run([os.path.join(DOTNET, "compile"), folder], stderr=subprocess.PIPE, text=True, check=False)
+        if done.returncode == 70:
+            pytest.skip("mono-devel is not installed")
+        assert done.returncode == 0, done.stderr
         self.environment = {**os.environ, "LD_LIBRARY_PATH": str(folder / "runtimes/linux-x64/native")}
 
     def compile(self, name, *sources, more=()):
@@ -55,6 +59,8 @@ def test_the_worked_cases_and_live_runs(built, reference):
 
 @pytest.mark.needs("nunit-console")
 def test_its_own_tests(built):
+    if not os.path.exists(NUNIT):
+        pytest.skip("libnunit-cil-dev is not installed")
     shutil.copy(NUNIT, built.folder)
     sources = [os.path.join(TESTS, it) for it in sorted(os.listdir(TESTS)) if it.endswith("Tests.cs")]
     built.compile("OdbTests.dll", *sources, more=["-r:nunit.framework.dll"])
@@ -73,7 +79,7 @@ def test_without_the_library_it_says_so(built, tmp_path):
     (tmp_path / "calls").write_bytes(bytes(32))
     variables = {name: it for name, it in built.environment.items() if name != "LD_LIBRARY_PATH"}
     line = run("sh", "-c", 'mono Tries.exe pages "$0" 2>&1 || true', tmp_path, cwd=built.folder, env=variables)
-    assert "DllNotFoundException: odb_batch" in line
+    assert "Unhandled Exception:\nSystem.DllNotFoundException: odb_batch" in line
 
 
 # Over HTTP
