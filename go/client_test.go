@@ -1,0 +1,272 @@
+package odb_test
+
+import (
+	"context"
+	"encoding/json"
+	"errors"
+	"fmt"
+	"io"
+	"net/http"
+	"net/http/httptest"
+	"strings"
+	"testing"
+	"time"
+
+	"odb_batch/odb"
+)
+
+func TestBatch(t *testing.T) {
+	var batch odb.Batch
+	book := batch.Post("Books", map[string]any{"Title": "Solaris <1>"}, odb.ID("book"))
+	lend, err := batch.Group(func() error {
+		batch.Patch(book, map[string]int{"Reader": 42}, odb.IfMatch(book), odb.ID("mark"))
+		batch.Post("Loans", []byte(`{"Price": 9.990}`), odb.ID("loan"))
+		return nil
+	})
+	if err != nil {
+		t.Fatal(err)
+	}
+	batch.Get(book, odb.After(lend), odb.ID("lent"))
+	batch.Get("$loan/x") // depends on the group, too
+	if _, err := batch.Group(func() error { batch.Get("X"); return errors.New("no") }); err == nil {
+		t.Error("no error")
+	}
+	batch.Put("Notes(1)", []byte("a<b"), odb.Header("Content-Type", "text/plain"), odb.After(book, book))
+	batch.Delete("%24book?x=1", odb.Header("If-None-Match", "$mark"))
+	counts, err := batch.Check()
+	if err != nil || counts != (odb.Counts{Requests: 7, Groups: 1}) {
+		t.Error(counts, err)
+	}
+	document, _ := batch.Document()
+	wanted := `{"requests":[{"id":"book","method":"post","url":"Books","headers":{"content-type":"application/json"},"body":{"Title":"Solaris <1>"}},` +
+		`{"id":"mark","atomicityGroup":"g1","dependsOn":["book"],"method":"patch","url":"$book","headers":{"content-type":"application/json","if-match":"$book"},"body":{"Reader":42}},` +
+		`{"id":"loan","atomicityGroup":"g1","method":"post","url":"Loans","headers":{"content-type":"application/json"},"body":{"Price":9.990}},` +
+		`{"id":"lent","dependsOn":["g1","book"],"method":"get","url":"$book"},` +
+		`{"id":"5","dependsOn":["loan","g1"],"method":"get","url":"$loan/x"},` +
+		`{"id":"6","dependsOn":["book"],"method":"put","url":"Notes(1)","headers":{"content-type":"text/plain"},"body":"a<b"},` +
+		`{"id":"7","dependsOn":["book","mark","g1"],"method":"delete","url":"%24book?x=1","headers":{"if-none-match":"$mark"}}]}`
+	if string(document) != wanted {
+		t.Errorf("%s\nnot\n%s", document, wanted)
+	}
+}
+
+func TestBatchesThatAreWrong(t *testing.T) {
+	for name, add := range map[string]func(batch *odb.Batch){
+		"no JSON":  func(batch *odb.Batch) { batch.Post("A", func() {}) },
+		"bytes":    func(batch *odb.Batch) { batch.Post("A", []byte("{")) },
+		"reserved": func(batch *odb.Batch) { batch.Get("A", odb.ID("metadata")) },
+		"refused":  func(batch *odb.Batch) { batch.Get("A", odb.ID("a")); batch.Get("A", odb.ID("a")) },
+	} {
+		var batch odb.Batch
+		add(&batch)
+		results, err := batch.Send(context.Background(), nil, "http://127.0.0.1:1/$batch", odb.SendOptions{})
+		if _, second := batch.Check(); results != nil || err == nil || second == nil {
+			t.Error(name, results, err, second)
+		}
+	}
+	var batch odb.Batch
+	_, err := batch.Group(func() error { _, err := batch.Group(func() error { return nil }); return err })
+	if document, _ := batch.Document(); !errors.Is(err, odb.ErrOption) || string(document) != `{"requests":[]}` {
+		t.Error(err, string(document))
+	}
+}
+
+// posts serves parts by a function of their number and their ids; returns the URL and the parts that came.
+func posts(t *testing.T, respond func(part int, ids []string) (int, string)) (string, *[]string) {
+	t.Helper()
+	var came []string
+	server := httptest.NewServer(http.HandlerFunc(func(w http.ResponseWriter, r *http.Request) {
+		text, _ := io.ReadAll(r.Body)
+		came = append(came, string(text))
+		var batch struct {
+			Requests []struct{ ID, AtomicityGroup string }
+		}
+		if err := json.Unmarshal(text, &batch); err != nil || r.Header.Get("Content-Type") != "application/json" {
+			t.Error(err, r.Header)
+		}
+		var ids []string
+		for _, it := range batch.Requests {
+			if it.AtomicityGroup != "" {
+				it.ID += " " + it.AtomicityGroup
+			}
+			ids = append(ids, it.ID)
+		}
+		status, answer := respond(len(came)-1, ids)
+		w.WriteHeader(status)
+		io.WriteString(w, answer)
+	}))
+	t.Cleanup(server.Close)
+	return server.URL + "/odata/$batch", &came
+}
+
+// all answers all requests with a status and more.
+func all(ids []string, status int, more string) string {
+	var text []string
+	for _, id := range ids {
+		if name, group, _ := strings.Cut(id, " "); group != "" {
+			id = name
+			text = append(text, fmt.Sprintf(`{"id":%q,"status":%d,"atomicityGroup":%q%s}`, id, status, group, more))
+			continue
+		}
+		text = append(text, fmt.Sprintf(`{"id":%q,"status":%d%s}`, id, status, more))
+	}
+	return `{"responses":[` + strings.Join(text, ",") + "]}"
+}
+
+func found(results *odb.Results) string {
+	var text []string
+	for _, it := range results.All() {
+		text = append(text, fmt.Sprint(it.ID, " ", it.Status))
+	}
+	return strings.Join(text, ", ")
+}
+
+func TestSendsInParts(t *testing.T) {
+	url, came := posts(t, func(part int, ids []string) (int, string) {
+		return 200, all(ids, 201, `,"headers":{"Location":"/odata/Orders(7)","ETag":"\"1\""},"body":{"a":"]}","n":9.990}`)
+	})
+	var batch odb.Batch
+	order := batch.Post("Orders", []byte(`{"n":9.990}`), odb.ID("order"))
+	_, err := batch.Group(func() error {
+		batch.Patch(order, map[string]int{}, odb.IfMatch(order), odb.ID("p"))
+		batch.Post(fmt.Sprint(order, "/Lines"), map[string]int{}, odb.ID("q"))
+		return nil
+	})
+	last := batch.Get("$order/Lines?x=1", odb.ID("last"))
+	if err != nil {
+		t.Fatal(err)
+	}
+	header := http.Header{"Authorization": {"me"}}
+	results, err := batch.Send(context.Background(), nil, url, odb.SendOptions{Limit: 2, Header: header})
+	if err != nil || found(results) != "order 201, p 201, q 201, last 201" || len(header) != 1 {
+		t.Fatal(err, found(results))
+	}
+	if len(*came) != 3 || !strings.Contains((*came)[0], `9.990`) || strings.Contains((*came)[1]+(*came)[2], "$order") ||
+		!strings.Contains((*came)[1], `"if-match":"\"1\""`) || !strings.Contains((*came)[2], `/odata/Orders(7)/Lines?x=1`) {
+		t.Error(*came)
+	}
+	var body struct{ A string }
+	if it := results.Of(last); it.JSON(&body) != nil || body.A != "]}" || it.Headers["etag"] != `"1"` || !strings.Contains(string(it.Body), "9.990") {
+		t.Errorf("%+v", it)
+	}
+	if rest, err := results.Rest(); rest != nil || err != nil {
+		t.Error(string(rest), err)
+	}
+}
+
+// What refers to what no answer has is not sent, and what depends on it neither.
+func TestReferencesThatNoAnswerHas(t *testing.T) {
+	url, came := posts(t, func(part int, ids []string) (int, string) { return 200, all(ids, 200, "") })
+	document := `{"requests":[{"id":"a","method":"post","url":"A"},
+{"id":"x","method":"get","url":"X"},
+{"id":"b","method":"get","url":"B","headers":{"If-Match":"$a"},"dependsOn":["a"]},
+{"id":"c","method":"get","url":"C","dependsOn":["b"]},
+{"id":"d","method":"get","url":"$a/x","dependsOn":["a"]},
+{"id":"e","method":"get","url":"E"},
+{"id":"p","method":"get","url":"P","atomicityGroup":"g"},
+{"id":"q","method":"get","url":"$a","atomicityGroup":"g","dependsOn":["a"]},
+{"id":"z","method":"get","url":"$e/x","dependsOn":["e"]}]}`
+	results, err := odb.Send(context.Background(), nil, url, []byte(document), odb.SendOptions{Limit: 2})
+	if err != nil || found(results) != "a 200, x 200, b 424, c 424, d 424, e 200, p 424, q 424, z 200" {
+		t.Error(err, found(results))
+	}
+	if sent := strings.Join(*came, "\n"); strings.Contains(sent, "$") || !strings.Contains(sent, `"url":"E/x"`) || strings.Contains(sent, `"id":"c"`) {
+		t.Error(sent)
+	}
+	if it := results.Of(odb.Reference{ID: "b"}); !strings.Contains(string(it.Body), "NoETag") || it.JSON(nil) == nil {
+		t.Error(string(it.Body))
+	}
+	if it := results.Of(odb.Reference{ID: "d"}); !strings.Contains(string(it.Body), "NoLocation") {
+		t.Error(string(it.Body))
+	}
+	if _, err := results.Rest(); !isFault(err, "F90") {
+		t.Error(err)
+	}
+}
+
+func TestAServiceThatStops(t *testing.T) {
+	url, came := posts(t, func(part int, ids []string) (int, string) {
+		return 200, `{"responses":[{"id":"r0","status":200},{"id":"r1","status":404}]}`
+	})
+	results, err := odb.Send(context.Background(), nil, url, many(6), odb.SendOptions{Limit: 3, Mode: odb.Stop})
+	if err != nil || len(*came) != 1 || found(results) != "r0 200, r1 404, r2 424, r3 424, r4 424, r5 424" {
+		t.Error(err, *came, found(results))
+	}
+	rest, err := results.Rest()
+	if err != nil || strings.Count(string(rest), `"id"`) != 4 {
+		t.Error(string(rest), err)
+	}
+}
+
+func TestAServiceThatIsBad(t *testing.T) {
+	for name, it := range map[string]struct {
+		status int
+		answer string
+		wanted string
+		rest   int
+	}{
+		"busy":      {503, "later", "r0 503, r1 503, r2 424", 3},
+		"login":     {401, "who?", "r0 401, r1 401, r2 424", 1},
+		"accepted":  {202, "", "r0 502, r1 502, r2 424", 3},
+		"no JSON":   {200, "{", "r0 502, r1 502, r2 424", 3},
+		"other ids": {200, `{"responses":[{"id":"x","status":200},{"id":"r1","status":200}]}`, "r0 502, r1 502, r2 424", 3},
+		"too long":  {200, all([]string{"r0", "r1"}, 200, `,"body":"`+strings.Repeat("x", 1000)+`"`), "r0 502, r1 502, r2 424", 3},
+	} {
+		url, came := posts(t, func(part int, ids []string) (int, string) { return it.status, it.answer })
+		results, err := odb.Send(context.Background(), nil, url, many(3), odb.SendOptions{Limit: 2, MaxSize: 1000})
+		if err == nil || len(*came) != 1 || found(results) != it.wanted {
+			t.Error(name, err, found(results))
+			continue
+		}
+		if rest, err := results.Rest(); err != nil || strings.Count(string(rest), `"id"`) != it.rest {
+			t.Error(name, string(rest), err)
+		}
+	}
+}
+
+// A service that gives no answer, or one without end, is left by the context.
+func TestAServiceThatHangs(t *testing.T) {
+	for _, isEndless := range []bool{false, true} {
+		server := httptest.NewServer(http.HandlerFunc(func(w http.ResponseWriter, r *http.Request) {
+			io.Copy(io.Discard, r.Body)
+			for isEndless && r.Context().Err() == nil {
+				w.Write([]byte(" "))
+				w.(http.Flusher).Flush()
+				time.Sleep(time.Millisecond)
+			}
+			<-r.Context().Done()
+		}))
+		ctx, cancel := context.WithTimeout(context.Background(), 50*time.Millisecond)
+		results, err := odb.Send(ctx, server.Client(), server.URL, many(2), odb.SendOptions{})
+		cancel()
+		if !errors.Is(err, context.DeadlineExceeded) || found(results) != "r0 504, r1 504" {
+			t.Error(err, found(results))
+		}
+		server.CloseClientConnections()
+		server.Close()
+	}
+	results, err := odb.Send(context.Background(), nil, "http://127.0.0.1:1/$batch", many(1), odb.SendOptions{})
+	if err == nil || found(results) != "r0 502" {
+		t.Error(err, found(results))
+	}
+	if _, err := odb.Send(context.Background(), nil, "http://127.0.0.1:1/$batch", many(1), odb.SendOptions{Limit: -1}); !errors.Is(err, odb.ErrOption) {
+		t.Error(err)
+	}
+}
+
+// The rest has ETags in place of references to what is done.
+func TestTheRestHasETags(t *testing.T) {
+	url, _ := posts(t, func(part int, ids []string) (int, string) {
+		return 200, `{"responses":[{"id":"a","status":201,"headers":{"location":"A(1)","etag":"\"7\""}},{"id":"b","status":429},{"id":"c","status":503}]}`
+	})
+	document := `{"requests":[{"id":"a","method":"post","url":"A"},
+{"id":"b","method":"patch","url":"$a","headers":{"If-Match":"$a"},"dependsOn":["a"],"body":9.990},{"id":"c","method":"post","url":"C"}]}`
+	results, err := odb.Send(context.Background(), nil, url, []byte(document), odb.SendOptions{})
+	if err != nil {
+		t.Fatal(err)
+	}
+	rest, err := results.Rest()
+	if counts, second := odb.Check(rest); err != nil || second != nil || counts.Requests != 2 || !strings.Contains(string(rest), `"\"7\""`) || !strings.Contains(string(rest), "9.990") {
+		t.Error(string(rest), err, second)
+	}
+}

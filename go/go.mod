@@ -1,0 +1,3 @@
+module odb_batch/odb
+
+go 1.19
