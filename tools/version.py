@@ -66,6 +66,7 @@ PLACES = [
     Place("dotnet/src/Native.cs", r"const uint Major = (\d+, Minor = \d+);", "{0}, Minor = {1}"),
     Place("dotnet/OdbBatch.csproj", r"<Version>(.*)</Version>"),
     Place("dotnet/OdbBatch.nuspec", r"<version>(.*)</version>"),
+    Place("docs/dotnet.md", r"OdbBatch\.(\d+\.\d+\.\d+)\.nupkg"),
     Place("tests/cases/help.txt", r"^out odb_batch (\d\S*)$"),
     Place("README.md", r"odb_batch-(\d+\.\d+\.\d+)"),
 ]

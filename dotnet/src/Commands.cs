@@ -63,13 +63,13 @@ namespace OdbBatch {
         /// <summary>Runs a batch by recorded events; returns the response document. <see cref="LiveRun"/> is a run on its way.</summary>
         public static byte[] Run(Document batch, Document events, RunMode mode = RunMode.Continue, int width = MaxWidth) =>
             Trimmed(Native.Answer(Room(batch) + Room(events), batch, events, (byte[] to, ulong room, out ulong length) =>
-                Native.odb_run_as(batch.At, batch.Size, events.At, events.Size, (uint)mode, Width(width), 0, ref to[0], room, out length, Native.Seed)));
+                Native.odb_run_as(batch.At, batch.Size, events.At, events.Size, (uint)mode, (uint)width, 0, ref to[0], room, out length, Native.Seed)));
 
         /// <summary>Replays a batch by recorded outcomes; returns the response document, and the steps if a trace is asked for.</summary>
         public static (byte[] Response, IReadOnlyList<ReplayStep> Steps) Replay(Document batch, Document outcomes,
             RunMode mode = RunMode.Continue, int width = MaxWidth, ReplayOrder order = ReplayOrder.First, bool trace = false) {
             string[] lines = Lines(Native.Answer(Room(batch) + Room(outcomes), batch, outcomes, (byte[] to, ulong room, out ulong length) =>
-                Native.odb_replay_as(batch.At, batch.Size, outcomes.At, outcomes.Size, (uint)mode, Width(width), (uint)order, trace ? 1u : 0u, 0, ref to[0], room, out length, Native.Seed)));
+                Native.odb_replay_as(batch.At, batch.Size, outcomes.At, outcomes.Size, (uint)mode, (uint)width, (uint)order, trace ? 1u : 0u, 0, ref to[0], room, out length, Native.Seed)));
             var steps = lines.Take(lines.Length - 1).Select(line => new ReplayStep(line.Split(' '))).ToArray();
             return (Encoding.UTF8.GetBytes(lines[lines.Length - 1]), steps);
         }
@@ -114,9 +114,6 @@ namespace OdbBatch {
 
         /// <summary>A guess of how many requests, responses or faults a document has; more take a second call.</summary>
         internal static int Likely(Document document) => Math.Min(document.Bytes.Length / 32 + 1, Native.MaxRequests);
-
-        /// <summary>A width as the library takes it, which refuses 0.</summary>
-        internal static uint Width(int width) => (uint)Math.Max(width, 0);
 
         private static string[] Lines(byte[] text) => text.Length == 0 ? new string[0] : Encoding.UTF8.GetString(text, 0, text.Length - 1).Split('\n');
 

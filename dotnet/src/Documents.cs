@@ -75,11 +75,12 @@ namespace OdbBatch {
     /// <summary>A request, as the batch has it; or as it is sent: then its URL is absolute and in ASCII, references are replaced, and the body
     /// is bytes on the wire.</summary>
     public sealed class BatchRequest {
-        internal BatchRequest(Native.Request it, byte[] text, byte[] document, BatchRequest[] before) {
+        private BatchRequest(Native.Request it, byte[] text, byte[] document, BatchRequest[] before, Dictionary<string, IReadOnlyDictionary<string, string>> known) {
             Id = Native.Text(text, it.Id); Method = Native.Text(text, it.Method); Url = Native.Text(text, it.Url); Rest = Native.Text(text, it.Rest);
             Group = Native.Text(text, it.Group); Body = Native.Slice(document, it.Body);
             Reference = it.Reference == Native.None ? null : before[it.Reference].Id;
-            Headers = it.Headers.Length <= 2 ? new Dictionary<string, string>() : Native.Headers(Native.Slice(text, it.Headers));
+            string headers = Native.Text(text, it.Headers); // which many requests have alike
+            Headers = known.TryGetValue(headers, out var found) ? found : known[headers] = Native.Headers(headers);
         }
 
         internal BatchRequest(BatchRequest of, string url, IReadOnlyDictionary<string, string> headers, byte[] body) {
@@ -113,7 +114,8 @@ namespace OdbBatch {
 
         internal static BatchRequest[] All(Native.Request[] parts, byte[] text, byte[] document) {
             var found = new BatchRequest[parts.Length];
-            for (int i = 0; i < found.Length; i++) found[i] = new BatchRequest(parts[i], text, document, found);
+            var known = new Dictionary<string, IReadOnlyDictionary<string, string>>();
+            for (int i = 0; i < found.Length; i++) found[i] = new BatchRequest(parts[i], text, document, found, known);
             return found;
         }
     }

@@ -23,6 +23,7 @@ namespace OdbBatch {
     /// when it is collected. An id that no request has is a KeyNotFoundException, a run that is closed an
     /// ObjectDisposedException.</summary>
     public sealed class LiveRun : IDisposable {
+        private static readonly byte[] Nothing = new byte[0];
         private readonly object gate = new object();
         private readonly RunHandle handle = new RunHandle();
         private readonly Document batch;
@@ -42,7 +43,7 @@ namespace OdbBatch {
             size = batch.Bytes.Length + happened.Bytes.Length;
             try {
                 uint status = Native.List(Odb.Room(batch), Odb.Likely(batch), (byte[] to, ulong room, out ulong length, Native.Request[] items, ulong most, out ulong count) =>
-                    Native.odb_run_open_requests(batch.At, batch.Size, happened.At, happened.Size, (uint)mode, Odb.Width(width), handle, ref to[0], room, out length, ref items[0], most, out count, Native.Seed),
+                    Native.odb_run_open_requests(batch.At, batch.Size, happened.At, happened.Size, (uint)mode, (uint)width, handle, ref to[0], room, out length, ref items[0], most, out count, Native.Seed),
                     out byte[] text, out Native.Request[] found);
                 Native.Require(status, text, batch, happened);
                 Requests = BatchRequest.All(found, text, batch.Bytes);
@@ -117,7 +118,7 @@ namespace OdbBatch {
         public (IReadOnlyList<string> Ids, byte[] Document) NextPart(int limit = Odb.MaxWidth) {
             lock (gate) {
                 uint status = Native.List(Odb.Room(batch), Ids.Count, (byte[] to, ulong room, out ulong length, uint[] items, ulong most, out ulong count) =>
-                    Native.odb_run_part(handle, batch.At, batch.Size, Odb.Width(limit), ref to[0], room, out length, ref items[0], most, out count, Native.Seed), out byte[] text, out uint[] found);
+                    Native.odb_run_part(handle, batch.At, batch.Size, (uint)limit, ref to[0], room, out length, ref items[0], most, out count, Native.Seed), out byte[] text, out uint[] found);
                 if (status == Native.WrongOption) throw new ArgumentException("a group has more requests than a part may have, or the bytes of the batch have changed");
                 Native.Require(status, text, batch, batch);
                 return (found.Select(it => Ids[(int)it]).ToArray(), text);
@@ -133,9 +134,9 @@ namespace OdbBatch {
         /// <exception cref="FaultException">Headers or body are refused; the request is still running.</exception>
         public void Report(string id, int status, IEnumerable<KeyValuePair<string, string>> headers = null, byte[] body = null) {
             uint position = PositionOf(id), end;
-            Document heads = headers == null ? "" : Json.Object(headers), text = body ?? new byte[0];
+            Document heads = headers == null ? (Document)Nothing : Json.Object(headers), text = body ?? Nothing;
             lock (gate) {
-                end = Native.odb_run_report(handle, position, (uint)Math.Max(status, 0), heads.At, heads.Size, text.At, text.Size);
+                end = Native.odb_run_report(handle, position, (uint)status, heads.At, heads.Size, text.At, text.Size);
                 if (end == Native.Done) size += heads.Bytes.Length + text.Bytes.Length;
             }
             if (end == Native.Refused) throw new FaultException(ReportFault(heads, text));

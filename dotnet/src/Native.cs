@@ -118,12 +118,7 @@ namespace OdbBatch {
         internal static string Text(byte[] text, Part part) => part.Start == None ? null : Encoding.UTF8.GetString(text, (int)part.Start, (int)part.Length);
 
         /// <summary>The bytes of a part, or null if there is none.</summary>
-        internal static byte[] Slice(byte[] text, Part part) {
-            if (part.Start == None) return null;
-            var found = new byte[part.Length];
-            Buffer.BlockCopy(text, (int)part.Start, found, 0, found.Length);
-            return found;
-        }
+        internal static byte[] Slice(byte[] text, Part part) => part.Start == None ? null : new ArraySegment<byte>(text, (int)part.Start, (int)part.Length).ToArray();
 
         /// <summary>The headers in an object of JSON by their names in lower case; null if it is not one of strings.</summary>
         internal static Dictionary<string, string> Headers(Document json) {
