@@ -9,12 +9,13 @@ from ..commands import plan, rest
 from ..documents.encoding import Document, body_json, document_bytes
 from ..documents.requests import Request, requests
 from ..errors.faults import Fault
+from ..http.batches import responses_json
 from ..http.messages import Answer
 from ._builder import Builder, Reference
 from ._parts import Parts
 from ._rest import rest_document
 from ._results import UNSURE, Outcome, RequestFailed, Result, seconds_of
-from ._transports import Posted, read_response
+from ._transports import Posted
 
 #: Posts the bytes of a batch, and returns what that is answered.
 Post = Callable[[bytes], Posted]
@@ -91,14 +92,7 @@ class Batch(Builder):
             parts = Parts(self.document(), limit, mode)
         except Fault as fault:
             raise fault.of_builder()
-        while (document := parts.next()) is not None:
-            try:
-                answered = read_response(await post(document))
-            except Exception as error:
-                cause = error.__cause__ if isinstance(error, RuntimeError) else None  # a coroutine has a StopIteration there
-                parts.fail(cause if isinstance(cause, StopIteration) else error)
-            else:
-                parts.take(answered)
+        await parts.send(post)
         make_rest = lambda: self._rest(rest_document(parts.document, parts.responses()))
         return Results(self, parts.document, parts.answers, make_rest, parts.error)
 
@@ -167,12 +161,9 @@ class Results(Mapping[str, Result]):
     def _outcomes(self) -> dict[str, Outcome]:
         """What became of each request, by its id."""
         unsuccessful = [result for result in self._found.values() if not result.is_success]
-        common = {"headers": {"location": "x"}}  # any does for the ids of the rest
-        responses = [
-            {"id": result.id, "status": result.status, "atomicityGroup": self._groups[result.id], **common}
-            for result in self._found.values()
-        ]
-        left = plan(rest(self._document, {"responses": responses})) if unsuccessful else ()
+        # Any Location does for the ids of the rest.
+        answers = {result.id: Answer(result.status, {"location": "x"}) for result in self._found.values()}
+        left = plan(rest(self._document, responses_json(answers, self._groups))) if unsuccessful else ()
         left_ids, undone = {request.id for request in left}, {self._groups[result.id] for result in unsuccessful} - {None}
 
         def find(result: Result) -> Outcome:

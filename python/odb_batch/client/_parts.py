@@ -1,56 +1,29 @@
-"""A batch on its way in parts: which part is next, and what its requests are answered. It does not send."""
+"""A batch that is sent in parts, which the library makes."""
 
 import contextlib
-import re
-from dataclasses import dataclass, field, replace
-from typing import Iterable, Mapping, Optional
-from urllib.parse import unquote
+import math
+from collections import defaultdict
+from typing import Awaitable, Callable, Mapping, Optional
 
-from .._native.calls import MAX_REQUESTS, MAX_WIDTH, Mode, policy_numbers, require_number
-from ..commands import PlannedRequest, check, match, plan
-from ..documents.encoding import json_bytes
-from ..documents.requests import Request, requests
-from ..driver.groups import SKIPPED
-from ..driver.references import CONDITIONS, ReferenceResolver
-from ..errors.faults import Fault
-from ..http.batches import batch_json, read_answers, request_json
+from .._native.calls import MAX_REQUESTS, Mode, require_number
+from ..commands import match, rest
+from ..driver.groups import SKIPPED, MemberRefused
+from ..driver.references import ReferenceResolver
+from ..errors.faults import Fault, Refused
+from ..http.batches import read_answers, replace_headers, responses_json
 from ..http.bodies import to_json
 from ..http.messages import BROKEN, LOG, TIMED_OUT, Answer, Answered, Refusal
-from ._transports import is_timeout, to_answer
+from ..runs import ListedRun, Part
+from ._transports import Posted, is_timeout, read_response, to_answer
 
-
-@dataclass
-class PlannedUnit:
-    """An atomicity group of a batch, or a request without one.
-
-    Attributes:
-        group: The name of the group, or None.
-        ids: Its requests, in order.
-        needs: The numbers of the units that its requests depend on, without its own.
-    """
-
-    group: Optional[str]
-    ids: list[str] = field(default_factory=list)
-    needs: set[int] = field(default_factory=set)
-
-
-def units_of(plan: Iterable[PlannedRequest]) -> list[PlannedUnit]:
-    """Returns the units of a plan; each depends on earlier ones alone."""
-    units: list[PlannedUnit] = []
-    number_of: dict[str, int] = {}
-    for planned in plan:
-        if planned.group is None or not units or units[-1].group != planned.group:
-            units.append(PlannedUnit(planned.group))
-        unit, number = units[-1], len(units) - 1
-        unit.ids.append(planned.id)
-        number_of[planned.group or planned.id] = number_of[planned.id] = number
-        unit.needs.update(number_of[name] for name in planned.needs)
-        unit.needs.discard(number)
-    return units
+# The library reads a batch for each part of it. One with more requests is cut into longer parts first, each a batch of its own.
+_MANY = 1_000
+# What is recorded of a request that is not sent any more: neither it nor what depends on it is left then.
+_SETTLED = Answer(400)
 
 
 class Parts:
-    """A batch on its way in parts.
+    """A batch that is sent in parts.
 
     Args:
         document: The batch.
@@ -69,106 +42,120 @@ class Parts:
 
     def __init__(self, document: bytes, limit: int, mode: Mode) -> None:
         require_number("limit", limit, MAX_REQUESTS)
-        policy_numbers(mode, MAX_WIDTH)
-        given, planned = requests(document), plan(document)
         self.document, self._limit, self._mode = document, limit, mode
-        self._requests = {request.id: request for request in given}
-        self._needs = {entry.id: entry.needs for entry in planned}
-        self._units = units_of(planned)
-        for unit in self._units:
-            if len(unit.ids) > limit:
-                raise ValueError(f"the group {unit.group} has {len(unit.ids)} requests, and a batch may have {limit}")
-        self._resolver = ReferenceResolver(given)
-        self.answers: dict[str, Answer] = dict.fromkeys(self._requests, SKIPPED)
+        # What is left of the batch since something could not be sent, and the run of that.
+        self._left, self._run = document, ListedRun(document, mode=mode)
+        self._groups = {request.id: request.group for request in self._run.requests}
+        # The ids of each unit, by the name of the group or the id of a request without one.
+        self._units: "dict[str, list[str]]" = defaultdict(list)
+        for request_id, group in self._groups.items():
+            self._units[group or request_id].append(request_id)
+        for name, ids in self._units.items():
+            if len(ids) > limit:
+                raise ValueError(f"the group {name} has {len(ids)} requests, and a batch may have {limit}")
+        self._resolver = ReferenceResolver(self._run.requests)
+        self.answers: dict[str, Answer] = dict.fromkeys(self._groups, SKIPPED)
         self.error: Optional[Exception] = None
-        # The number of the next unit, and whether that is not sent any more.
-        self._at, self._is_stopped = 0, False
-        # The numbers of those that have succeeded or are in the part that is out.
-        self._sound: set[int] = set()
-        # The part that is out, and the numbers of its units.
-        self._part = b""
-        self._out: list[int] = []
-        # The requests with a condition that refers to another one, which may not be answered yet: then they are not sent.
-        self._conditional = {
-            request.id for request in given if any(request.headers.get(name, "").startswith("$") for name in CONDITIONS)
-        }
-        # Then it is sent as it is.
-        self._is_one_part = len(given) <= limit and not self._conditional
+        # The part that is out; the requests that are not sent any more, and whether what is left has some that never were.
+        self._part, self._settled, self._is_to_cut = Part(b"", ()), set[str](), False
+        self._is_stopped = False
+        count = len(self._groups)
+        self._most = limit if count <= _MANY else max(limit, math.isqrt(count * limit))
 
-    def next(self) -> Optional[bytes]:
-        """Returns the next part; None if nothing more is to be sent."""
-        if self._is_one_part and self._at == 0:
-            self._part, self._out, self._at = self.document, [*range(len(self._units))], len(self._units)
-            self._sound.update(self._out)
-            return self._part if self._out else None
-        elements: list[bytes] = []
-        names: set[str] = set()
-        self._out = []
-        while self._at < len(self._units) and not self._is_stopped:
-            unit = self._units[self._at]
-            if all(number in self._sound for number in unit.needs):
-                if len(elements) + len(unit.ids) > self._limit:
-                    break
-                try:
-                    elements += self._elements(unit, names)
-                except Refusal as refusal:
-                    if elements:
-                        break  # what comes before it is sent first
-                    self._settle([self._at], dict.fromkeys(unit.ids, refusal.answer))
-                    names.clear()
-                else:
-                    self._out.append(self._at)
-                    self._sound.add(self._at)
-            self._at += 1
-        self._part = batch_json(elements)
-        return self._part if elements else None
-
-    def _elements(self, unit: PlannedUnit, names: set[str]) -> list[bytes]:
-        """The texts of the requests of a unit; adds its names to those of the part. Dependencies on other parts, which
-        have succeeded, are left out, and references to them replaced. Raises Refusal if one stands for nothing."""
-        names.update(unit.ids, () if unit.group is None else (unit.group,))
-        found = []
-        for request_id in unit.ids:
-            request = self._requests[request_id]
-            if request_id in self._conditional:
-                request = replace(request, headers=self._resolver.headers(request_id, names))
-            if request.reference is not None and request.reference not in names:
-                request = replace(request, url=self._url(request))
-            found.append(request_json(request, [name for name in self._needs[request_id] if name in names]))
-        return found
-
-    def _url(self, given: Request) -> str:
-        """The URL of a request that refers to another part, without that reference."""
-        try:
-            url = self._resolver.url(given.id)
-        except Refusal as refusal:
-            if refusal.answer.status == 424:
-                raise
-            url = ""  # the URL that was answered cannot be read
-        if not url or not is_plain(url):
-            raise Refusal(424, "NoLocation", f"{given.reference} was answered with a URL of no use", given.reference)
-        return url
-
-    def take(self, answered: Answered) -> None:
-        """Takes what the part that is out was answered.
+    async def send(self, post: Callable[[bytes], Awaitable[Posted]]) -> None:
+        """Sends the batch.
 
         Raises:
-            TypeError: It is not a status with headers and the bytes of a body.
+            TypeError: What is answered is not a status with headers and the bytes of a body.
         """
+        while self._next():
+            if len(self._part.ids) > self._limit:
+                parts = Parts(self._part.document, self._limit, self._mode)
+                await parts.send(post)
+                self.error, self._is_stopped = parts.error, parts._is_stopped
+                self._settle(parts.answers)
+                continue
+            try:
+                answered = read_response(await post(self._part.document))
+            except Exception as error:
+                cause = error.__cause__ if isinstance(error, RuntimeError) else None  # a coroutine has a StopIteration there
+                self._fail(cause if isinstance(cause, StopIteration) else error)
+            else:
+                self._take(answered)
+        self._run.close()
+
+    def _next(self) -> bool:
+        """Makes the next part; returns whether there is one."""
+        while not self._is_stopped:
+            try:
+                if self._is_to_cut:
+                    self._cut()
+                part = self._run.part(self._left, self._most)
+                if part is None:
+                    break
+                # In one part the batch is sent as it is.
+                part = part if len(part.ids) < len(self.answers) else Part(self.document, part.ids)
+                self._part = Part(self._replace_tags(part), part.ids)
+                return True
+            except Fault as fault:
+                self._refuse_from(int(fault.place.rpartition("/")[2]))
+            except MemberRefused as refused:
+                self._refuse(refused.id, refused.answer)
+        return False
+
+    def _replace_tags(self, part: Part) -> bytes:
+        """Returns the document of a part with ETags in place of references to requests that it does not have; raises
+        MemberRefused if there is none."""
+        inside, headers = frozenset(part.ids), {}
+        for request_id in filter(self._resolver.tagged.__contains__, part.ids):
+            try:
+                headers[request_id] = self._resolver.headers(request_id, inside)
+            except Refusal as refusal:
+                raise MemberRefused(request_id, refusal.answer) from None
+        return replace_headers(part.document, headers) if headers else part.document
+
+    def _refuse_from(self, position: int) -> None:
+        """Answers the request at a position of what is left, which refers to what has no URL that it may have; in mode continue
+        also all after it that refer to what has no URL at all."""
+        first, *others = self._run.requests[position:]
+        lacking = {name for name in self._resolver.referred if "location" not in self._recorded(name).headers}
+        for request in (first, *(others if self._mode == "continue" else ())):
+            if request.reference is not None and (request is first or request.reference in lacking & self._settled):
+                message = f"{request.reference} was answered without a URL that {request.id} may have"
+                self._refuse(request.id, Refusal(424, "NoLocation", message, request.reference).answer)
+
+    def _refuse(self, request_id: str, answer: Answer) -> None:
+        """Answers a request that cannot be sent, and its group. In mode stop nothing is sent that comes after it."""
+        ids = self._units[self._groups[request_id] or request_id]
+        self.answers.update(dict.fromkeys(ids, answer))
+        given = list(self._groups)
+        self._settled.update(ids, given[given.index(request_id) :] if self._mode == "stop" else ())
+        self._is_to_cut = True
+
+    def _cut(self) -> None:
+        """Leaves out what is not sent any more, and what depends on that."""
+        answers = {request.id: self._recorded(request.id) for request in self._run.requests}
+        answers.update((name, _SETTLED) for name in self._settled & answers.keys() if not answers[name].is_success)
+        self._left = rest(self._left, responses_json(answers, self._groups))
+        self._run.close()
+        self._run, self._is_to_cut = ListedRun(self._left, mode=self._mode), False
+
+    def _take(self, answered: Answered) -> None:
+        """Takes what the part that is out was answered."""
         answer = to_answer(answered)
         if not answer.is_success:
             self._end(answer)
             return
         text = to_json(answer, {})
         try:
-            match(self._part, text, mode=self._mode)
+            match(self._part.document, text, mode=self._mode)
             found = read_answers(text)
         except ValueError as error:
-            self.fail(error)
+            self._fail(error)
         else:
-            self._settle(self._out, found)
+            self._settle(found)
 
-    def fail(self, error: Exception) -> None:
+    def _fail(self, error: Exception) -> None:
         """Takes the exception by which the part that is out was not answered."""
         self.error = error
         LOG.error("a part of the batch was not answered", exc_info=error)
@@ -177,52 +164,38 @@ class Parts:
 
     def _end(self, answer: Answer) -> None:
         """Gives each request of the part that is out the same answer. Nothing more is sent."""
-        self._settle(self._out, {request_id: answer for number in self._out for request_id in self._units[number].ids})
         self._is_stopped = True
+        self._settle(dict.fromkeys(self._part.ids, answer))
 
-    def _settle(self, numbers: Iterable[int], answers: Mapping[str, Answer]) -> None:
-        """Notes what the requests of units were answered; one without an answer was skipped."""
-        successful = {request_id for request_id, answer in answers.items() if answer.is_success}
-        for number in numbers:
-            unit = self._units[number]
-            for request_id in unit.ids:
-                answer = self.answers[request_id] = answers.get(request_id, SKIPPED)
-                if request_id not in successful:
-                    self._sound.discard(number)
-                elif request_id in self._resolver.referred:
+    def _settle(self, found: Mapping[str, Answer]) -> None:
+        """Notes what the requests of the part that is out were answered, and reports it; one without an answer was skipped."""
+        self._settled.update(self._part.ids)
+        for name in dict.fromkeys(self._groups[request_id] or request_id for request_id in self._part.ids):
+            ids = self._units[name]
+            for request_id in ids:
+                answer = self.answers[request_id] = found.get(request_id, SKIPPED)
+                if answer.is_success and request_id in self._resolver.referred:
                     self._resolver.record(request_id, answer)
-            if self._mode == "stop" and self._is_error(unit):
-                self._is_stopped = True
+            if not self._is_stopped:
+                self._report(ids)
 
-    def _is_error(self, unit: PlannedUnit) -> bool:
-        """Whether a request of a unit has ended with a status from 400 to 599. A 424 may also be that of one that was
-        skipped or undone, since what it needs has failed, or its group by a status that is no error, as 304."""
-        statuses = {self.answers[request_id].status for request_id in unit.ids}
-        if any(400 <= status <= 599 and status != 424 for status in statuses):
-            return True
-        is_skipped = any(number not in self._sound for number in unit.needs)
-        return 424 in statuses and not is_skipped and not any(300 <= status <= 399 for status in statuses)
+    def _report(self, ids: list[str]) -> None:
+        """Reports what the requests of a unit were answered, unless it was skipped, since what it needs has failed."""
+        failed = [self.answers[request_id].status for request_id in ids if not self.answers[request_id].is_success]
+        with contextlib.suppress(Refused):
+            self._run.start_unit(ids[0])
+            for answer, request_id in ((self._recorded(request_id), request_id) for request_id in ids):
+                # A 424 beside a 3xx is no error: it is that of a member that was undone.
+                status = min(failed) if answer.status == 424 else answer.status
+                self._run.report(request_id, status if status >= 200 else BROKEN.status, answer.headers)
+
+    def _recorded(self, request_id: str) -> Answer:
+        """Returns the status that a request was answered, with the URL and the ETag of what others refer to as headers."""
+        answer = self.answers[request_id]
+        is_referred = answer.is_success and request_id in self._resolver.referred
+        return Answer(answer.status, self._resolver.recorded(request_id) if is_referred else {})
 
     def responses(self) -> bytes:
         """Returns the responses to the whole batch, as :func:`~odb_batch.match` accepts them: their statuses, and of
         what others refer to the URL and the ETag."""
-        responses = []
-        for request_id, answer in self.answers.items():
-            group, headers = self._requests[request_id].group, {}
-            if answer.is_success and request_id in self._resolver.referred:
-                for name, of in (("location", self._resolver.location), ("etag", self._resolver.etag)):
-                    with contextlib.suppress(Refusal):
-                        headers[name] = of(request_id)
-            responses.append({"id": request_id, "status": answer.status, "atomicityGroup": group, "headers": headers})
-        return json_bytes({"responses": responses})
-
-
-def is_plain(url: str) -> bool:
-    """Returns whether a URL may take the place of a reference: it does not begin with ``$``, and does not lead to a
-    ``$batch``. It comes from a service, which may send anything."""
-    if unquote(re.split("[/?#]", url, maxsplit=1)[0]).startswith("$"):
-        return False
-    try:
-        return check({"requests": [{"id": "a", "method": "get", "url": url}]}).requests == 1
-    except Fault:
-        return False
+        return responses_json({request_id: self._recorded(request_id) for request_id in self.answers}, self._groups)

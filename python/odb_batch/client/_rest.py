@@ -1,14 +1,13 @@
 """The rest of a batch: what failed for now or was skipped, and may be sent again."""
 
 import json
-from dataclasses import replace
 from typing import Collection, Mapping
 
 from .. import commands
 from ..documents.requests import Request, requests
 from ..driver.references import CONDITIONS
 from ..errors.faults import Fault
-from ..http.batches import batch_json, request_json
+from ..http.batches import replace_headers
 
 # The headers that were recorded for each request, by its id; their names are in lower case.
 _Recorded = Mapping[str, Mapping[str, str]]
@@ -35,11 +34,9 @@ def rest_document(batch: bytes, responses: bytes) -> bytes:
         if fault.code != "F90":
             raise
         raise ValueError(_describe_missing(requests(batch)[int(fault.place.rpartition("/")[2])], recorded)) from None
-    planned = commands.plan(document)
-    names = {entry.id for entry in planned}
-    return batch_json(
-        request_json(_resolve_tags(request, names, recorded), entry.needs) for request, entry in zip(requests(document), planned)
-    )
+    given = {request.id: request.headers for request in requests(document)}
+    headers = {name: _resolve_tags(name, of, given.keys(), recorded) for name, of in given.items()}
+    return replace_headers(document, headers)
 
 
 def _describe_missing(request: Request, recorded: _Recorded) -> str:
@@ -50,14 +47,14 @@ def _describe_missing(request: Request, recorded: _Recorded) -> str:
     return f"{request.id} refers to {request.reference}, whose Location cannot be used: {place}{request.rest}"
 
 
-def _resolve_tags(request: Request, names: Collection[str], recorded: _Recorded) -> Request:
-    """A request of the rest without references to ETags of what is not in it."""
-    headers = dict(request.headers)
-    for name in CONDITIONS:
-        value = headers.get(name, "")
+def _resolve_tags(name: str, given: Mapping[str, str], names: Collection[str], recorded: _Recorded) -> dict[str, str]:
+    """The headers of a request of the rest without references to ETags of what is not in it."""
+    headers = dict(given)
+    for condition in CONDITIONS:
+        value = headers.get(condition, "")
         referred = value[1:]
         if value.startswith("$") and referred in recorded and referred not in names:
             if "etag" not in recorded[referred]:
-                raise ValueError(f"{request.id} refers to {referred}, which was answered without an ETag")
-            headers[name] = recorded[referred]["etag"]
-    return replace(request, headers=headers)
+                raise ValueError(f"{name} refers to {referred}, which was answered without an ETag")
+            headers[condition] = recorded[referred]["etag"]
+    return headers

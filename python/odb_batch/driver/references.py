@@ -25,6 +25,7 @@ class ReferenceResolver:
 
     Attributes:
         referred: The ids of the requests to which others refer.
+        tagged: Those of the requests whose headers refer to others.
     """
 
     def __init__(self, requests: Iterable[Request], base: str = "", roots: Optional[Sequence[str]] = None) -> None:
@@ -32,13 +33,12 @@ class ReferenceResolver:
         self._targets = targets_of(base, roots)
         self._urls: dict[str, str] = {}
         self.referred: set[str] = set()
-        # The requests whose headers refer to others.
-        self._tagged: set[str] = set()
+        self.tagged: set[str] = set()
         for request in self._requests.values():
             if request.reference is not None:
                 self.referred.add(request.reference)
             if request.headers and (tags := set(self._tags_in(request))):
-                self._tagged.add(request.id)
+                self.tagged.add(request.id)
                 self.referred |= tags
         self._answers: dict[str, Answer] = {}
         # What was read in them, since bodies may be long and referred to often.
@@ -68,7 +68,7 @@ class ReferenceResolver:
         """
         given = self._requests[request_id]
         url, body = self.url(request_id), b""
-        headers = self.headers(request_id) if request_id in self._tagged else dict(given.headers)
+        headers = self.headers(request_id) if request_id in self.tagged else dict(given.headers)
         if given.body is not None:
             headers.setdefault("content-type", "application/json")
             body = to_wire(given.body, headers)
@@ -120,6 +120,14 @@ class ReferenceResolver:
             message = f"{request_id} was answered without the URL of what it has created"
             raise Refusal(424, "NoLocation", message, request_id)
         return self._targets.below(self.url(request_id), place, context, rest)
+
+    def recorded(self, request_id: str) -> dict[str, str]:
+        """Returns the URL and the ETag of what a request was answered, as the headers that others refer to."""
+        found = {}
+        for name, of in (("location", self.location), ("etag", self.etag)):
+            with contextlib.suppress(Refusal):
+                found[name] = of(request_id)
+        return found
 
     def etag(self, request_id: str) -> str:
         """Returns the ETag of what a request was answered.

@@ -3,9 +3,12 @@
 import contextlib
 import json
 import re
-from typing import Any, Iterable, Sequence
+from dataclasses import replace
+from typing import Any, Iterable, Mapping, Optional, Sequence
 
-from ..documents.requests import Request
+from ..commands import plan
+from ..documents.encoding import json_bytes
+from ..documents.requests import Request, requests
 from ..documents.responses import responses
 from .bodies import is_json, media_type, to_wire
 from .messages import Answer, Refusal, header_dict
@@ -37,6 +40,23 @@ def request_json(request: Request, needs: Sequence[str]) -> bytes:
 def batch_json(elements: Iterable[bytes]) -> bytes:
     """Returns the text of the batch with these requests."""
     return b'{"requests":[%s]}' % b",".join(elements)
+
+
+def replace_headers(document: bytes, headers: Mapping[str, dict[str, str]]) -> bytes:
+    """Returns a batch in which the requests with these ids have other headers."""
+    needs = (entry.needs for entry in plan(document))
+    found = (replace(request, headers=headers.get(request.id, request.headers)) for request in requests(document))
+    return batch_json(map(request_json, found, needs))
+
+
+def responses_json(answers: Mapping[str, Answer], groups: Mapping[str, Optional[str]]) -> bytes:
+    """Returns a response document with the statuses and the headers of answers, by the ids of their requests, which are in
+    these groups (OData JSON Format 4.01, section 19.5)."""
+    responses = [
+        {"id": request_id, "status": answer.status, "atomicityGroup": groups[request_id], "headers": dict(answer.headers)}
+        for request_id, answer in answers.items()
+    ]
+    return json_bytes({"responses": responses})
 
 
 def read_answers(document: bytes) -> dict[str, Answer]:

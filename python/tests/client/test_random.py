@@ -1,12 +1,14 @@
 """Random batches with random outcomes: a split batch is answered as the whole one, and the rest is what it must be."""
 
 import json
+from unittest import mock
 
+import pytest
 from hypothesis import given
 from hypothesis import strategies as st
 
 from odb_batch import check, plan
-from odb_batch.client import Batch
+from odb_batch.client import Batch, _parts
 from odb_batch.testing import Scripted
 from support import rules
 from support.profiles import share
@@ -24,13 +26,15 @@ def requests_of(document):
     return json.loads(document)["requests"]
 
 
+@pytest.mark.parametrize("many", [1, 1_000], ids=["by_longer_parts", "at_once"])
 @share(10)
 @given(scripted(), MODES)
-def test_a_split_batch_is_answered_as_the_whole(drawn, mode):
+def test_a_split_batch_is_answered_as_the_whole(many, drawn, mode):
     batch, script, limit = drawn
     whole, parts = Scripted(script, mode=mode), Scripted(script, mode=mode, limit=limit)
     wanted = statuses_of(Batch.read(batch).send(whole.post, mode=mode))
-    assert statuses_of(Batch.read(batch).send(parts.post, limit=limit, mode=mode)) == wanted
+    with mock.patch.object(_parts, "_MANY", many):
+        assert statuses_of(Batch.read(batch).send(parts.post, limit=limit, mode=mode)) == wanted
     sent = [it["id"] for document in parts.documents for it in requests_of(document)]
     assert sent == [it["id"] for it in batch["requests"] if it["id"] in sent]
     assert all(status == 424 for id, status in wanted.items() if id not in sent)

@@ -178,7 +178,31 @@ class TestParts:
         assert fourth["headers"] == {"if-none-match": "W/7", "if-match": "$other"}
 
     @pytest.mark.parametrize("mode, parts, statuses", [
-        ("continue", [["a", "x"], ["y"], ["c"]], [201, 200, 200, 424, 424, 200]),
+        ("continue", [["a", "x"], ["s"], ["h1", "h2"], ["e"]], [201, 200, 200, 424, 424, 424, 424, 201, 201, 200]),
+        ("stop", [["a", "x"], ["s"]], [201, 200, 200, *[424] * 7]),
+    ])  # fmt: skip
+    def test_references_that_stand_for_nothing(self, mode, parts, statuses):
+        """They do not hold up what comes before, though it is in the same part, and a group leaves room for no shorter one."""
+        batch, service = Batch(), Scripted({"a": Answer(201)}, mode=mode)
+        a = batch.post("A", {}, id="a")
+        batch.get("X", id="x")
+        s = batch.get("S", id="s")
+        batch.get(f"{a}/B", after=s, id="q")
+        with batch.group("g"):
+            batch.post("G", {}, id="g1")
+            batch.post(f"{a}/G", {}, id="g2", after=s)
+        batch.get("C", after="g", id="c")
+        with batch.group("h"):
+            batch.post("H", {}, id="h1")
+            batch.post("H", {}, id="h2")
+        batch.get("E", id="e")
+        results = batch.send(service.post, limit=2, mode=mode)
+        assert parts_of(service) == parts and statuses_of(results) == statuses
+        assert results["q"].json()["error"]["code"] == "NoLocation"
+        assert results["g1"].body == results["g2"].body == (results["q"].body.replace(b"q may", b"g2 may") if mode == "continue" else b"")
+
+    @pytest.mark.parametrize("mode, parts, statuses", [
+        ("continue", [["a", "x"], ["y", "c"]], [201, 200, 200, 424, 424, 200]),
         ("stop", [["a", "x"], ["y"]], [201, 200, 200, 424, 424, 424]),
     ])  # fmt: skip
     def test_a_reference_that_stands_for_nothing(self, mode, parts, statuses):
@@ -276,6 +300,14 @@ class TestErrorsOfParts:
         assert results["d"].headers["retry-after"] == "7" and results["d"].body == b"slow down"
         assert results.retry_after == 7.0 and results.error is None
         assert [it.id for it in results.rest().send(Scripted().post).values()] == [*"cde"][0 if status in (429, 503) else 2 :]
+
+    @pytest.mark.parametrize("many", [1, 1_000])
+    def test_nothing_is_sent_after_it_by_longer_parts(self, many, monkeypatch):
+        monkeypatch.setattr("odb_batch.client._parts._MANY", many)
+        service, error = Scripted(), ConnectionError("gone")
+        posts = [service.post, raising(error)]
+        results = gets(*"abcdefghij").send(lambda document: posts.pop(0)(document), limit=1)
+        assert statuses_of(results) == [200, 502, *[424] * 8] and results.error is error
 
     @pytest.mark.parametrize("status", [99, 202, 204, 600])
     def test_an_answer_that_says_nothing(self, status):
