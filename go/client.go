@@ -35,69 +35,57 @@ func document(elements []element) ([]byte, error) {
 	return encoded(map[string]any{"requests": append([]element{}, elements...)})
 }
 
-// Named is a request or a group of a batch.
-type Named interface{ name() string }
+// Reference is the id of a request of a batch. As a text it is $ and its id, for URLs: fmt.Sprint(order, "/Lines").
+type Reference string
 
-// Reference is a request of a batch. As a text it is $ and its id, for URLs: fmt.Sprint(order, "/Lines").
-type Reference struct{ ID string }
+func (r Reference) String() string { return "$" + string(r) }
 
-func (r Reference) String() string { return "$" + r.ID }
-func (r Reference) name() string   { return r.ID }
+// Group is the name of an atomicity group of a batch.
+type Group string
 
-// Group is an atomicity group of a batch.
-type Group struct{ ID string }
+// With is an option of a request: After, Header, IfMatch or ID.
+type With func(*element)
 
-func (g Group) name() string { return g.ID }
-
-// RequestOption is an option of a request: After, Header, IfMatch or ID.
-type RequestOption func(*element)
-
-// After adds dependencies.
-func After(named ...Named) RequestOption {
+// After adds dependencies: each a Reference, a Group, or the name of one.
+func After(named ...any) With {
 	return func(e *element) {
 		for _, it := range named {
-			e.Needs = append(e.Needs, it.name())
+			e.Needs = append(e.Needs, strings.TrimPrefix(fmt.Sprint(it), "$"))
 		}
 	}
 }
 
 // Header sets a header.
-func Header(name, value string) RequestOption {
+func Header(name, value string) With {
 	return func(e *element) { e.Headers[lower(name)] = value }
 }
 
 // IfMatch has a request performed only if the entity has the ETag that another request was answered.
-func IfMatch(request Reference) RequestOption { return Header("if-match", request.String()) }
+func IfMatch(request Reference) With { return Header("if-match", request.String()) }
 
 // ID gives a request an id; without it that is the first free number.
-func ID(id string) RequestOption { return func(e *element) { e.ID = id } }
+func ID(id string) With { return func(e *element) { e.ID = id } }
 
 // Get adds a GET.
-func (b *Batch) Get(url any, with ...RequestOption) Reference { return b.Add("GET", url, nil, with...) }
+func (b *Batch) Get(url any, with ...With) Reference { return b.Add("GET", url, nil, with...) }
 
 // Post adds a POST.
-func (b *Batch) Post(url, body any, with ...RequestOption) Reference {
-	return b.Add("POST", url, body, with...)
-}
+func (b *Batch) Post(url, body any, with ...With) Reference { return b.Add("POST", url, body, with...) }
 
 // Put adds a PUT.
-func (b *Batch) Put(url, body any, with ...RequestOption) Reference {
-	return b.Add("PUT", url, body, with...)
-}
+func (b *Batch) Put(url, body any, with ...With) Reference { return b.Add("PUT", url, body, with...) }
 
 // Patch adds a PATCH.
-func (b *Batch) Patch(url, body any, with ...RequestOption) Reference {
+func (b *Batch) Patch(url, body any, with ...With) Reference {
 	return b.Add("PATCH", url, body, with...)
 }
 
 // Delete adds a DELETE.
-func (b *Batch) Delete(url any, with ...RequestOption) Reference {
-	return b.Add("DELETE", url, nil, with...)
-}
+func (b *Batch) Delete(url any, with ...With) Reference { return b.Add("DELETE", url, nil, with...) }
 
 // Add adds a request. The URL is a string, or the Reference to a request; the body is bytes as they are on the wire, or a value
 // that encoding/json writes, or nil for none. Bytes are JSON, unless a Content-Type says otherwise.
-func (b *Batch) Add(method string, url, body any, with ...RequestOption) Reference {
+func (b *Batch) Add(method string, url, body any, with ...With) Reference {
 	e := element{ID: b.free("", len(b.elements)), Method: strings.ToLower(method), URL: fmt.Sprint(url), Group: b.group, Headers: map[string]string{}}
 	for _, option := range with {
 		option(&e)
@@ -114,7 +102,7 @@ func (b *Batch) Add(method string, url, body any, with ...RequestOption) Referen
 	b.depend(&e)
 	b.elements = append(b.elements, e)
 	b.names[e.ID], b.names[e.Group] = e.Group, e.Group
-	return Reference{e.ID}
+	return Reference(e.ID)
 }
 
 // setBody sets the body, and its Content-Type if there is none.
@@ -172,19 +160,19 @@ func (b *Batch) depend(e *element) {
 // an error, none of them is added.
 func (b *Batch) Group(add func() error) (Group, error) {
 	if b.group != "" {
-		return Group{}, fmt.Errorf("%w: a group cannot be in another one", ErrOption)
+		return "", fmt.Errorf("%w: a group cannot be in another one", ErrOption)
 	}
 	begun := len(b.elements)
 	b.group = b.free("g", 0)
-	group, err := Group{b.group}, add()
+	group, err := b.group, add()
 	if b.group = ""; err != nil {
 		for _, e := range b.elements[begun:] {
 			delete(b.names, e.ID)
 		}
-		delete(b.names, group.ID)
+		delete(b.names, group)
 		b.elements = b.elements[:begun]
 	}
-	return group, err
+	return Group(group), err
 }
 
 // Document returns the document of the batch.

@@ -154,33 +154,33 @@ func TestSendsInParts(t *testing.T) {
 	}
 }
 
-// What refers to what no answer has is not sent, and what depends on it neither.
+// What refers to what no answer has is not sent, nor what comes after it.
 func TestReferencesThatNoAnswerHas(t *testing.T) {
+	for more, wanted := range map[string]string{`"$a/x"`: "F90", `"B","headers":{"If-Match":"$a"}`: "NoETag"} {
+		url, came := posts(t, func(part int, ids []string) (int, string) { return 200, all(ids, 200, "") })
+		document := `{"requests":[{"id":"a","method":"post","url":"A"},
+{"id":"b","method":"get","url":` + more + `,"dependsOn":["a"]},{"id":"c","method":"get","url":"C","dependsOn":["b"]}]}`
+		results, err := odb.Send(context.Background(), nil, url, []byte(document), odb.SendOptions{Limit: 1})
+		if err == nil || !strings.Contains(err.Error(), wanted) || found(results) != "a 200, b 424, c 424" || len(*came) != 1 {
+			t.Error(err, found(results), *came)
+		}
+		if _, second := results.Rest(); second == nil || !strings.Contains(second.Error(), wanted) {
+			t.Error(second)
+		}
+	}
+}
+
+// Without a Location, the URL of what was read stands for it.
+func TestReferencesToWhatWasRead(t *testing.T) {
 	url, came := posts(t, func(part int, ids []string) (int, string) { return 200, all(ids, 200, "") })
-	document := `{"requests":[{"id":"a","method":"post","url":"A"},
-{"id":"x","method":"get","url":"X"},
-{"id":"b","method":"get","url":"B","headers":{"If-Match":"$a"},"dependsOn":["a"]},
-{"id":"c","method":"get","url":"C","dependsOn":["b"]},
-{"id":"d","method":"get","url":"$a/x","dependsOn":["a"]},
-{"id":"e","method":"get","url":"E"},
-{"id":"p","method":"get","url":"P","atomicityGroup":"g"},
-{"id":"q","method":"get","url":"$a","atomicityGroup":"g","dependsOn":["a"]},
-{"id":"z","method":"get","url":"$e/x","dependsOn":["e"]}]}`
-	results, err := odb.Send(context.Background(), nil, url, []byte(document), odb.SendOptions{Limit: 2})
-	if err != nil || found(results) != "a 200, x 200, b 424, c 424, d 424, e 200, p 424, q 424, z 200" {
-		t.Error(err, found(results))
+	document := `{"requests":[{"id":"a","method":"get","url":"A(1)/?x=1"},{"id":"b","method":"get","url":"$a/B","dependsOn":["a"]},
+{"id":"c","method":"get","url":"$b/C?y=1","dependsOn":["b"]}]}`
+	results, err := odb.Send(context.Background(), nil, url, []byte(document), odb.SendOptions{Limit: 1})
+	if err != nil || found(results) != "a 200, b 200, c 200" || !strings.Contains((*came)[2], `"A(1)/B/C?y=1"`) {
+		t.Error(err, found(results), *came)
 	}
-	if sent := strings.Join(*came, "\n"); strings.Contains(sent, "$") || !strings.Contains(sent, `"url":"E/x"`) || strings.Contains(sent, `"id":"c"`) {
-		t.Error(sent)
-	}
-	if it := results.Of(odb.Reference{ID: "b"}); !strings.Contains(string(it.Body), "NoETag") || it.JSON(nil) == nil {
-		t.Error(string(it.Body))
-	}
-	if it := results.Of(odb.Reference{ID: "d"}); !strings.Contains(string(it.Body), "NoLocation") {
-		t.Error(string(it.Body))
-	}
-	if _, err := results.Rest(); !isFault(err, "F90") {
-		t.Error(err)
+	if it := results.Of("a"); it.JSON(nil) == nil {
+		t.Error("no body was read")
 	}
 }
 

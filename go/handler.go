@@ -24,7 +24,6 @@ type HandlerOptions struct {
 	Root    string   // what the path of each request begins with, which ends with /; the folder of Path if it is empty
 	Allowed []string // further headers that requests of a batch may have, in lower case
 	MaxSize int64    // how many bytes a batch may have, and its answers together; MaxDocument if it is 0
-	Memory  int64    // how many bytes all batches and their answers may have together; 16 times MaxDocument if it is 0
 }
 
 // Handler answers POST of the path with batches, whose requests next answers in this process; anything else goes to next. So what
@@ -35,26 +34,9 @@ type HandlerOptions struct {
 // In a group the context of a request is the one that the transaction has given to do. If the client leaves, the contexts of its
 // requests are done, and nothing more starts.
 func Handler(next http.Handler, options HandlerOptions) http.Handler {
-	h := &batchHandler{options, next, &budget{}}
-	if h.Path == "" {
-		h.Path = "/$batch"
-	}
-	if h.Root == "" {
-		h.Root = folder(h.Path)
-	}
-	if h.MaxSize == 0 {
-		h.MaxSize = MaxDocument
-	}
-	if h.Memory == 0 {
-		h.Memory = 16 * MaxDocument
-	}
-	if h.Limit == 0 {
-		h.Limit = 1000
-	}
-	if h.Timeout == 0 {
-		h.Timeout = 30 * time.Second
-	}
-	h.memory.left.Store(h.Memory)
+	h := &batchHandler{options, next}
+	h.Path, h.Limit, h.Timeout = or(h.Path, "/$batch"), or(h.Limit, 1000), or(h.Timeout, 30*time.Second)
+	h.Root, h.MaxSize = or(h.Root, folder(h.Path)), or(h.MaxSize, MaxDocument)
 	return h
 }
 
@@ -62,8 +44,7 @@ func folder(file string) string { return strings.TrimSuffix(path.Dir(file), "/")
 
 type batchHandler struct {
 	HandlerOptions
-	next   http.Handler
-	memory *budget
+	next http.Handler
 }
 
 func (h *batchHandler) ServeHTTP(w http.ResponseWriter, outer *http.Request) {
@@ -112,19 +93,14 @@ func (h *batchHandler) answered(w http.ResponseWriter, outer *http.Request) (Ans
 	if err := required(outer); err != nil {
 		return Answer{}, err
 	}
-	room, free := h.memory.part(h.MaxSize + 1)
-	defer free()
-	answers, freeAnswers := h.memory.part(h.MaxSize)
-	defer freeAnswers()
-	batch := &bounded{room: room}
-	if _, err := io.Copy(batch, io.LimitReader(outer.Body, h.MaxSize+1)); errors.Is(err, errShort) {
-		return Answer{}, &Refusal{503, "Busy", "Other batches have taken the memory", "", map[string]string{"retry-after": "1", "connection": "close"}}
+	batch, err := io.ReadAll(http.MaxBytesReader(w, outer.Body, h.MaxSize))
+	if errors.As(err, new(*http.MaxBytesError)) {
+		return Answer{}, &Refusal{413, "TooLong", fmt.Sprintf("A batch may have %d bytes", h.MaxSize), "", nil}
 	} else if err != nil {
 		return Answer{}, &Refusal{400, "CutBody", "The batch is not whole", "", nil}
-	} else if int64(len(batch.body)) > h.MaxSize {
-		return Answer{}, &Refusal{413, "TooLong", fmt.Sprintf("A batch may have %d bytes", h.MaxSize), "", map[string]string{"connection": "close"}}
 	}
-	d := &dispatch{next: h.next, outer: outer, path: h.Path, allowed: h.Allowed, room: answers, inherited: http.Header{}}
+	d := &dispatch{batchHandler: h, outer: outer, inherited: http.Header{}}
+	d.room.Store(h.MaxSize)
 	options, headers := h.Options, map[string]string{"content-type": "application/json"}
 	if options.Mode = d.inherit(); options.Mode == Continue {
 		headers["preference-applied"] = "continue-on-error"
@@ -135,7 +111,7 @@ func (h *batchHandler) answered(w http.ResponseWriter, outer *http.Request) (Ans
 	}
 	options.Base = scheme + outer.Host + (&url.URL{Path: folder(h.Path)}).EscapedPath()
 	options.Roots = rootsOf(outer, (&url.URL{Path: h.Root}).EscapedPath())
-	response, err := Perform(outer.Context(), batch.body, d.send, options)
+	response, err := Perform(outer.Context(), batch, d.send, options)
 	return Answer{200, headers, response}, err
 }
 
@@ -153,54 +129,13 @@ func rootsOf(outer *http.Request, path string) (roots []string) {
 	return roots
 }
 
-var errShort = errors.New("odb: there is no room for more bytes")
-
-// budget is a number of bytes that may be taken. What is taken of it is taken of the whole, too.
-type budget struct {
-	left  atomic.Int64
-	whole *budget
-}
-
-// part returns a budget for some of the bytes, and what gives back those that were taken of it.
-func (b *budget) part(count int64) (part *budget, free func()) {
-	part = &budget{whole: b}
-	part.left.Store(count)
-	return part, func() { b.left.Add(count - part.left.Load()) }
-}
-
-func (b *budget) take(count int) bool {
-	if b.left.Add(-int64(count)) < 0 || b.whole != nil && !b.whole.take(count) {
-		b.left.Add(int64(count))
-		return false
-	}
-	return true
-}
-
-// bounded keeps what is written, as long as there is room.
-type bounded struct {
-	body []byte
-	room *budget
-}
-
-func (b *bounded) Write(part []byte) (int, error) {
-	if !b.room.take(len(part)) {
-		b.room.take(-len(b.body))
-		b.body = nil
-		return 0, errShort
-	}
-	b.body = append(b.body, part...)
-	return len(part), nil
-}
-
 // dispatch has a handler answer the requests of one batch.
 type dispatch struct {
-	next      http.Handler
+	*batchHandler
 	outer     *http.Request
-	path      string
-	room      *budget
-	allowed   []string // further names in lower case
 	inherited http.Header
-	prefer    []string // the preferences that are not for the batch alone
+	prefer    []string     // the preferences that are not for the batch alone
+	room      atomic.Int64 // how many bytes the answers may still have
 }
 
 var (
@@ -225,7 +160,7 @@ func (d *dispatch) inherit() Mode {
 	}
 	for name, values := range d.outer.Header {
 		lower := strings.ToLower(name)
-		if !contains(constants.Headers.NotInherited, lower) && !hasPrefix(lower, constants.Headers.NotInheritedPrefixes) {
+		if !contains(constants.Headers["not_inherited"], lower) && !hasPrefix(lower, constants.Headers["not_inherited_prefixes"]) {
 			d.inherited[name] = values
 		}
 	}
@@ -246,13 +181,13 @@ func hasPrefix(name string, prefixes []string) bool {
 
 // headers returns the headers of a request with those that it has for itself, or a *Refusal.
 func (d *dispatch) headers(given map[string]string) (http.Header, error) {
-	found, known := d.inherited.Clone(), &constants.Headers
+	found, known := d.inherited.Clone(), constants.Headers
 	for name, value := range given {
-		isAdded := contains(d.allowed, name)
+		isAdded := contains(d.Allowed, name)
 		switch {
-		case contains(known.OfConnection, name) || contains(known.UsuallyDropped, name) && !isAdded:
+		case contains(known["of_connection"], name) || contains(known["usually_dropped"], name) && !isAdded:
 			continue
-		case !isAdded && !contains(known.Allowed, name) && !hasPrefix(name, known.AllowedPrefixes):
+		case !isAdded && !contains(known["allowed"], name) && !hasPrefix(name, known["allowed_prefixes"]):
 			return nil, &Refusal{400, "HeaderNotAllowed", "A request of a batch may not have the header " + name, name, nil}
 		case !isValue.MatchString(value):
 			return nil, &Refusal{400, "BadHeader", "The header " + name + " has a character that no header may have", name, nil}
@@ -270,7 +205,7 @@ func (d *dispatch) send(ctx context.Context, request *Request) (Answer, error) {
 	inner, err := http.NewRequestWithContext(ctx, request.Method, request.URL, bytes.NewReader(request.Body))
 	if err != nil {
 		return Answer{}, &Refusal{400, "BadUrl", "The URL cannot be read", "", nil}
-	} else if inner.URL.Path == d.path {
+	} else if inner.URL.Path == d.Path {
 		return Answer{}, &Refusal{400, "NestedBatch", "A batch has no batches", "", nil}
 	}
 	if inner.Header, err = d.headers(request.Headers); err != nil {
@@ -278,19 +213,19 @@ func (d *dispatch) send(ctx context.Context, request *Request) (Answer, error) {
 	}
 	inner.RequestURI, inner.RemoteAddr, inner.TLS, inner.Host = inner.URL.RequestURI(), d.outer.RemoteAddr, d.outer.TLS, d.outer.Host
 	inner.URL.Scheme, inner.URL.Host = "", "" // as a server sees it
-	kept := &recorder{bounded: bounded{room: d.room}, header: http.Header{}, method: request.Method, cancel: cancel}
+	kept := &recorder{header: http.Header{}, room: &d.room, isRead: request.Method == "GET", cancel: cancel}
 	d.next.ServeHTTP(kept, inner)
 	return kept.answer()
 }
 
 // recorder keeps what a handler writes, as long as there is room. A read for which there is none ends; a write loses its body.
 type recorder struct {
-	bounded
-	header, sent http.Header // what is set after the status is sent has no effect, as in a server
-	status       int
-	isShort      bool
-	method       string
-	cancel       func()
+	header, sent    http.Header // what is set after the status is sent has no effect, as in a server
+	status          int
+	body            bytes.Buffer
+	room            *atomic.Int64
+	isShort, isRead bool
+	cancel          func()
 }
 
 func (r *recorder) Header() http.Header { return r.header }
@@ -301,39 +236,47 @@ func (r *recorder) Flush() { r.WriteHeader(200) }
 func (r *recorder) WriteHeader(status int) {
 	if r.status == 0 && status >= 200 {
 		r.status, r.sent = status, r.header.Clone()
+		var lines bytes.Buffer
+		_ = r.sent.Write(&lines)
+		r.isShort = !r.take(lines.Len())
 	}
 }
 
-func (r *recorder) Write(part []byte) (int, error) {
-	r.WriteHeader(200)
-	if r.status == 204 || r.status == 304 {
-		return 0, http.ErrBodyNotAllowed
-	} else if r.isShort {
-		return len(part), nil
+// take takes some bytes of the room; without it those of the body are given back.
+func (r *recorder) take(count int) bool {
+	if r.isShort || r.room.Add(-int64(count)) >= 0 {
+		return !r.isShort
 	}
-	_, err := r.bounded.Write(part)
-	if r.isShort = err != nil; r.isShort && r.method == "GET" {
+	r.room.Add(int64(count + r.body.Len()))
+	r.body.Reset()
+	return false
+}
+
+func (r *recorder) Write(part []byte) (int, error) {
+	if r.WriteHeader(200); r.status == 204 || r.status == 304 {
+		return 0, http.ErrBodyNotAllowed
+	} else if r.isShort = !r.take(len(part)); !r.isShort {
+		return r.body.Write(part)
+	} else if r.isRead {
 		r.cancel()
-		return 0, err
+		return 0, errTooLong
 	}
 	return len(part), nil
 }
 
 // answer returns what was written. Without a Content-Type it has that of a server.
 func (r *recorder) answer() (Answer, error) {
-	r.WriteHeader(200)
-	answer := Answer{r.status, map[string]string{}, r.body}
-	for name, values := range r.sent {
-		answer.Headers[strings.ToLower(name)] = strings.Join(values, ", ")
-		r.isShort = !r.room.take(len(name)+len(answer.Headers[strings.ToLower(name)])) || r.isShort
-	}
-	if _, isNamed := r.sent["Content-Type"]; !isNamed && len(r.body) > 0 {
-		answer.Headers["content-type"] = http.DetectContentType(r.body)
-	}
-	if r.isShort && r.method == "GET" {
-		return Answer{}, &Refusal{507, "TooLong", "The answers to the batch are too long together", "", nil}
+	if r.WriteHeader(200); r.isShort && r.isRead {
+		return Answer{}, errTooLong
 	} else if r.isShort {
 		return Answer{Status: r.status}, nil
+	}
+	answer := Answer{r.status, map[string]string{}, r.body.Bytes()}
+	for name, values := range r.sent {
+		answer.Headers[strings.ToLower(name)] = strings.Join(values, ", ")
+	}
+	if _, isNamed := answer.Headers["content-type"]; !isNamed && len(answer.Body) > 0 {
+		answer.Headers["content-type"] = http.DetectContentType(answer.Body)
 	}
 	return answer, nil
 }

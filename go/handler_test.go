@@ -228,32 +228,6 @@ func TestLongAnswers(t *testing.T) {
 	}
 }
 
-func TestMemory(t *testing.T) {
-	inside, leave := make(chan bool), make(chan bool)
-	server, post := served(t, func(w http.ResponseWriter, r *http.Request) {
-		if r.URL.Path == "/odata/wait" {
-			inside <- true
-			<-leave
-		}
-		fmt.Fprint(w, strings.Repeat("y", 3000))
-	}, odb.HandlerOptions{MaxSize: 5000, Memory: 6000})
-	done := make(chan map[string]answer)
-	go func() { done <- post(nil, "get wait", `get x ,"headers":{"Accept":"`+strings.Repeat("z", 2000)+`"}`) }()
-	<-inside
-	if status, found := posted(t, server, nil, `{"requests":[]`+strings.Repeat(" ", 4000)+"}"); status != 503 || found[""].ID != "Busy" {
-		t.Error(status, found)
-	}
-	close(leave)
-	if found := <-done; found["r0"].Status != 200 || found["r1"].Status != 507 {
-		t.Error(found["r0"].Status, found["r1"].Status)
-	}
-	for i := 0; i < 3; i++ { // all is given back
-		if found := post(nil, "get x"); found["r0"].Status != 200 {
-			t.Error(found)
-		}
-	}
-}
-
 // A client that leaves ends its requests, and rolls its group back.
 func TestAClientThatLeaves(t *testing.T) {
 	inside, ended := make(chan bool), make(chan error, 1)

@@ -30,6 +30,14 @@ var (
 	ErrClosed = errors.New("odb: the run is closed")
 )
 
+// or returns a value, or the usual one if it is that of nothing.
+func or[T comparable](value, usual T) T {
+	if value == *new(T) {
+		return usual
+	}
+	return value
+}
+
 const (
 	MaxWidth    = C.ODB_MAX_WIDTH    // the greatest width, and that of a Policy that has 0
 	MaxRequests = C.ODB_MAX_REQUESTS // how many requests a batch may have
@@ -47,15 +55,7 @@ var seed = func() C.uint64_t {
 
 // constants is what the library says of itself.
 var constants = func() (found struct {
-	Headers struct {
-		Allowed              []string
-		AllowedPrefixes      []string `json:"allowed_prefixes"`
-		NotInherited         []string `json:"not_inherited"`
-		NotInheritedPrefixes []string `json:"not_inherited_prefixes"`
-		NotShown             []string `json:"not_shown"`
-		OfConnection         []string `json:"of_connection"`
-		UsuallyDropped       []string `json:"usually_dropped"`
-	}
+	Headers     map[string][]string
 	Preferences []string
 	ReservedIDs []string `json:"reserved_ids"`
 }) {
@@ -80,7 +80,7 @@ type writer = func(to *C.uint8_t, room C.size_t, length *C.size_t) C.uint32_t
 
 // written calls a function that writes a text, again if the room was too small; returns its status and the text.
 func written(room int, call writer) (C.uint32_t, []byte) {
-	status, text, _ := listed(room, 0, func(to *C.uint8_t, room C.size_t, length *C.size_t, _ *byte, _ C.size_t, _ *C.size_t) C.uint32_t {
+	status, text, _ := listed(room, func(to *C.uint8_t, room C.size_t, length *C.size_t, _ *byte, _ C.size_t, _ *C.size_t) C.uint32_t {
 		return call(to, room, length)
 	})
 	return status, text
@@ -88,35 +88,25 @@ func written(room int, call writer) (C.uint32_t, []byte) {
 
 // listed calls a function that writes a text and a list, again if one of them had too little room. The elements of the lists have no
 // pointers, so that C may be given them.
-func listed[T any](room, most int, call func(to *C.uint8_t, room C.size_t, length *C.size_t, items *T, most C.size_t, count *C.size_t) C.uint32_t) (C.uint32_t, []byte, []T) {
+func listed[T any](room int, call func(to *C.uint8_t, room C.size_t, length *C.size_t, items *T, most C.size_t, count *C.size_t) C.uint32_t) (C.uint32_t, []byte, []T) {
+	var length, count C.size_t
+	most := C.size_t(room/32 + 1)
+	if most > MaxRequests {
+		most = MaxRequests
+	}
 	for {
-		var length, count C.size_t
-		text, items := make([]byte, room), make([]T, most+1)
-		status := call(at(text), C.size_t(room), &length, &items[0], C.size_t(most), &count)
+		text, items := make([]byte, room), make([]T, most)
+		status := call(at(text), C.size_t(room), &length, &items[0], most, &count)
 		if status != C.ODB_SMALL_BUFFER {
 			return status, text[:length], items[:count]
 		}
-		room, most = max(room, int(length)), max(most, int(count))
+		room, most = room+int(length), most+count
 	}
 }
-
-func max(a, b int) int {
-	if a > b {
-		return a
-	}
-	return b
-}
-
-// likely returns a guess of how many requests a document has.
-func likely(document []byte) int { return MaxRequests - max(0, MaxRequests-len(document)/32-1) }
 
 // answer returns the text of a call over documents, or why there is none.
 func answer(call writer, documents ...[]byte) ([]byte, error) {
-	room := more
-	for _, it := range documents {
-		room += len(it)
-	}
-	status, text := written(room, call)
+	status, text := written(len(documents[0])+len(documents[len(documents)-1])+more, call)
 	return text, failure(status, text, documents...)
 }
 
@@ -181,7 +171,7 @@ func faultOf(line string, documents [][]byte) *Fault {
 
 // Faults returns all faults of the first phase that has any, in one scan; none if the batch is accepted.
 func Faults(batch []byte) ([]*Fault, error) {
-	status, text, found := listed(len(batch)+more, likely(batch),
+	status, text, found := listed(len(batch)+more,
 		func(to *C.uint8_t, room C.size_t, length *C.size_t, items *C.odb_fault, most C.size_t, count *C.size_t) C.uint32_t {
 			return C.odb_faults(at(batch), size(batch), to, room, length, items, most, count, seed)
 		})
@@ -248,27 +238,24 @@ type Policy struct {
 
 // numbers returns a mode and a width; the library refuses a wrong one.
 func (p Policy) numbers() (C.uint32_t, C.uint32_t) {
-	if p.Width == 0 {
-		p.Width = MaxWidth
-	} else if p.Width < 0 || p.Width > MaxWidth {
+	if p.Width < 0 || p.Width > MaxWidth {
 		p.Width = MaxWidth + 1
 	}
-	return C.uint32_t(p.Mode), C.uint32_t(p.Width)
+	return C.uint32_t(p.Mode), C.uint32_t(or(p.Width, MaxWidth))
 }
 
 // Counts says how many requests and groups a batch has.
 type Counts struct{ Requests, Groups int }
 
 // Check checks a batch.
-func Check(batch []byte) (Counts, error) {
+func Check(batch []byte) (found Counts, err error) {
 	text, err := answer(func(to *C.uint8_t, room C.size_t, length *C.size_t) C.uint32_t {
 		return C.odb_check_as(at(batch), size(batch), C.ODB_LINES, to, room, length, seed)
 	}, batch)
-	if err != nil {
-		return Counts{}, err
+	if err == nil {
+		_, err = fmt.Sscanf(string(text), "ok %d requests %d groups", &found.Requests, &found.Groups)
 	}
-	words := strings.Fields(string(text))
-	return Counts{number(words[1]), number(words[3])}, nil
+	return found, err
 }
 
 func number(word string) int {
@@ -336,7 +323,7 @@ type MatchOptions struct {
 // Match matches the response document of a service against a batch; returns the statuses in the order of the batch.
 func Match(batch, responses []byte, options MatchOptions) (found []Status, err error) {
 	text, err := answer(func(to *C.uint8_t, room C.size_t, length *C.size_t) C.uint32_t {
-		return C.odb_match_with(at(batch), size(batch), at(responses), size(responses), C.uint32_t(options.Mode), bit(options.Strict),
+		return C.odb_match_with(at(batch), size(batch), at(responses), size(responses), C.uint32_t(options.Mode), bit[options.Strict],
 			C.ODB_LINES, to, room, length, seed)
 	}, batch, responses)
 	if err != nil {
@@ -349,12 +336,8 @@ func Match(batch, responses []byte, options MatchOptions) (found []Status, err e
 	return found, nil
 }
 
-func bit(is bool) C.uint32_t {
-	if is {
-		return 1
-	}
-	return 0
-}
+// bit has the numbers of the library for whether something is.
+var bit = map[bool]C.uint32_t{true: 1}
 
 // Rest returns what may be sent again by the responses of a service, as a batch of its own. If nothing may, it has no requests.
 func Rest(batch, responses []byte, mode Mode) ([]byte, error) {
@@ -389,7 +372,7 @@ func Replay(batch, outcomes []byte, options ReplayOptions) (response []byte, ste
 	mode, width := options.numbers()
 	text, err := answer(func(to *C.uint8_t, room C.size_t, length *C.size_t) C.uint32_t {
 		return C.odb_replay_as(at(batch), size(batch), at(outcomes), size(outcomes), mode, width, C.uint32_t(options.Order),
-			bit(options.Trace), C.ODB_LINES, to, room, length, seed)
+			bit[options.Trace], C.ODB_LINES, to, room, length, seed)
 	}, batch, outcomes)
 	if err != nil {
 		return nil, nil, err
@@ -414,7 +397,7 @@ type Request struct {
 
 // Requests returns what is to be sent of each request of a batch. Bodies are slices of the document, without a copy.
 func Requests(batch []byte) ([]Request, error) {
-	status, text, found := listed(len(batch)+more, likely(batch),
+	status, text, found := listed(len(batch)+more,
 		func(to *C.uint8_t, room C.size_t, length *C.size_t, items *C.odb_request, most C.size_t, count *C.size_t) C.uint32_t {
 			return C.odb_requests(at(batch), size(batch), to, room, length, items, most, count, seed)
 		})
@@ -469,7 +452,7 @@ type Response struct {
 // Responses returns the responses in the document of a service, in its order; they need not fit a batch. Bodies are slices of the
 // document.
 func Responses(document []byte) ([]Response, error) {
-	status, text, found := listed(len(document)+more, likely(document),
+	status, text, found := listed(len(document)+more,
 		func(to *C.uint8_t, room C.size_t, length *C.size_t, items *C.odb_response, most C.size_t, count *C.size_t) C.uint32_t {
 			return C.odb_responses(at(document), size(document), to, room, length, items, most, count)
 		})

@@ -43,8 +43,8 @@ var ErrGroupFailed = errors.New("odb: a request of the group has failed")
 
 var (
 	errNotDone = errors.New("odb: a transaction has to call do once, and to wait for it")
-	errStopped = &Refusal{Status: 424, Code: "Stopped", Message: "The batch had stopped before the request was sent"}
 	errTooLong = &Refusal{Status: 507, Code: "TooLong", Message: "The answer is too long for a batch"}
+	errStopped = &Refusal{Status: 424, Code: "Stopped", Message: "The batch had stopped before the request was sent"}
 )
 
 // performance is a batch that is performed. What a request refers to was answered before it starts (OData JSON Format 4.01, sections
@@ -67,17 +67,9 @@ type performance struct {
 // If ctx is done nothing more starts, open transactions are rolled back, what is out is waited for, and the error is that of ctx. If
 // the batch is refused the error is a *Fault or a *Refusal, and nothing was sent. The batch must not change meanwhile.
 func Perform(ctx context.Context, batch []byte, send SendFunc, options Options) ([]byte, error) {
-	if options.Width == 0 {
-		options.Width = 1
-	}
-	if options.Limit == 0 {
-		options.Limit = MaxRequests
-	}
+	options.Width, options.Limit, options.Base = or(options.Width, 1), or(options.Limit, MaxRequests), or(options.Base, "http://localhost/")
 	if options.Log == nil {
 		options.Log = func(err error, what string) { log.Printf("odb: %s: %v", what, err) }
-	}
-	if options.Base == "" {
-		options.Base = "http://localhost/"
 	}
 	if options.Roots == nil {
 		options.Roots = []string{options.Base}
@@ -222,22 +214,17 @@ func (p *performance) members(ctx context.Context, ids []string, open *string, l
 
 // answer sends a request, and returns what it is answered.
 func (p *performance) answer(ctx context.Context, id string) (answer Answer) {
-	if p.Timeout > 0 {
-		var cancel context.CancelFunc
-		ctx, cancel = context.WithTimeout(ctx, p.Timeout)
-		defer cancel()
-	}
+	ctx, cancel := context.WithTimeout(ctx, or(p.Timeout, 1<<63-1))
+	defer cancel()
 	err := guarded(func() error {
 		request, err := p.prepared(id)
 		if err == nil {
 			answer, err = p.send(ctx, request)
 		}
-		if err == nil && len(answer.Body) > MaxDocument {
-			answer.Body = nil // but a request that reads has no answer without it
-			if err = errTooLong; p.run.Request(id).Method != "GET" {
-				p.Log(err, "the request "+id+", whose answer loses its body")
-				err = nil
-			}
+		if isLong := len(answer.Body) > MaxDocument; isLong && request.Method == "GET" {
+			err = errTooLong
+		} else if isLong {
+			answer.Body = nil
 		}
 		return err
 	})
@@ -270,7 +257,7 @@ func (p *performance) report(id string, answer Answer) {
 	}
 	p.failed = p.failed || p.Mode == Stop && answer.Status >= 400
 	p.changed.L.Unlock()
-	for _, name := range constants.Headers.NotShown {
+	for _, name := range constants.Headers["not_shown"] {
 		delete(answer.Headers, name)
 	}
 	err := p.run.Report(id, answer.Status, answer.Headers, toJSON(answer.Body, answer.Headers["content-type"]))
@@ -324,12 +311,8 @@ func (p *performance) prepared(id string) (*Request, error) {
 	return &request, err
 }
 
-func noETag(id string) *Refusal {
+func noETag(id string) error {
 	return &Refusal{Status: 424, Code: "NoETag", Message: id + " was answered without an ETag", Target: id}
-}
-
-func noLocation(id string) *Refusal {
-	return &Refusal{Status: 424, Code: "NoLocation", Message: id + " was answered without the URL of what it has created", Target: id}
 }
 
 // resolved asks the library where a request is sent.
@@ -337,13 +320,13 @@ func (p *performance) resolved(url, sent, location string, isPost bool) (string,
 	base, roots, own, from, place := []byte(p.Base), []byte(strings.Join(p.Roots, "\n")), []byte(url), []byte(sent), []byte(location)
 	status, text := written(len(base)+len(own)+len(from)+len(place)+more, func(to *C.uint8_t, room C.size_t, length *C.size_t) C.uint32_t {
 		return C.odb_resolve(at(base), size(base), at(roots), size(roots), at(own), size(own), at(from), size(from), at(place), size(place),
-			bit(isPost), to, room, length)
+			bit[isPost], to, room, length)
 	})
 	switch status {
 	case C.ODB_UNREADABLE, C.ODB_OUTSIDE:
 		return "", &Refusal{Status: 404, Code: "NotFound", Message: "The URL leads out of the service"}
 	case C.ODB_NO_LOCATION:
-		return "", noLocation(url)
+		return "", &Refusal{Status: 424, Code: "NoLocation", Message: "What it refers to was answered without the URL of what it has created"}
 	}
 	return string(text), failure(status, nil)
 }

@@ -39,7 +39,7 @@ func Open(batch, events []byte, policy Policy) (*LiveRun, error) {
 	}
 	mode, width := policy.numbers()
 	var handle C.odb_live_run
-	status, text, found := listed(len(batch)+more, likely(batch),
+	status, text, found := listed(len(batch)+more,
 		func(to *C.uint8_t, room C.size_t, length *C.size_t, items *C.odb_request, most C.size_t, count *C.size_t) C.uint32_t {
 			return C.odb_run_open_requests(at(batch), size(batch), at(events), size(events), mode, width, &handle, to, room, length,
 				items, most, count, seed)
@@ -80,10 +80,8 @@ func (r *LiveRun) use(call func() error) error {
 	return call()
 }
 
-type lister = func(to *C.uint32_t, room C.size_t, count *C.size_t) C.uint32_t
-
 // list returns the ids of the requests whose positions a call lists, in the order of the batch if they are to be sorted.
-func (r *LiveRun) list(isSorted bool, call lister) (ids []string, err error) {
+func (r *LiveRun) list(isSorted bool, call func(to *C.uint32_t, most C.size_t, count *C.size_t) C.uint32_t) (ids []string, err error) {
 	err = r.use(func() error {
 		var count C.size_t
 		status := call(&r.listed[0], C.size_t(len(r.listed)), &count)
@@ -101,31 +99,31 @@ func (r *LiveRun) list(isSorted bool, call lister) (ids []string, err error) {
 
 // Ready returns the ids of the requests that may start now, in the order of the batch.
 func (r *LiveRun) Ready() ([]string, error) {
-	return r.list(true, func(to *C.uint32_t, room C.size_t, count *C.size_t) C.uint32_t {
-		return C.odb_run_ready(&r.handle, to, room, count)
+	return r.list(true, func(to *C.uint32_t, most C.size_t, count *C.size_t) C.uint32_t {
+		return C.odb_run_ready(&r.handle, to, most, count)
 	})
 }
 
 // Running returns the ids of the requests that have started and not reported yet, in the order of the batch.
 func (r *LiveRun) Running() ([]string, error) {
-	return r.list(true, func(to *C.uint32_t, room C.size_t, count *C.size_t) C.uint32_t {
-		return C.odb_run_running(&r.handle, to, room, count)
+	return r.list(true, func(to *C.uint32_t, most C.size_t, count *C.size_t) C.uint32_t {
+		return C.odb_run_running(&r.handle, to, most, count)
 	})
 }
 
 // Undone returns the ids of the requests of the finished run that have to be undone, in this order. Of a run that is not finished the
 // error is a *Fault, F66.
 func (r *LiveRun) Undone() ([]string, error) {
-	return r.list(false, func(to *C.uint32_t, room C.size_t, count *C.size_t) C.uint32_t {
-		return C.odb_run_undone(&r.handle, to, room, count)
+	return r.list(false, func(to *C.uint32_t, most C.size_t, count *C.size_t) C.uint32_t {
+		return C.odb_run_undone(&r.handle, to, most, count)
 	})
 }
 
 // NextUnit returns the ids of the first unit that may begin, a group or a request without one; none if no unit may. Start its
 // requests one after another, or all by StartUnit.
 func (r *LiveRun) NextUnit() ([]string, error) {
-	return r.list(false, func(to *C.uint32_t, room C.size_t, count *C.size_t) C.uint32_t {
-		return C.odb_run_next_unit(&r.handle, to, room, count)
+	return r.list(false, func(to *C.uint32_t, most C.size_t, count *C.size_t) C.uint32_t {
+		return C.odb_run_next_unit(&r.handle, to, most, count)
 	})
 }
 

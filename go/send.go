@@ -6,7 +6,6 @@ import (
 	"bytes"
 	"context"
 	"encoding/json"
-	"errors"
 	"fmt"
 	"io"
 	"net/http"
@@ -45,12 +44,14 @@ type Results struct {
 }
 
 // Of returns what a request was answered.
-func (r *Results) Of(request Reference) Result { return Result{request.ID, r.answers[request.ID]} }
+func (r *Results) Of(request Reference) Result {
+	return Result{string(request), r.answers[string(request)]}
+}
 
 // All returns what the requests were answered, in the order of the batch.
 func (r *Results) All() (found []Result) {
 	for _, it := range r.requests {
-		found = append(found, r.Of(Reference{it.ID}))
+		found = append(found, r.Of(Reference(it.ID)))
 	}
 	return found
 }
@@ -68,41 +69,36 @@ func (r *Results) Rest() ([]byte, error) {
 	for _, it := range r.requests {
 		responses = append(responses, response{it.ID, r.answers[it.ID].Status, it.Group, r.places[it.ID]})
 	}
-	text, err := encoded(map[string]any{"responses": responses})
-	if err == nil {
-		text, err = Rest(r.document, text, Continue)
-	}
-	if err != nil {
+	text, _ := encoded(map[string]any{"responses": responses})
+	text, err := Rest(r.document, text, Continue)
+	if err != nil || string(text) == `{"requests":[]}` {
 		return nil, err
 	}
-	elements, err := r.tagged(text, func(_ string, why *Refusal) { err = why })
-	if err != nil || len(elements) == 0 {
-		return nil, err
-	}
-	return document(elements)
+	return r.tagged(text)
 }
 
-// tagged returns the requests of a batch with ETags in place of references to what has succeeded and is not among them. It calls
-// refuse for a request whose ETag is not known.
-func (r *Results) tagged(text []byte, refuse func(id string, why *Refusal)) ([]element, error) {
-	var batch struct{ Requests []element }
-	err := json.Unmarshal(text, &batch)
+// tagged returns a batch of some of the requests with ETags in place of references to others that have succeeded.
+func (r *Results) tagged(text []byte) ([]byte, error) {
+	var batch struct {
+		Requests []element `json:"requests"`
+	}
+	if err := json.Unmarshal(text, &batch); err != nil || !bytes.Contains(text, []byte(`"$`)) {
+		return text, err
+	}
 	inside := map[string]bool{}
 	for _, it := range batch.Requests {
 		inside[it.ID] = true
-	}
-	for _, it := range batch.Requests {
-		for name, value := range it.Headers {
-			id := strings.TrimPrefix(value, "$")
-			if !contains(conditions, lower(name)) || id == value || inside[id] || !r.answers[id].OK() {
+		for _, name := range conditions {
+			id := strings.TrimPrefix(it.Headers[name], "$")
+			if id == it.Headers[name] || inside[id] || !r.answers[id].OK() {
 				continue
 			}
 			if it.Headers[name] = r.answers[id].etag(); it.Headers[name] == "" {
-				refuse(it.ID, noETag(id))
+				return nil, noETag(id)
 			}
 		}
 	}
-	return batch.Requests, err
+	return encoded(batch)
 }
 
 // Send posts the batch to the URL of a $batch; see the function Send.
@@ -125,12 +121,7 @@ func Send(ctx context.Context, client *http.Client, url string, document []byte,
 	if client == nil {
 		client = http.DefaultClient
 	}
-	if options.Limit == 0 {
-		options.Limit = MaxRequests
-	}
-	if options.MaxSize == 0 {
-		options.MaxSize = MaxDocument
-	}
+	options.Limit, options.MaxSize = or(options.Limit, MaxRequests), or(options.MaxSize, MaxDocument)
 	run, err := Open(document, nil, Policy{Mode: options.Mode})
 	if err != nil {
 		return nil, err
@@ -141,20 +132,21 @@ func Send(ctx context.Context, client *http.Client, url string, document []byte,
 		s.answers[it.ID] = Answer{Status: 424}
 	}
 	for hasSent := false; ; hasSent = true {
-		part, ids, err := s.next()
+		part, ids, err := run.Part(options.Limit)
+		if err == nil {
+			part, err = s.tagged(part)
+		}
 		if err != nil && !hasSent {
 			return nil, err
 		} else if err != nil || len(ids) == 0 {
 			return s.Results, err
 		}
-		answers, err := s.exchanged(ctx, part)
-		if err != nil {
+		if err = s.exchange(ctx, part, ids); err != nil {
 			for _, id := range ids {
 				s.answers[id] = answerTo(err)
 			}
 			return s.Results, err
 		}
-		s.take(ids, answers)
 	}
 }
 
@@ -167,80 +159,11 @@ type sending struct {
 	*Results
 }
 
-// next returns the next part, and the ids of its requests. What refers to something that no answer has is answered 424.
-func (s *sending) next() (part []byte, ids []string, err error) {
-	for {
-		part, ids, err = s.run.Part(s.Limit)
-		var fault *Fault
-		if errors.As(err, &fault) && fault.Code == "F90" {
-			refused := s.requests[number(strings.TrimPrefix(fault.Place, "/requests/"))]
-			s.refuse(refused.ID, noLocation(refused.Reference))
-			continue
-		} else if err != nil || len(ids) == 0 || !bytes.Contains(part, []byte(`"$`)) {
-			return part, ids, err
-		}
-		elements, err := s.tagged(part, s.refuse)
-		left := elements[:0]
-		ids = ids[:0]
-		for _, it := range elements {
-			if state, _, _ := s.run.State(it.ID); state == Waiting || state == Ready {
-				left, ids = append(left, it), append(ids, it.ID)
-			}
-		}
-		if err != nil || len(left) > 0 {
-			part, _ = document(left)
-			return part, ids, err
-		}
-	}
-}
-
-// refuse answers a request that is not sent, and the others of its group 424.
-func (s *sending) refuse(id string, why *Refusal) {
-	s.settle(id, why.Answer())
-	running, _ := s.run.Running()
-	for _, other := range running {
-		s.settle(other, Answer{Status: 424})
-	}
-}
-
-// settle notes what a request was answered. One that may not start is skipped by the run.
-func (s *sending) settle(id string, answer Answer) {
-	s.answers[id] = answer
-	if answer.OK() {
-		if place := s.place(s.run.Request(id), answer); place != "" {
-			s.places[id] = map[string]string{"location": place}
-		}
-	}
-	_ = s.run.StartUnit(id)
-	_ = s.run.Report(id, answer.Status, s.places[id], nil)
-}
-
-// place returns the URL of what a request has created or returned; it is empty if that is not known.
-func (s *sending) place(request *Request, answer Answer) string {
-	if place := answer.place(s.url); place != "" || request.Method == "POST" {
-		return place
-	}
-	place, _, _ := strings.Cut(s.places[request.Reference]["location"]+request.Rest, "?")
-	return strings.TrimSuffix(place, "/")
-}
-
-// take takes the answers to a part: first those that have succeeded, since a service may have performed them before an error that
-// stops the run. In mode Stop a request may have none.
-func (s *sending) take(ids []string, answers map[string]Answer) {
-	for _, isFirst := range []bool{true, false} {
-		for _, id := range ids {
-			if answer, ok := answers[id]; ok && answer.OK() == isFirst {
-				s.settle(id, answer)
-			}
-		}
-	}
-}
-
-// exchanged posts a part, and returns what its requests were answered, with bodies as on the wire.
-func (s *sending) exchanged(ctx context.Context, part []byte) (map[string]Answer, error) {
+// exchange posts a part, and notes what its requests were answered.
+func (s *sending) exchange(ctx context.Context, part []byte, ids []string) error {
 	post, err := http.NewRequestWithContext(ctx, "POST", s.url, bytes.NewReader(part))
 	if err != nil {
-		return nil, err
+		return err
 	}
 	for name, values := range s.Header {
 		post.Header[name] = values
@@ -252,32 +175,63 @@ func (s *sending) exchanged(ctx context.Context, part []byte) (map[string]Answer
 	}
 	answer, err := s.client.Do(post)
 	if err != nil {
-		return nil, err
+		return err
 	}
 	defer answer.Body.Close()
 	text, err := io.ReadAll(io.LimitReader(answer.Body, s.MaxSize+1))
-	if answer.StatusCode >= 400 {
-		return nil, &Refusal{answer.StatusCode, "Refused", fmt.Sprintf("%.1000s", text), "", nil}
-	} else if err == nil && answer.StatusCode != 200 {
+	switch {
+	case answer.StatusCode >= 400:
+		return &Refusal{answer.StatusCode, "Refused", fmt.Sprintf("%.1000s", text), "", nil}
+	case err != nil:
+	case answer.StatusCode != 200:
 		err = fmt.Errorf("a batch was answered %d", answer.StatusCode)
-	}
-	if err == nil && int64(len(text)) > s.MaxSize {
+	case int64(len(text)) > s.MaxSize:
 		err = fmt.Errorf("the answer has more than %d bytes", s.MaxSize)
-	}
-	if err == nil {
+	default:
 		_, err = Match(part, text, MatchOptions{Mode: s.Mode})
 	}
 	if err != nil {
-		return nil, &url.Error{Op: "Post", URL: s.url, Err: err} // which is answered 502, or 504
+		return &url.Error{Op: "Post", URL: s.url, Err: err} // which is answered 502, or 504
 	}
-	responses, _ := Responses(text)
-	found := make(map[string]Answer, len(responses))
+	responses, err := Responses(text)
+	s.take(ids, responses)
+	return err
+}
+
+// take notes what the requests of a part were answered: first those that have succeeded, since a service may have performed them before
+// an error that stops the run. In mode Stop a request may have no answer.
+func (s *sending) take(ids []string, responses []Response) {
+	found := map[string]Response{}
 	for _, it := range responses {
-		body, err := toWire(it.Body, it.Headers["content-type"])
-		if err != nil {
-			body = it.Body
-		}
-		found[it.ID] = Answer{it.Status, it.Headers, body}
+		found[it.ID] = it
 	}
-	return found, nil
+	for _, isFirst := range []bool{true, false} {
+		for _, id := range ids {
+			it, isAnswered := found[id]
+			body, err := toWire(it.Body, it.Headers["content-type"])
+			if err != nil {
+				body = it.Body
+			}
+			answer := Answer{it.Status, it.Headers, body}
+			if !isAnswered || answer.OK() != isFirst {
+				continue
+			}
+			s.answers[id] = answer
+			if place := s.place(id); place != "" {
+				s.places[id] = map[string]string{"location": place}
+			}
+			_ = s.run.StartUnit(id)
+			_ = s.run.Report(id, answer.Status, s.places[id], nil) // one that may not start is skipped by the run
+		}
+	}
+}
+
+// place returns the URL of what a request has created or returned; it is empty if that is not known.
+func (s *sending) place(id string) string {
+	request := s.run.Request(id)
+	if place := s.answers[id].place(s.url); place != "" || request.Method == "POST" {
+		return place
+	}
+	place, _, _ := strings.Cut(s.places[request.Reference]["location"]+request.Rest, "?")
+	return strings.TrimSuffix(place, "/")
 }
