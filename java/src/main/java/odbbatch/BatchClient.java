@@ -1,0 +1,171 @@
+package odbbatch;
+
+import java.io.IOException;
+import java.net.URI;
+import java.net.http.*;
+import java.time.Duration;
+import java.util.*;
+
+/**
+ * Posts batches to a service, in parts if it takes few requests at once. Threads may share one that is not changed any more.
+ *
+ * <pre>{@code
+ * BatchClient service = new BatchClient(HttpClient.newHttpClient(), URI.create("https://host/odata/$batch")).limit(20);
+ * BatchResults results = service.send(batch);
+ * byte[] body = results.require(order).body();
+ * }</pre>
+ */
+public final class BatchClient {
+    private final HttpClient client;
+    private final URI url;
+    private final Map<String, String> headers = new LinkedHashMap<>();
+    private int limit = Odb.MAX_REQUESTS;
+    private Mode mode = Mode.CONTINUE;
+    private Duration timeout = Duration.ofSeconds(60);
+
+    /**
+     * A client of a service.
+     *
+     * @param client what sends; it has certificates, proxies and redirects
+     * @param url the URL to which batches are posted
+     */
+    public BatchClient(HttpClient client, URI url) {
+        this.client = client;
+        this.url = url;
+        headers.put("content-type", "application/json");
+        headers.put("accept", "application/json");
+    }
+
+    /**
+     * How many requests a part may have. A group is never split.
+     *
+     * @param limit a number from 1 to 10,000, which is the default
+     * @return this client
+     */
+    public BatchClient limit(int limit) { this.limit = limit; return this; }
+
+    /**
+     * What the service does after an error.
+     *
+     * @param mode CONTINUE, for which it is asked, or STOP: then nothing more is sent, too
+     * @return this client
+     */
+    public BatchClient mode(Mode mode) { this.mode = mode; return this; }
+
+    /**
+     * How long a part may take, to the last byte of its answer.
+     *
+     * @param timeout a duration; without it 60 seconds
+     * @return this client
+     */
+    public BatchClient timeout(Duration timeout) { this.timeout = timeout; return this; }
+
+    /**
+     * A header of each batch, as Authorization.
+     *
+     * @param name its name
+     * @param value its value
+     * @return this client
+     */
+    public BatchClient header(String name, String value) { headers.put(name, value); return this; }
+
+    /**
+     * Sends a batch, and waits for all answers; see the other call.
+     *
+     * @param batch the batch
+     * @return what its requests were answered
+     */
+    public BatchResults send(Batch batch) { return send(batch.document()); }
+
+    /**
+     * Sends a batch, and waits for all answers. Nothing is sent twice. Once a part fails, nothing more is sent: its requests get its status,
+     * 504 for a timeout and an interrupt, 502 for a connection that broke or responses that do not fit, and {@link BatchResults#error} says
+     * why. After an interrupt the thread stays interrupted.
+     *
+     * @param document the batch
+     * @return what its requests were answered; 424 are those that were not sent
+     * @throws FaultException it is refused; nothing was sent
+     * @throws IllegalArgumentException a group has more requests than the limit; nothing was sent
+     */
+    public BatchResults send(byte[] document) {
+        Map<String, Answer> found = new LinkedHashMap<>();
+        try (LiveRun run = new LiveRun(document, mode, Odb.MAX_WIDTH)) {
+            run.ids().forEach(id -> found.put(id, Answer.of(424)));
+            Exception error = null;
+            try {
+                for (Optional<LiveRun.Part> part; error == null && (part = run.part(limit)).isPresent();) { error = sent(run, part.get(), found); }
+            } catch (FaultException fault) {
+                error = fault; // a request refers to a part that was answered without a Location
+            }
+            run.stop();
+            return new BatchResults(document, run.response(), mode, found, error);
+        }
+    }
+
+    /** Sends a part, and takes what its requests are answered; returns why nothing more is sent. */
+    private Exception sent(LiveRun run, LiveRun.Part part, Map<String, Answer> found) {
+        Exception error = null;
+        Map<String, Answer> answers = new LinkedHashMap<>();
+        try {
+            byte[] document = withTags(part.document(), found);
+            Answer answer = posted(document);
+            if (answer.isSuccess()) {
+                byte[] responses = Bodies.toJson(answer.body(), Map.of());
+                Odb.match(document, responses, mode, false).forEach((id, status) -> answers.put(id, Answer.of(status)));
+                answers.putAll(Odb.responses(responses));
+            } else {
+                error = new IOException("a part of the batch was answered " + answer.status());
+                part.ids().forEach(id -> answers.put(id, answer));
+            }
+        } catch (IllegalStateException unsent) {
+            return unsent;
+        } catch (IOException | InterruptedException | FaultException failed) {
+            if (failed instanceof InterruptedException) { Thread.currentThread().interrupt(); }
+            error = failed;
+            Answer inPlace = failed instanceof FaultException ? Answer.of(502) : RefusalException.answerTo(failed);
+            part.ids().forEach(id -> answers.put(id, inPlace));
+        }
+        for (String id : part.ids()) {
+            found.put(id, answers.get(id));
+            report(run, id, answers.get(id));
+        }
+        return error;
+    }
+
+    private Answer posted(byte[] document) throws IOException, InterruptedException {
+        HttpRequest.Builder request = HttpRequest.newBuilder(url).POST(HttpRequest.BodyPublishers.ofByteArray(document));
+        headers.forEach(request::setHeader);
+        if (mode == Mode.CONTINUE) { request.setHeader("prefer", "continue-on-error"); }
+        return PreparedRequest.exchange(client, request, timeout);
+    }
+
+    /** Notes an answer, with what later parts refer to. What the run has skipped was not performed by the service either. */
+    private static void report(LiveRun run, String id, Answer answer) {
+        if (run.state(id) != LiveRun.State.RUNNING && run.tryStartUnit(id) != OdbLibrary.DONE) { return; }
+        String location = answer.headers().get("location");
+        run.report(id, answer.status() < 200 ? 502 : answer.status(), location == null ? null : Map.of("location", location), null);
+    }
+
+    /**
+     * A document in which references to ETags of what it has not are replaced, by the answers so far.
+     *
+     * @throws IllegalStateException one was answered without an ETag
+     */
+    static byte[] withTags(byte[] document, Map<String, Answer> found) {
+        List<Odb.Request> requests = Odb.requests(document);
+        Set<String> elsewhere = new HashSet<>(found.keySet());
+        requests.forEach(it -> elsewhere.remove(it.id()));
+        if (requests.stream().allMatch(it -> References.tags(it.headers(), elsewhere).isEmpty())) { return document; }
+        List<byte[]> elements = new ArrayList<>();
+        for (Odb.PlannedRequest planned : Odb.plan(document)) {
+            Odb.Request it = requests.get(planned.position());
+            Map<String, String> headers = it.headers();
+            References.tags(headers, elsewhere).forEach((name, other) -> {
+                headers.put(name, found.get(other).headers().get("etag"));
+                if (headers.get(name) == null) { throw new IllegalStateException(it.id() + " refers to " + other + ", which was answered without an ETag"); }
+            });
+            elements.add(Batch.element(it.id(), planned.group().orElse(null), planned.needs(), it.method(), it.url(), headers, it.body()));
+        }
+        return Batch.document(elements);
+    }
+}

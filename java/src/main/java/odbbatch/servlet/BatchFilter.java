@@ -1,0 +1,175 @@
+package odbbatch.servlet;
+
+import java.io.IOException;
+import java.lang.System.Logger;
+import java.lang.System.Logger.Level;
+import java.net.*;
+import java.time.Duration;
+import java.util.*;
+import javax.servlet.*;
+import javax.servlet.http.*;
+import odbbatch.*;
+
+/**
+ * Answers POST to one path as a batch: the servlets and filters of the application answer its requests, in the same thread, one after another.
+ *
+ * <p>Map it to that path alone, before all other filters, with {@code DispatcherType.REQUEST}. Map every filter that checks requests, as a
+ * login, with {@code DispatcherType.FORWARD}, too: one that is mapped with REQUEST alone, the default, does not see the requests of a batch,
+ * and lets all of them through. The API of servlets does not show how filters are mapped, so test it: send a URL that is forbidden in a batch.
+ *
+ * <pre>{@code
+ * context.addFilter("batch", new BatchFilter("/odata/$batch", transaction)).addMappingForUrlPatterns(null, false, "/odata/$batch");
+ * context.addFilter("login", login).addMappingForUrlPatterns(EnumSet.of(DispatcherType.REQUEST, DispatcherType.FORWARD), true, "/*");
+ * }</pre>
+ *
+ * <p>URLs are relative to the folder of that path, and may not leave it. Servlets may not be asynchronous in a batch, cookies that they set
+ * are dropped, and request attributes that one request sets are not seen by another.
+ */
+public final class BatchFilter implements Filter {
+    private static final Logger LOG = System.getLogger("odb_batch");
+    private static final String INNER = "odbbatch.inner"; // the attribute of a request of a batch
+
+    private final String path;
+    private final BatchPerformer.Transaction transaction;
+    private final Set<String> allowed = new TreeSet<>();
+    private int limit = 1000, maxBytes = Odb.MAX_BYTES;
+    private Duration deadline = Duration.ofDays(1);
+
+    /**
+     * A filter for a path of batches.
+     *
+     * @param path the path in the application, as /odata/$batch
+     * @param transaction performs a group in a transaction of its thread; null if batches with groups are answered 501
+     */
+    public BatchFilter(String path, BatchPerformer.Transaction transaction) {
+        this.path = path;
+        this.transaction = transaction;
+    }
+
+    /**
+     * How many requests a batch may have; one with more is answered 413.
+     *
+     * @param limit a number from 1 to 10,000; without it 1,000
+     * @return this filter
+     */
+    public BatchFilter limit(int limit) { this.limit = limit; return this; }
+
+    /**
+     * How many bytes a batch may have, else it is answered 413, and its answers together: over this a GET is answered 507, and a write keeps
+     * its status, but loses its body.
+     *
+     * @param maxBytes a number from 1 to 16,777,216, which is the default
+     * @return this filter
+     */
+    public BatchFilter maxBytes(int maxBytes) { this.maxBytes = maxBytes; return this; }
+
+    /**
+     * How long a batch may take. Then nothing more starts, what has not started is answered 424, and what runs is waited for.
+     *
+     * @param deadline a duration; without it a day
+     * @return this filter
+     */
+    public BatchFilter deadline(Duration deadline) { this.deadline = deadline; return this; }
+
+    /**
+     * Headers that a request of a batch may have for itself, beside those of OData and of usual clients. Another one is answered 400.
+     *
+     * @param names the names in lower case
+     * @return this filter
+     */
+    public BatchFilter allow(String... names) { allowed.addAll(Set.of(names)); return this; }
+
+    /** Logs how the filter and the others have to be mapped. */
+    @Override public void init(FilterConfig config) {
+        Set<String> others = new TreeSet<>(config.getServletContext().getFilterRegistrations().keySet());
+        others.remove(config.getFilterName());
+        LOG.log(Level.INFO, "answers batches at " + path + ". Map this filter to that path alone, before all others, with DispatcherType.REQUEST,"
+            + " and each filter that checks requests with FORWARD, too, or it does not see those of batches. Other filters: " + others);
+    }
+
+    @Override public void destroy() {}
+
+    @Override public void doFilter(ServletRequest given, ServletResponse response, FilterChain chain) throws IOException, ServletException {
+        HttpServletRequest request = (HttpServletRequest) given;
+        HttpServletResponse to = (HttpServletResponse) response;
+        if (!path.equals(request.getServletPath() + (request.getPathInfo() == null ? "" : request.getPathInfo()))) {
+            chain.doFilter(given, response);
+            return;
+        }
+        Answer answer = answered(request, to);
+        to.setStatus(answer.status());
+        to.setHeader("OData-Version", "4.01");
+        answer.headers().forEach(to::setHeader);
+        to.setContentLength(answer.body().length);
+        to.getOutputStream().write(answer.body());
+    }
+
+    private Answer answered(HttpServletRequest request, HttpServletResponse response) throws IOException {
+        try {
+            HeaderPolicy policy = new HeaderPolicy(request, allowed);
+            require(request, policy);
+            byte[] batch = request.getInputStream().readNBytes(maxBytes + 1);
+            require(batch.length <= maxBytes, 413, "TooLong", "A batch may have " + maxBytes + " bytes", Map.of());
+            URI[] roots = roots(request);
+            int[] room = {maxBytes};
+            long end = System.nanoTime() + deadline.toNanos();
+            byte[] found = BatchPerformer.of(batch, roots[0]).roots(roots).mode(policy.mode()).limit(limit).stop(() -> System.nanoTime() - end >= 0)
+                .perform(it -> dispatched(request, response, policy, room, it), transaction);
+            return Answer.of(200, policy.applied(), found);
+        } catch (FaultException error) {
+            String message = error.name() + ": " + error.explanation().replaceAll("\\s+", " ");
+            return new RefusalException(400, error.code(), message, error.fault().place(), Map.of()).answer();
+        } catch (RefusalException error) {
+            return error.answer();
+        } catch (InterruptedException error) {
+            Thread.currentThread().interrupt();
+            return new RefusalException(503, "Stopped", "The server ends").answer();
+        }
+    }
+
+    /** Throws the refusal of a request that carries no batch that can be performed here. */
+    private void require(HttpServletRequest request, HeaderPolicy policy) {
+        String type = String.valueOf(request.getContentType()).split(";", 2)[0].trim(), method = request.getMethod();
+        require(request.getAttribute(INNER) == null, 400, "NestedBatch", "A batch has no batches", Map.of());
+        require(method.equals("POST"), 405, "NotAllowed", method + " does not apply to a batch", Map.of("allow", "POST"));
+        require(type.equalsIgnoreCase("application/json"), 415, "BadMediaType", "A batch is in application/json", Map.of("accept", "application/json"));
+        require(policy.outer("content-encoding").matches("(?i)(identity)?"), 415, "BadEncoding", "A batch is not compressed", Map.of("accept-encoding", "identity"));
+        require(!policy.isRepeatable(), 501, "NotRepeatable", "Batches are not kept, so none can be repeated", Map.of("repeatability-result", "rejected"));
+    }
+
+    private static void require(boolean isSo, int status, String code, String message, Map<String, String> headers) {
+        if (!isSo) { throw new RefusalException(status, code, message, null, headers); }
+    }
+
+    /** The folder of the batch as URLs of both schemes, that of the request first. A proxy in front may add https. */
+    private URI[] roots(HttpServletRequest request) {
+        StringBuffer url = request.getRequestURL();
+        String origin = url.substring(0, url.length() - request.getRequestURI().length());
+        String folder = origin.substring(origin.indexOf("://")) + request.getContextPath() + path.substring(0, path.lastIndexOf('/') + 1);
+        try {
+            URI https = new URI("https" + folder), http = new URI("http" + folder);
+            return origin.startsWith("https:") ? new URI[] {https, http} : new URI[] {http, https};
+        } catch (URISyntaxException error) {
+            throw new RefusalException(400, "BadHost", "The host is not a name with a port");
+        }
+    }
+
+    private Answer dispatched(HttpServletRequest outer, HttpServletResponse response, HeaderPolicy policy, int[] room, PreparedRequest request)
+            throws ServletException {
+        String target = request.url().substring(request.url().indexOf('/', request.url().indexOf("://") + 3)); // a path, and perhaps a query
+        require(!target.matches(".*%(?![0-9A-Fa-f]{2}).*"), 400, "BadUrl", "The URL has a % without two digits", Map.of());
+        KeptResponse kept = new KeptResponse(response, room[0], request.method().equals("GET"));
+        InnerRequest inner = new InnerRequest(outer, request, policy.headers(request.headers()));
+        inner.setAttribute(INNER, true);
+        try {
+            RequestDispatcher dispatcher = outer.getRequestDispatcher(target.substring(outer.getContextPath().length()));
+            if (dispatcher == null) { throw new RefusalException(404, "NotFound", "Nothing answers " + target); }
+            dispatcher.forward(inner, kept);
+        } catch (IOException error) {
+            throw new ServletException(error); // it is none of the connection to a client
+        }
+        Answer answer = kept.answer();
+        room[0] -= answer.body().length;
+        return answer;
+    }
+}
