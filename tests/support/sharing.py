@@ -10,6 +10,7 @@ SHARED = {
     "the addon for Node": r"tests/library/(test_worked\.py::test_node|test_node\.py::test_(its_own_tests$|the_addon)|test_express\.py|"
     r"test_pages\.py::test_node)",
     "the package for C#": r"tests/languages/test_dotnet\.py",
+    "the package for Java": r"tests/languages/test_java\.py",
     "the functions in Node": r"tests/library/test_lower\.py::test_functions",
     "the module for browsers": r"tests/library/(test_wasm\.py|test_node\.py::test_its_(names|own_tests_over))",
 }
