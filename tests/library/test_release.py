@@ -263,6 +263,23 @@ def test_the_package_for_csharp(archive, tmp_path):
     run("mono", "One.exe", wanted="0\n", cwd=assembly, env=variables)
 
 
+@pytest.mark.needs("java")
+def test_the_package_for_java(archive, tmp_path):
+    """Its jar has the libraries and both filters, and runs with JNA alone; the others are its sources and what describes it."""
+    jar, jna = made(archive, f"odb_batch-{VERSION}.jar"), "/usr/share/java/jna.jar"
+    with zipfile.ZipFile(jar) as package:
+        names = package.namelist()
+        assert f"Implementation-Version: {VERSION}\n" in package.read("META-INF/MANIFEST.MF").decode()
+    filters = {f"odbbatch/{it}/BatchFilter" for it in ("servlet", "jakarta")}
+    assert {"linux-x86-64/libodb_batch.so", *(f"{it}.class" for it in filters)} <= set(names)
+    with zipfile.ZipFile(made(archive, f"odb_batch-{VERSION}-sources.jar")) as package:
+        assert {f"{it}.java" for it in filters} <= set(package.namelist())
+    assert f"<version>{VERSION}</version>" in made(archive, f"odb_batch-{VERSION}.pom").read_text(encoding="utf-8")
+    text = 'class One { public static void main(String[] words) { System.out.println(odbbatch.Odb.check("{\\"requests\\":[]}".getBytes()).groups()); } }'
+    (tmp_path / "One.java").write_text(text, encoding="utf-8")
+    run("java", "-cp", f"{jar}:{jna}", "One.java", wanted="0\n", cwd=tmp_path)
+
+
 def test_the_packages_are_files_of_the_release(unpacked, archive):
     for kind in ("python", "node"):
         package = unpacked.package(kind)
