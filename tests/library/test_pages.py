@@ -71,13 +71,6 @@ def test_go(library, environment, tmp_path):
     run("go", "run", "./main", wanted=ONE + ANSWERED, cwd=tmp_path, env={**environment, **flags})
 
 
-def test_java(environment, tmp_path):
-    skip_before("javac", "-version", r"(\d+)", 22)
-    lay_out(tmp_path, f"{EXAMPLES}/OdbRun.java", f"{EXAMPLES}/Odb.java", f"{PAGES}/Page.java")
-    run("javac", "Odb.java", "OdbRun.java", "Page.java", cwd=tmp_path)
-    run("java", "--enable-native-access=ALL-UNNAMED", "Page", wanted=ONE + ANSWERED, cwd=tmp_path, env=environment)
-
-
 def test_python(environment, tmp_path):
     lay_out(tmp_path, f"{PAGES}/check.py")
     found = {key: value for key, value in environment.items() if key != "ODB_BATCH_LIBRARY"}  # by the loader
