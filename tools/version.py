@@ -70,6 +70,7 @@ PLACES = [
     Place("dotnet/OdbBatch.csproj", r"<Version>(.*)</Version>"),
     Place("dotnet/OdbBatch.nuspec", r"<version>(.*)</version>"),
     Place("docs/dotnet.md", r"OdbBatch\.(\d+\.\d+\.\d+)\.nupkg"),
+    Place("docs/go.md", r"odb_batch-(\d+\.\d+\.\d+)-go"),
     Place("tests/cases/help.txt", r"^out odb_batch (\d\S*)$"),
     Place("README.md", r"odb_batch-(\d+\.\d+\.\d+)"),
 ]

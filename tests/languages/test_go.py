@@ -5,11 +5,14 @@ import os
 import re
 import shutil
 import subprocess
+import urllib.request
+from contextlib import contextmanager
 from pathlib import Path
 
 import pytest
 
 from support.commands import run
+from support.markdown import blocks, text_of
 from support.program import ROOT
 from support.servers import SECONDS, conformance, free_port, until
 
@@ -72,33 +75,48 @@ def test_it_answers_the_same(name, programs, reference):
     require_same(reference, name, run(programs / "tries", name, reference, "400"))
 
 
-class Service:
-    """The books of the module in go/, as a process."""
+@contextmanager
+def serving(log, *words):
+    """Runs a program that serves books at the address which is its first argument; yields it with the URL."""
+    address = f"127.0.0.1:{free_port()}"
+    with open(log, "wb") as file, subprocess.Popen([words[0], address, *words[1:]], stderr=file) as process:
+        process.url = f"http://{address}/odata/"
+        try:
+            until(lambda: process.poll() is not None or answers(process.url))
+            yield process
+        finally:
+            process.kill()
 
-    def __init__(self, programs, width, log):
-        address = f"127.0.0.1:{free_port()}"
-        self.url = f"http://{address}/odata/"
-        self.process = subprocess.Popen([programs / "books", address, str(width)], stderr=log)
-        until(lambda: self.process.poll() is not None or self.is_listening(address))
 
-    def is_listening(self, address):
-        return subprocess.run(["curl", "-s", "-o", os.devnull, f"http://{address}/odata/Books"], check=False).returncode == 0
-
-    def stop(self):
-        self.process.kill()
-        self.process.wait(SECONDS)
+def answers(url):
+    try:
+        return urllib.request.urlopen(f"{url}Books", timeout=SECONDS).status == 200
+    except OSError:
+        return False
 
 
 @pytest.mark.slow
-@pytest.mark.parametrize("width", [1, 8])
+@pytest.mark.parametrize("width", ["1", "8"])
 def test_its_service(width, programs, library, tmp_path):
-    with open(tmp_path / "log", "wb") as log:
-        service = Service(programs, width, log)
-    try:
+    with serving(tmp_path / "log", programs / "books", width) as service:
         status, printed = conformance(service, tmp_path)
-    finally:
-        service.stop()
     assert status == 0 and " 0 of them broken" in printed, printed + (tmp_path / "log").read_text()
+
+
+def test_its_page(go, tmp_path):
+    """The client of docs/go.md sends a batch to the service of that page."""
+    service, client = blocks(text_of("docs", "go.md"), "go")
+    main = 'package main\n\nimport (\n"context"\n"fmt"\n"os"\n\n"odb_batch/odb"\n)\n\nfunc main() {\nctx := context.Background()\n'
+    client = client.replace('"http://localhost:8080/odata/$batch"', 'os.Args[1]+"$batch"')
+    shown = "fmt.Println(results.Of(order).Status, results.Of(lines).Status, err)\n}\n"
+    folder = go.top / "tests/languages/go"
+    for name, text in (("service", service), ("client", f"{main}{client}{shown}")):
+        (folder / "page" / name).mkdir(parents=True)
+        (folder / "page" / name / "main.go").write_text(text, encoding="utf-8")
+    go("build", "-o", f"{tmp_path}/", "./page/...")
+    with serving(tmp_path / "log", tmp_path / "service") as process:
+        # A POST is answered without a Location, so what refers to it is not sent.
+        run(tmp_path / "client", process.url, wanted="200 424 <nil>\n")
 
 
 def test_vendored(go, reference):

@@ -4,9 +4,7 @@ In pages/ is what calls them: each prints what a check and a live run of one req
 and Node, whose pages have tests of their own, check a batch by check.py and check.js.
 """
 
-import re
 import shutil
-import subprocess
 import sys
 
 import pytest
@@ -14,7 +12,7 @@ import pytest
 from support.commands import run
 from support.embedding import ANSWERED, IN_NODE, IN_PYTHON, ONE, STRICT, block
 from support.markdown import text_of
-from support.program import EXAMPLES, ROOT
+from support.program import ROOT
 
 PAGES = f"{ROOT}/tests/library/pages"
 PROGRAMS = ("check", "live run")
@@ -27,15 +25,6 @@ def lay_out(folder, *copied, **written):
         shutil.copy(path, folder)
     for name, text in written.items():
         (folder / ".".join(name.rsplit("_", 1))).write_text(text, encoding="utf-8")
-
-
-def skip_before(tool, word, pattern, *wanted):
-    """Skips the test where the tool is missing, or older than wanted, as it says of itself."""
-    if shutil.which(tool) is None:
-        pytest.skip(f"{tool} is not installed")
-    said = subprocess.run([tool, word], stdout=subprocess.PIPE, stderr=subprocess.STDOUT, text=True).stdout
-    if tuple(map(int, re.search(pattern, said).groups())) < wanted:
-        pytest.skip(f"{tool} {'.'.join(map(str, wanted))} is not installed")
 
 
 IN_C = {
@@ -61,14 +50,6 @@ def test_rust(is_live, library, environment, tmp_path):
     lay_out(tmp_path, page_rs=program + text_of("tests", "library", "pages", "live.rs" if is_live else "check.rs"))
     run("rustc", "--edition=2021", "-Dwarnings", "-L", library, "page.rs", cwd=tmp_path)
     run("./page", wanted=ANSWERED if is_live else ONE, env=environment, cwd=tmp_path)
-
-
-def test_go(library, environment, tmp_path):
-    skip_before("go", "version", r"go(\d+)\.(\d+)", 1, 20)
-    lay_out(tmp_path, f"{EXAMPLES}/live_run.go", f"{EXAMPLES}/check.go", go_mod="module page\n\ngo 1.20\n")
-    lay_out(tmp_path / "main", f"{PAGES}/main.go")
-    flags = {"CGO_CFLAGS": f"-I{ROOT}/include", "CGO_LDFLAGS": f"-L{library}"}
-    run("go", "run", "./main", wanted=ONE + ANSWERED, cwd=tmp_path, env={**environment, **flags})
 
 
 def test_python(environment, tmp_path):

@@ -280,6 +280,14 @@ def test_the_package_for_java(archive, tmp_path):
     run("java", "-cp", f"{jar}:{jna}", "One.java", wanted="0\n", cwd=tmp_path)
 
 
+@pytest.mark.needs("go")
+def test_the_package_for_go(archive, tmp_path):
+    """Its example and its tests of calls run over the library that it has."""
+    top = unpack(made(archive, f"odb_batch-{VERSION}-go.tar.gz"), tmp_path)
+    assert {"go.mod", "library.go", "odb_batch.h", "odb_batch_linux_amd64.syso"} <= set(os.listdir(top))
+    run("go", "test", "-run", "Example|Fault", ".", cwd=top, env={**os.environ, "GOPROXY": "off", "GOFLAGS": ""})
+
+
 def test_the_packages_are_files_of_the_release(unpacked, archive):
     for kind in ("python", "node"):
         package = unpacked.package(kind)
