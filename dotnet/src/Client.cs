@@ -52,7 +52,7 @@ namespace OdbBatch.Client {
         /// <summary>Adds a message, as clients that are generated make it, without headers of the connection. Its URL is relative to the
         /// service.</summary>
         public async Task<Reference> AddAsync(HttpRequestMessage message, params Name[] after) {
-            var headers = HeaderNames.Of(message.Headers, message.Content).Where(it => !HeaderNames.OfConnection.Contains(it.Key.ToLowerInvariant()));
+            var headers = Messages.Of(message.Headers, message.Content).Where(it => !Messages.OfConnection.Contains(it.Key.ToLowerInvariant()));
             byte[] body = message.Content == null ? null : await message.Content.ReadAsByteArrayAsync().ConfigureAwait(false);
             return Add(message.Method.Method, message.RequestUri.OriginalString, body, after, headers);
         }
@@ -69,7 +69,7 @@ namespace OdbBatch.Client {
             if (id != null && Odb.Names("reserved_ids").Contains(id)) throw new ArgumentException("no URL can refer to a request with the id " + id, nameof(id));
             if (method == null || url == null) throw new ArgumentNullException(method == null ? nameof(method) : nameof(url));
             id = id ?? Free("", elements.Count);
-            var given = HeaderNames.Lowered(headers);
+            var given = Messages.Lowered(headers);
             if (body != null && !given.ContainsKey("content-type")) given["content-type"] = "application/json";
             byte[] text = body == null ? null : Bodies.ToJson(BytesOf(body), given);
             if (text != null && Bodies.IsJson(given)) RequireJson(text);

@@ -118,9 +118,6 @@ namespace OdbBatch {
         private static string[] Lines(byte[] text) => text.Length == 0 ? new string[0] : Encoding.UTF8.GetString(text, 0, text.Length - 1).Split('\n');
 
         /// <summary>A text without its newline.</summary>
-        internal static byte[] Trimmed(byte[] text) {
-            Array.Resize(ref text, text.Length - 1);
-            return text;
-        }
+        internal static byte[] Trimmed(byte[] text) => new ArraySegment<byte>(text, 0, text.Length - 1).ToArray();
     }
 }

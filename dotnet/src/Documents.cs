@@ -37,10 +37,8 @@ namespace OdbBatch {
         /// <summary>The document of bytes.</summary>
         public static implicit operator Document(byte[] bytes) => new Document(bytes);
         /// <summary>The document of a text.</summary>
-        public static implicit operator Document(string text) => new Document(Encoded(text));
-
-        private static byte[] Encoded(string text) {
-            try { return text == null ? null : Native.Utf8.GetBytes(text); } catch (System.Text.EncoderFallbackException) { return NotUtf8; }
+        public static implicit operator Document(string text) {
+            try { return new Document(text == null ? null : Native.Utf8.GetBytes(text)); } catch (System.Text.EncoderFallbackException) { return new Document(NotUtf8); }
         }
     }
 
@@ -107,7 +105,7 @@ namespace OdbBatch {
         /// <summary>The message for an HttpClient, without headers that belong to the connection.</summary>
         public HttpRequestMessage ToMessage() {
             var message = new HttpRequestMessage(new HttpMethod(Method), Url) { Content = Body == null ? null : new ByteArrayContent(Body) };
-            foreach (var it in Headers.Where(it => !HeaderNames.OfConnection.Contains(it.Key)))
+            foreach (var it in Headers.Where(it => !Messages.OfConnection.Contains(it.Key)))
                 if (!message.Headers.TryAddWithoutValidation(it.Key, it.Value)) message.Content?.Headers.TryAddWithoutValidation(it.Key, it.Value);
             return message;
         }
@@ -125,7 +123,7 @@ namespace OdbBatch {
         internal BatchResponse(Native.Response it, byte[] text, byte[] document) {
             Id = Native.Text(text, it.Id); Group = Native.Text(text, it.Group); Status = (int)it.Status; Body = Native.Slice(document, it.Body);
             byte[] headers = Native.Slice(document, it.Headers);
-            Headers = headers == null ? new Dictionary<string, string>() : Native.Headers(headers) ?? HeaderNames.Lowered(Json.Members(headers));
+            Headers = headers == null ? new Dictionary<string, string>() : Native.Headers(headers) ?? Messages.Lowered(Json.Members(headers));
         }
 
         /// <summary>The id of its request.</summary>

@@ -23,7 +23,6 @@ namespace OdbBatch {
     /// when it is collected. An id that no request has is a KeyNotFoundException, a run that is closed an
     /// ObjectDisposedException.</summary>
     public sealed class LiveRun : IDisposable {
-        private static readonly byte[] Nothing = new byte[0];
         private readonly object gate = new object();
         private readonly RunHandle handle = new RunHandle();
         private readonly Document batch;
@@ -134,7 +133,7 @@ namespace OdbBatch {
         /// <exception cref="FaultException">Headers or body are refused; the request is still running.</exception>
         public void Report(string id, int status, IEnumerable<KeyValuePair<string, string>> headers = null, byte[] body = null) {
             uint position = PositionOf(id), end;
-            Document heads = headers == null ? (Document)Nothing : Json.Object(headers), text = body ?? Nothing;
+            Document heads = headers == null ? (Document)Array.Empty<byte>() : Json.Object(headers), text = body ?? Array.Empty<byte>();
             lock (gate) {
                 end = Native.odb_run_report(handle, position, (uint)status, heads.At, heads.Size, text.At, text.Size);
                 if (end == Native.Done) size += heads.Bytes.Length + text.Bytes.Length;

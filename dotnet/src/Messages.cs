@@ -8,9 +8,9 @@ using System.Threading;
 using System.Threading.Tasks;
 
 namespace OdbBatch {
-    /// <summary>Names of headers, in lower case.</summary>
-    internal static class HeaderNames {
-        /// <summary>Those of an answer that a response does not show, and those that clients set by themselves.</summary>
+    /// <summary>What messages have in common.</summary>
+    internal static class Messages {
+        /// <summary>The names of headers of an answer that a response does not show, and of those that clients set by themselves.</summary>
         internal static readonly HashSet<string> NotShown = new HashSet<string>(Odb.Names("not_shown")),
             OfConnection = new HashSet<string>(NotShown.Concat(Odb.Names("of_connection")));
 
@@ -22,9 +22,7 @@ namespace OdbBatch {
         internal static IEnumerable<KeyValuePair<string, string>> Of(System.Net.Http.Headers.HttpHeaders message, HttpContent content) =>
             message.Concat((IEnumerable<KeyValuePair<string, IEnumerable<string>>>)content?.Headers ?? new KeyValuePair<string, IEnumerable<string>>[0])
                 .SelectMany(it => it.Value.Select(value => new KeyValuePair<string, string>(it.Key, value)));
-    }
 
-    internal static class Waits {
         /// <summary>Awaits a task; once a token is cancelled only for a while, since not everything heeds it. Then the task goes on by
         /// itself.</summary>
         internal static async Task<T> EndAsync<T>(Task<T> task, TimeSpan grace, CancellationToken cancellation) {
@@ -44,7 +42,7 @@ namespace OdbBatch {
 
         /// <summary>Makes an answer.</summary>
         public BatchAnswer(int status, IEnumerable<KeyValuePair<string, string>> headers = null, byte[] body = null) {
-            Status = status; Headers = HeaderNames.Lowered(headers); Body = body;
+            Status = status; Headers = Messages.Lowered(headers); Body = body;
         }
 
         /// <summary>The status, from 200 to 599; any other number is shown as 502.</summary>
@@ -69,10 +67,10 @@ namespace OdbBatch {
                 try {
                     var stream = message.Content == null ? Stream.Null : await message.Content.ReadAsStreamAsync().ConfigureAwait(false);
                     var chunk = new byte[65536];
-                    for (int count; (count = await Waits.EndAsync(stream.ReadAsync(chunk, 0, chunk.Length, cancellation), TimeSpan.Zero, cancellation).ConfigureAwait(false)) > 0; found.Write(chunk, 0, count))
+                    for (int count; (count = await Messages.EndAsync(stream.ReadAsync(chunk, 0, chunk.Length, cancellation), TimeSpan.Zero, cancellation).ConfigureAwait(false)) > 0; found.Write(chunk, 0, count))
                         if (found.Length + count > Native.MaxDocument) throw new HttpRequestException("the body of the answer has more than " + Native.MaxDocument + " bytes");
                 } catch (Exception) when (cancellation.IsCancellationRequested) { throw new OperationCanceledException(cancellation); }
-            return new BatchAnswer((int)message.StatusCode, HeaderNames.Of(message.Headers, message.Content), found.Length == 0 ? null : found.ToArray());
+            return new BatchAnswer((int)message.StatusCode, Messages.Of(message.Headers, message.Content), found.Length == 0 ? null : found.ToArray());
         }
 
         /// <summary>The answer as a message, for clients that are generated.</summary>
@@ -91,7 +89,7 @@ namespace OdbBatch {
             if (status < 400 || status > 599) throw new ArgumentOutOfRangeException(nameof(status), "a refusal has a status from 400 to 599");
             var error = new Dictionary<string, string> { ["code"] = code, ["message"] = message };
             if (target != null) error["target"] = target;
-            var given = new Dictionary<string, string>(HeaderNames.Lowered(headers)) { ["content-type"] = "application/json" };
+            var given = new Dictionary<string, string>(Messages.Lowered(headers)) { ["content-type"] = "application/json" };
             Answer = new BatchAnswer(status, given, Json.Joined("{\"error\":", Json.Object(error), "}"));
         }
 

@@ -173,14 +173,14 @@ namespace OdbBatch {
             private async Task<BatchAnswer> AnsweredAsync(BatchRequest request) {
                 using (var source = CancellationTokenSource.CreateLinkedTokenSource(cancellation)) {
                     source.CancelAfter(options.Timeout);
-                    return await Waits.EndAsync(send(request, source.Token), Grace, source.Token).ConfigureAwait(false);
+                    return await Messages.EndAsync(send(request, source.Token), Grace, source.Token).ConfigureAwait(false);
                 }
             }
 
             /// <summary>Reports an answer; a body that is not JSON though its answer claims it as a string.</summary>
             private void Report(string id, BatchAnswer answer) {
                 references.Keep(id, answer);
-                var shown = answer.Headers.Where(it => !HeaderNames.NotShown.Contains(it.Key) && !(it.Key + it.Value).Any(char.IsSurrogate)).ToArray();
+                var shown = answer.Headers.Where(it => !Messages.NotShown.Contains(it.Key) && !(it.Key + it.Value).Any(char.IsSurrogate)).ToArray();
                 var headers = shown.Length == 0 ? null : shown;
                 try { run.Report(id, answer.Status, headers, answer.Text); } catch (FaultException error) {
                     options.Log?.Invoke(error, "the body of the answer to " + id);

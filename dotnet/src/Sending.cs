@@ -1,5 +1,4 @@
 using System;
-using System.Collections;
 using System.Collections.Generic;
 using System.Linq;
 using System.Threading;
@@ -13,9 +12,8 @@ namespace OdbBatch.Client {
         private readonly Dictionary<string, BatchAnswer> answers;
         private readonly Func<byte[]> rest;
 
-        internal BatchResults(IReadOnlyList<string> ids, Func<string, BatchAnswer> answerOf, Func<byte[]> rest, Exception error) {
-            this.ids = ids; this.rest = rest; Error = error;
-            answers = ids.ToDictionary(it => it, answerOf);
+        internal BatchResults(IReadOnlyList<string> ids, Dictionary<string, BatchAnswer> answers, Func<byte[]> rest, Exception error) {
+            this.ids = ids; this.answers = answers; this.rest = rest; Error = error;
         }
 
         /// <summary>Why a part was not answered, or null.</summary>
@@ -32,47 +30,57 @@ namespace OdbBatch.Client {
 
         /// <inheritdoc/>
         public IEnumerator<KeyValuePair<string, BatchAnswer>> GetEnumerator() => ids.Select(it => new KeyValuePair<string, BatchAnswer>(it, answers[it])).GetEnumerator();
-        IEnumerator IEnumerable.GetEnumerator() => GetEnumerator();
+        System.Collections.IEnumerator System.Collections.IEnumerable.GetEnumerator() => GetEnumerator();
     }
 
-    /// <summary>A batch on its way in parts, which the library cuts.</summary>
+    /// <summary>A batch on its way in parts, which the library cuts. It reads the batch for each part, so one with many requests is cut into
+    /// longer parts first, each a batch of its own.</summary>
     internal sealed class Sending : IDisposable {
         // The Location that the run has for a request without one of use: what refers to it is not sent.
         private const string NoPlace = "urn:odb_batch:no-location";
-        private static readonly BatchAnswer Skipped = new BatchAnswer(424);
 
         private readonly Document document;
         private readonly LiveRun run;
         private readonly RunMode mode;
-        private readonly int limit;
+        private readonly int limit, most;
         private readonly HashSet<string> referred;
-        private readonly Dictionary<string, BatchAnswer> answers = new Dictionary<string, BatchAnswer>();
+        private readonly Dictionary<string, BatchAnswer> answers;
         private readonly Dictionary<string, (string Place, string Tag)> found = new Dictionary<string, (string, string)>();
         private Exception error;
+        private bool isOver; // a part was not answered as a batch, and nothing more is sent
 
         internal Sending(Document document, int limit, RunMode mode) {
             this.document = document; this.limit = limit; this.mode = mode;
             run = new LiveRun(document, mode);
             referred = References.ReferredBy(run.Requests);
+            answers = run.Ids.ToDictionary(it => it, it => new BatchAnswer(424)); // until they are answered
+            most = run.Ids.Count <= Math.Max(1000, 4 * limit) ? limit : (int)Math.Sqrt((double)run.Ids.Count * limit);
+            if (run.Requests.GroupBy(it => it.Group ?? it.Id).Any(it => it.Count() > limit)) throw new ArgumentException("a group has more requests than the limit of " + limit, nameof(limit));
         }
 
         public void Dispose() { run.Dispose(); }
 
         internal async Task<BatchResults> AllAsync(Func<byte[], Task<BatchAnswer>> post, CancellationToken cancellation) {
-            for (var part = run.NextPart(limit); part.Ids.Count > 0; part = run.NextPart(limit)) {
+            for (var part = run.NextPart(most); part.Ids.Count > 0; part = run.NextPart(most)) {
                 var answered = new Dictionary<string, BatchAnswer>();
                 byte[] sent = part.Ids.Count == run.Ids.Count ? document.Bytes : Rewritten(part.Document, answered);
-                bool isBatch = sent == null || await ExchangeAsync(sent, post, answered, cancellation).ConfigureAwait(false);
-                foreach (string id in part.Ids) Take(run.GetRequest(id), answered.TryGetValue(id, out BatchAnswer answer) ? answer : Skipped);
-                if (!isBatch) run.Stop();
+                if (sent != null) await (part.Ids.Count > limit ? InPartsAsync(sent, post, answered, cancellation) : ExchangeAsync(sent, post, answered, cancellation)).ConfigureAwait(false);
+                foreach (var it in answered) answers[it.Key] = it.Value;
+                foreach (var unit in part.Ids.Select(run.GetRequest).GroupBy(it => it.Group ?? it.Id)) Take(unit.ToArray());
+                if (isOver) run.Stop();
             }
-            return new BatchResults(run.Ids, AnswerOf, Rest, error);
+            return new BatchResults(run.Ids, answers, Rest, error);
         }
 
-        private BatchAnswer AnswerOf(string id) => answers.TryGetValue(id, out BatchAnswer answer) ? answer : Skipped;
+        private async Task InPartsAsync(byte[] sent, Func<byte[], Task<BatchAnswer>> post, Dictionary<string, BatchAnswer> answered, CancellationToken cancellation) {
+            using (var inner = new Sending(sent, limit, mode)) {
+                foreach (var it in await inner.AllAsync(post, cancellation).ConfigureAwait(false)) answered[it.Key] = it.Value;
+                (error, isOver) = (inner.error, inner.isOver);
+            }
+        }
 
-        /// <summary>Posts a part, and finds what its requests are answered. Returns whether that was the response to a batch.</summary>
-        private async Task<bool> ExchangeAsync(byte[] sent, Func<byte[], Task<BatchAnswer>> post, Dictionary<string, BatchAnswer> answered, CancellationToken cancellation) {
+        /// <summary>Posts a part, and finds what its requests are answered.</summary>
+        private async Task ExchangeAsync(byte[] sent, Func<byte[], Task<BatchAnswer>> post, Dictionary<string, BatchAnswer> answered, CancellationToken cancellation) {
             BatchAnswer whole;
             try {
                 whole = await post(sent).ConfigureAwait(false);
@@ -80,23 +88,26 @@ namespace OdbBatch.Client {
                     byte[] response = Bodies.ToJson(whole.Body, new Dictionary<string, string>()) ?? new byte[0];
                     Odb.Match(sent, response, mode);
                     foreach (var it in Odb.Responses(response)) answered[it.Id] = new BatchAnswer(it.Status, it.Headers, Bodies.ToWireOfAny(it.Body, it.Headers));
-                    return true;
+                    return;
                 }
             } catch (Exception problem) when (!cancellation.IsCancellationRequested && (problem is FaultException || RefusalException.AnswerTo(problem).Status != 500)) {
                 error = problem;
                 whole = problem is FaultException ? new RefusalException(502, "BadGateway", "The answer does not fit the batch").Answer : RefusalException.AnswerTo(problem);
             }
             foreach (var it in Odb.Requests(sent)) answered[it.Id] = whole;
-            return false;
+            isOver = true;
         }
 
-        /// <summary>Notes what a request of a part was answered, and reports it to the run unless what it needs has failed.</summary>
-        private void Take(BatchRequest request, BatchAnswer answer) {
-            answers[request.Id] = answer;
-            if (answer.IsSuccess && referred.Contains(request.Id)) found[request.Id] = FoundIn(request, answer);
-            if (run.GetState(request.Id).State != RequestState.Running && run.TryStartUnit(request.Id) != Native.Done) return;
-            found.TryGetValue(request.Id, out var it);
-            run.Report(request.Id, answer.Status >= 200 ? answer.Status : 502, new Dictionary<string, string> { ["location"] = it.Place ?? NoPlace });
+        /// <summary>Reports what the requests of a unit were answered, unless what it needs has failed.</summary>
+        private void Take(BatchRequest[] unit) {
+            foreach (var it in unit.Where(it => answers[it.Id].IsSuccess && referred.Contains(it.Id))) found[it.Id] = FoundIn(it, answers[it.Id]);
+            if (run.TryStartUnit(unit[0].Id) != Native.Done) return;
+            // A 424 beside a 3xx is no error: it is that of a member that was undone.
+            int least = unit.Select(it => answers[it.Id]).Where(it => !it.IsSuccess).Select(it => it.Status).DefaultIfEmpty(424).Min();
+            foreach (var it in unit) {
+                int status = answers[it.Id].Status == 424 ? least : answers[it.Id].Status;
+                run.Report(it.Id, status >= 200 ? status : 502, new Dictionary<string, string> { ["location"] = found.TryGetValue(it.Id, out var at) ? at.Place ?? NoPlace : NoPlace });
+            }
         }
 
         /// <summary>The URL and the ETag of what a request has created or returned. Without another URL it is its own, but after a POST; one that
@@ -118,6 +129,7 @@ namespace OdbBatch.Client {
             var plan = Odb.Plan(part);
             var dropped = new HashSet<string>();
             foreach (var it in requests) {
+                if (mode == RunMode.Stop && dropped.Count > 0) dropped.Add(it.Group ?? it.Id); // a service that stops does not come to it
                 bool hasPlace = !it.Url.StartsWith(NoPlace, StringComparison.Ordinal);
                 if (hasPlace && Elsewhere(it, inside).All(name => found[References.TagIn(it, name)].Tag != null)) continue;
                 refused[it.Id] = new RefusalException(424, hasPlace ? "NoETag" : "NoLocation", "What it refers to was answered without " + (hasPlace ? "an ETag" : "a URL of use")).Answer;
@@ -143,7 +155,7 @@ namespace OdbBatch.Client {
 
         /// <summary>What may be sent again, with references to what is done replaced.</summary>
         private byte[] Rest() {
-            var responses = run.Requests.Select(it => "{\"id\":" + Json.Quoted(it.Id) + ",\"status\":" + AnswerOf(it.Id).Status
+            var responses = run.Requests.Select(it => "{\"id\":" + Json.Quoted(it.Id) + ",\"status\":" + answers[it.Id].Status
                 + (it.Group == null ? "" : ",\"atomicityGroup\":" + Json.Quoted(it.Group))
                 + (found.TryGetValue(it.Id, out var at) && at.Place != null ? ",\"headers\":{\"location\":" + Json.Quoted(at.Place) + "}}" : "}"));
             return Rewritten(Odb.Rest(document, "{\"responses\":[" + string.Join(",", responses) + "]}"), new Dictionary<string, BatchAnswer>()) ?? Batch.DocumentOf(new byte[0][]);

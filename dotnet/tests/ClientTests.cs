@@ -176,6 +176,35 @@ public class ClientTests {
     }
 
     [Test]
+    public void In_mode_stop_an_undone_member_is_no_error_and_what_cannot_be_sent_is_one() {
+        string group = "{\"requests\":[{\"id\":\"a\",\"method\":\"get\",\"url\":\"A\",\"atomicityGroup\":\"g\"},{\"id\":\"b\",\"method\":\"get\",\"url\":\"A\",\"atomicityGroup\":\"g\"},{\"id\":\"c\",\"method\":\"get\",\"url\":\"A\"}]}";
+        var service = By(new Dictionary<string, string> { ["a"] = "\"status\":304", ["b"] = "\"status\":424" });
+        Assert.AreEqual("a304 b424 c200", Statuses(Sent(group, service, 2, RunMode.Stop)));
+        string refused = "{\"requests\":[{\"id\":\"a\",\"method\":\"post\",\"url\":\"A\"},{\"id\":\"b\",\"method\":\"get\",\"url\":\"B\"},{\"id\":\"c\",\"method\":\"get\",\"url\":\"$a\",\"dependsOn\":[\"a\"]},{\"id\":\"d\",\"method\":\"get\",\"url\":\"A\"}]}";
+        foreach (RunMode mode in new[] { RunMode.Stop, RunMode.Continue }) {
+            var results = Sent(refused, By(new Dictionary<string, string> { ["a"] = "\"status\":201" }), 2, mode);
+            Assert.AreEqual("a201 b200 c424 d" + (mode == RunMode.Stop ? 424 : 200), Statuses(results));
+            StringAssert.Contains("NoLocation", Given.Text(results["c"].Body));
+        }
+    }
+
+    [Test]
+    public void A_very_long_batch_is_cut_twice() {
+        var batch = new Batch();
+        for (int i = 0; i < 700; i++) {
+            var order = batch.Post("Orders", "{}");
+            batch.AddGroup(() => { batch.Get(order + "/Lines"); batch.Add("DELETE", order, headers: Given.Header("If-Match", order)); });
+        }
+        var service = new Service(it => Responses(Odb.Requests(it).Select(request => Response(request.Id, 200, ",\"headers\":{\"Location\":\"L/" + request.Id + "\",\"ETag\":\"1\"}"
+            + (request.Group == null ? "" : ",\"atomicityGroup\":\"" + request.Group + "\""))).ToArray()));
+        var results = Sent(batch.ToDocument(), service, 4);
+        Assert.IsTrue(results.All(it => it.Value.IsSuccess));
+        Assert.AreEqual(2100, results.Count());
+        Assert.LessOrEqual(service.Posted.Max(it => Odb.Requests(it).Count), 4);
+        Assert.AreEqual(2100, service.Posted.Sum(it => Odb.Requests(it).Count));
+    }
+
+    [Test]
     public void A_part_may_be_answered_as_a_whole() {
         int posted = 0;
         var service = new Service((it, c) => Task.FromResult(++posted == 1 ? Service.Message(200, Responses(Response("r0", 200), Response("r1", 503))) : Service.Message(429, "wait")));
