@@ -26,6 +26,7 @@ pub mod Requests
 pub mod ServiceResponses
 pub mod lines
 -- For invariants and private clauses.
+pub mod Planned
 pub mod Answered
 pub mod Accepted
 pub mod LabelTables

@@ -1,6 +1,6 @@
 -- The next part of a live run, as a batch of its own, and the marks of the requests that are in a part (OData JSON Format 4.01,
 -- sections 19.1 and 19.4).
-use Rattle.std.specs.Prelude.{◌≡◌, ◌⊎◌, ◌<◌, ℕ, List, [], ◌∷◌, Bool, true, false, Option, Some, Contains, length, option_and_then, slice_set, string_bytes}
+use Rattle.std.specs.Prelude.{◌≡◌, ◌⊎◌, ◌<◌, ℕ, List, [], ◌∷◌, Bool, true, false, Option, Some, None, All, Contains, length, option_and_then, slice_set, string_bytes}
 use Rattle.serde_json.specs.Data.{Data}
 use Rattle.odb_doc.specs.batch.Records.{Record}
 use Rattle.odb_doc.specs.Refusals.{Printed}
@@ -62,6 +62,18 @@ LacksLocations batch run out limit fault = (done left units : List Bool) → Has
 -- it is the batch of the run, and each of its units fits into a part
 abbrev pub MayBeParted : Live → List Record → ℕ → Type 0
 MayBeParted live batch limit = (live.labels ≡ labels_of batch) × HasNoLonger batch limit
+
+-- these requests are the batch of the run, each of whose units fits into a part, and this is the next; or they are not
+abbrev pub IsFoundPart : Live → List ℕ → List Record → ℕ → Option Part → Type 0
+IsFoundPart live document batch limit None = ¬ MayBeParted live batch limit
+IsFoundPart live document batch limit (Some part) = MayBeParted live batch limit × IsPart document batch live.run live.out limit part × All (λ i. i < size live.run) part.positions.items
+
+-- a request of the part lacks a Location
+pub record RefusesPart (live : Live) (batch : List Record) (limit : ℕ) (refusal : Printed) : Type 0 where
+  pub fault : RestFault
+  pub may : MayBeParted live batch limit
+  pub lacks : LacksLocations batch live.run live.out limit fault
+  pub is : rest_row fault ≡ Some refusal
 
 -- the bytes are the batch of the run, each of whose units fits into a part, and this is the next
 abbrev pub IsPartIn : Live → List ℕ → ℕ → Part → Type 0

@@ -25,6 +25,7 @@ mod input;
 pub mod laws;
 pub mod lines;
 mod live;
+mod planned;
 mod setup;
 mod tasks;
 

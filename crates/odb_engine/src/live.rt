@@ -23,17 +23,15 @@ mod requests;
 mod responses;
 mod units;
 
-use crate::form::Form;
 use crate::halt::Halt;
 use crate::input::value_in;
-use crate::setup::Setup;
-use crate::tasks::command::plan_of;
+use crate::planned::{OfPlan, made_of};
 use crate::tasks::run::UNFINISHED;
 use labels::OwnedLabels;
 use odb_check::laws::every_plan;
 use odb_check::{Plan, Seed};
 use odb_dense::none_for_each;
-use odb_doc::{Batch, Events, Outcome, Place};
+use odb_doc::{Events, Outcome, Place};
 use odb_reply::{JsonText, response_of};
 use odb_sched::{OwnedRun, Policy, ReportRefusal, StartRefusal, resolve, run};
 pub use opened::{Opened, open_with_requests};
@@ -95,7 +93,7 @@ fn run_after(
 }
 
 /// Returns the live run of a plan, which was made with this seed, after the recorded events in a document.
-pub(crate) fn open_on(
+fn open_on(
     alloc: Global,
     plan: &Plan<'_>,
     _seed: Seed,
@@ -119,6 +117,31 @@ pub(crate) fn open_on(
         texts,
         out,
     })
+}
+
+/// A run that is opened after the recorded events in a document.
+#[derive(Clone, Copy, Drop)]
+pub(crate) struct Opening<'e> {
+    pub(crate) events: &'e [u8],
+    pub(crate) policy: Policy,
+}
+
+impl<'e> OfPlan for Opening<'e> {
+    type Made = LiveRun;
+
+    ghost makes = { λ opening _ _ batch made. live.IsOpened opening.policy batch opening.events.now made };
+
+    ghost refuses = { λ opening batch. live.IsLeastAfter opening.policy batch opening.events.now };
+
+    fn made(
+        &self,
+        alloc: Global,
+        _document: &[u8],
+        plan: &Plan<'_>,
+        seed: Seed,
+    ) -> Result<LiveRun, Halt> {
+        open_on(alloc, plan, seed, self.events, self.policy)
+    }
 }
 
 /// Returns the run of the batch in a document after the recorded events in another, which may be none:
@@ -147,11 +170,8 @@ pub fn open_run(
     ensures least { IfErr result (Halted (live.IsLeastOfOpening policy batch.now events.now)) }
     ensures read { result ≢ Err halts.Read }
 {
-    let value = value_in(alloc, batch, Place::Batch)?;
-    let read = Batch::read(alloc, &value)?;
-    let setup = Setup::new(Form::Lines, seed);
-    let plan = plan_of(alloc, &read, setup)?;
-    open_on(alloc, &plan.value, seed, events, policy)
+    let opening = Opening { events, policy };
+    made_of(alloc, batch, &opening, seed)
 }
 
 impl LiveRun {

@@ -2,18 +2,15 @@
 
 ghost use Rattle.std.specs.Prelude.{◌≢◌, Err, IfOk, IfErr};
 ghost use Rattle.odb_engine.specs.Halts.{Halted};
-ghost use Rattle.odb_engine.specs.Live.{IsLeastOfOpening, Opens};
+ghost use Rattle.odb_engine.specs.Live.{IsLeastAfter, IsLeastOfOpening, IsOpened, Opens};
 ghost use Rattle.odb_engine.specs.Requests.{Sends};
+ghost use Rattle.odb_send.specs.Parts.{AreRequestsOf};
 ghost use Rattle.odb_engine.specs.declared.halt.Halt.TheVariants as halts;
 
-use crate::form::Form;
 use crate::halt::Halt;
-use crate::input::value_in;
-use crate::live::{LiveRun, open_on};
-use crate::setup::Setup;
-use crate::tasks::command::plan_of;
-use odb_check::Seed;
-use odb_doc::{Batch, Place};
+use crate::live::{LiveRun, Opening};
+use crate::planned::{OfPlan, made_of};
+use odb_check::{Plan, Seed};
 use odb_sched::Policy;
 use odb_send::{Requests, requests_of};
 use std::alloc::Global;
@@ -25,6 +22,33 @@ pub struct Opened {
     pub live: LiveRun,
     /// What is to be sent, as [`crate::requests_in`] finds it.
     pub requests: Requests,
+}
+
+/// A run that is opened, with what is to be sent.
+#[derive(Drop)]
+struct WithRequests<'e> {
+    opening: Opening<'e>,
+}
+
+impl<'e> OfPlan for WithRequests<'e> {
+    type Made = Opened;
+
+    ghost makes = { λ with document value batch opened. IsOpened with.opening.policy batch
+        with.opening.events.now opened.live × AreRequestsOf document value batch opened.requests };
+
+    ghost refuses = { λ with batch. IsLeastAfter with.opening.policy batch with.opening.events.now };
+
+    fn made(
+        &self,
+        alloc: Global,
+        document: &[u8],
+        plan: &Plan<'_>,
+        seed: Seed,
+    ) -> Result<Opened, Halt> {
+        let requests = requests_of(alloc, document, plan)?;
+        let live = self.opening.made(alloc, document, plan, seed)?;
+        Ok(Opened { live, requests })
+    }
 }
 
 /// Does what [`crate::open_run`] and [`crate::requests_in`] do, but reads the batch once.
@@ -44,11 +68,6 @@ pub fn open_with_requests(
     ensures least { IfErr result (Halted (IsLeastOfOpening policy batch.now events.now)) }
     ensures read { result ≢ Err halts.Read }
 {
-    let value = value_in(alloc, batch, Place::Batch)?;
-    let read = Batch::read(alloc, &value)?;
-    let setup = Setup::new(Form::Lines, seed);
-    let plan = plan_of(alloc, &read, setup)?;
-    let requests = requests_of(alloc, batch, &plan.value)?;
-    let live = open_on(alloc, &plan.value, seed, events, policy)?;
-    Ok(Opened { live, requests })
+    let opening = Opening { events, policy };
+    made_of(alloc, batch, &WithRequests { opening }, seed)
 }

@@ -12,14 +12,10 @@ ghost use Rattle.odb_engine.specs.declared.halt.Halt.TheVariants as halts;
 ghost use Rattle.odb_engine.specs.Halts.{Halted};
 ghost use Rattle.odb_engine.specs.LiveParts as parts;
 
-use crate::form::Form;
 use crate::halt::Halt;
-use crate::input::value_in;
 use crate::live::LiveRun;
-use crate::setup::Setup;
-use crate::tasks::command::plan_of;
+use crate::planned::{OfPlan, made_of};
 use odb_check::{Plan, Seed};
-use odb_doc::{Batch, Place};
 use odb_sched::{OwnedRun, RequestState};
 use odb_send::{RestFault, fits_limit, location_in, part_of, positions_of, rest_text};
 use std::alloc::{AllocError, Global};
@@ -115,7 +111,56 @@ fn mark(out: &mut [bool], positions: &[u32])
     }
 }
 
+/// The next part of a run.
+#[derive(Drop)]
+struct NextPart<'r> {
+    live: &'r LiveRun,
+    limit: u32,
+}
+
+impl<'r> OfPlan for NextPart<'r> {
+    type Made = Option<Part>;
+
+    ghost makes = { λ next document _ batch found. parts.IsFoundPart next.live.now document batch next.limit found };
+
+    ghost refuses = { λ next batch. parts.RefusesPart next.live.now batch next.limit };
+
+    fn made(
+        &self,
+        alloc: Global,
+        document: &[u8],
+        plan: &Plan<'_>,
+        _seed: Seed,
+    ) -> Result<Option<Part>, Halt> {
+        self.live.part_on(alloc, document, plan, self.limit)
+    }
+}
+
 impl LiveRun {
+    /// Returns the next part of the run by the plan of the batch in a document; `None` if that is another batch than that
+    /// of the run, or has a group of more than `limit` requests.
+    fn part_on(
+        &self,
+        alloc: Global,
+        document: &[u8],
+        plan: &Plan<'_>,
+        limit: u32,
+    ) -> Result<Option<Part>, Halt>
+        requires { (d : Data) × IsBatchIn document.now d (plan_records plan.now) }
+        ensures part { IfOk result (parts.IsFoundPart self.now document.now (plan_records plan.now) limit) }
+        ensures least { IfErr result (Halted (parts.RefusesPart self.now (plan_records plan.now) limit)) }
+        ensures read { result ≢ Err halts.Read }
+    {
+        if !self.labels.are_of(plan) {
+            return Ok(None);
+        }
+        if !fits_limit(plan, limit) {
+            return Ok(None);
+        }
+        let part = part_in(alloc, &self.run, &self.out, document, plan, limit)?;
+        Ok(Some(part))
+    }
+
     /// Returns the next part of the run as the text of a batch of its own: requests that may be sent together, `limit`
     /// of them at most ([`odb_send::part_of`]). None of them is in a part that was given before ([`LiveRun::give`]), and what
     /// they need is in this one or has succeeded. `None` if `batch` has not the ids and the groups of the run's batch, or if
@@ -144,18 +189,7 @@ impl LiveRun {
         ensures least { IfErr result (Halted (parts.IsLeastOfPart self.now batch.now limit)) }
         ensures read { result ≢ Err halts.Read }
     {
-        let value = value_in(alloc, batch, Place::Batch)?;
-        let read = Batch::read(alloc, &value)?;
-        let setup = Setup::new(Form::Lines, seed);
-        let plan = plan_of(alloc, &read, setup)?;
-        if !self.labels.are_of(&plan.value) {
-            return Ok(None);
-        }
-        if !fits_limit(&plan.value, limit) {
-            return Ok(None);
-        }
-        let part = part_in(alloc, &self.run, &self.out, batch, &plan.value, limit)?;
-        Ok(Some(part))
+        made_of(alloc, batch, &NextPart { live: self, limit }, seed)
     }
 
     /// Marks the requests of a part as sent: from now on no other part has one of them.

@@ -5,16 +5,35 @@ ghost use Rattle.odb_engine.specs.Cascade.{IsLeast};
 ghost use Rattle.odb_engine.specs.Halts.{Halted};
 ghost use Rattle.odb_engine.specs.Requests.{Sends};
 ghost use Rattle.odb_engine.specs.declared.halt.Halt.TheVariants as halts;
+ghost use Rattle.odb_send.specs.Parts.{AreRequestsOf};
 
-use crate::form::Form;
 use crate::halt::Halt;
-use crate::input::value_in;
-use crate::setup::Setup;
-use crate::tasks::command::plan_of;
-use odb_check::Seed;
-use odb_doc::{Batch, Place};
+use crate::planned::{OfPlan, made_of};
+use odb_check::{Plan, Seed};
 use odb_send::{Requests, requests_of};
 use std::alloc::Global;
+
+/// What is to be sent of the requests of a batch.
+#[derive(Drop)]
+struct Sending;
+
+impl OfPlan for Sending {
+    type Made = Requests;
+
+    ghost makes = { λ _ document value batch found. AreRequestsOf document value batch found };
+
+    ghost refuses = { λ _ _ _. ⊥ };
+
+    fn made(
+        &self,
+        alloc: Global,
+        document: &[u8],
+        plan: &Plan<'_>,
+        _seed: Seed,
+    ) -> Result<Requests, Halt> {
+        Ok(requests_of(alloc, document, plan)?)
+    }
+}
 
 /// Returns what is to be sent of each request of the batch in a document, in the order of the batch (OData JSON
 /// Format 4.01, section 19.1): its id, method, URL, the request that its URL refers to with the rest of the URL, its
@@ -33,10 +52,5 @@ pub fn requests_in(alloc: Global, batch: &[u8], seed: Seed) -> Result<Requests, 
     ensures least { IfErr result (Halted (IsLeast batch.now)) }
     ensures read { result ≢ Err halts.Read }
 {
-    let value = value_in(alloc, batch, Place::Batch)?;
-    let read = Batch::read(alloc, &value)?;
-    let setup = Setup::new(Form::Lines, seed);
-    let plan = plan_of(alloc, &read, setup)?;
-    let found = requests_of(alloc, batch, &plan.value)?;
-    Ok(found)
+    made_of(alloc, batch, &Sending, seed)
 }
