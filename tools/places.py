@@ -24,8 +24,6 @@ SOURCES, SPECS = "crates/*/src/**/*.rt", "crates/*/specs/**/*.antt"
 NOT_PRINTED = "no command prints it"
 NOT_ASKED = {
     "when it is broken": (r"F07|F50|F6[56]|F70|F8\d", "the relation of its call says it"),
-    "variant with its message": ("F07|F66", "a constant of odb_engine, and no variant"),
-    "where code finds it": ("F07|F66", "the constant is used beside it"),
     "rule of docs/batches.md": (r"F07|F50|F6\d|F70|F[89]\d|[SP]\d", "no rule of batches"),
     "plain name": ("F8[12]", NOT_PRINTED),
     "plain rule": ("F8[12]", NOT_PRINTED),

@@ -10,6 +10,7 @@ pub mod AllFaults
 pub mod ReadAgain
 pub mod ResponseLines
 pub mod Replays
+pub mod Rules
 pub mod Runs
 pub mod Replayed
 pub mod Matches

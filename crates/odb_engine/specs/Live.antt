@@ -21,7 +21,9 @@ use Rattle.odb_reply.specs.BodyTexts.{HasNoText, text_with}
 use Rattle.odb_reply.specs.NotWhole.{IsFirstNotWholeValue}
 use Rattle.odb_reply.specs.Responses.{LabelValue, labels_of}
 use Rattle.odb_engine.specs.Cascade.{WritesIn, Prints, Reports, IsLeast, Accepts}
-use Rattle.odb_engine.specs.Runs.{AreEventsIn, AreResolved, IsLeastOfEvents, end_of, unfinished}
+use Rattle.odb_engine.specs.Runs.{AreEventsIn, AreResolved, IsLeastOfEvents, end_of}
+use Rattle.odb_engine.specs.Rules.{rule_row}
+use Rattle.odb_engine.specs.declared.rule.EngineRule.TheVariants.{Unfinished}
 
 -- a run, the ids and groups of the requests of its batch, and by position the bodies that were reported as text, and which
 -- requests are in a part that was given
@@ -74,12 +76,12 @@ IsLeastOfOpening policy batch events refusal = IsLeast batch refusal ⊎ Accepts
 
 -- the fault of a state that is to be at its end: F66 if it is not finished, else none
 abbrev pub end_row : State → Option Printed
-end_row state = if is_finished state then None else Some unfinished
+end_row state = if is_finished state then None else Some (rule_row Unfinished)
 
 -- Why a live run has no response: it is not finished, or else it answers a request by a value with a number that is not
 -- whole.
 pub data IsLeastOfLive (live : Live) (refusal : Printed) : Type 0 where
-  OfEnd : is_finished live.run ≡ false → refusal ≡ unfinished → IsLeastOfLive live refusal
+  OfEnd : is_finished live.run ≡ false → refusal ≡ rule_row Unfinished → IsLeastOfLive live refusal
   OfBody : (at : ℕ) → is_finished live.run ≡ true → IsFirstNotWholeValue live.texts live.run at → text_row (NotWhole at) ≡ Some refusal → IsLeastOfLive live refusal
 
 -- what is written of a live run: the response if it is finished

@@ -1,5 +1,5 @@
 -- What recorded events write of a batch: the response if every event may come and the run is finished.
-use Rattle.std.specs.Prelude.{◌≡◌, ◌⊎◌, ℕ, List, Option, Some, All, true, false, codes}
+use Rattle.std.specs.Prelude.{◌≡◌, ◌⊎◌, ℕ, List, Option, Some, All, true, false}
 use Rattle.std.specs.List.{AllZip}
 use Rattle.serde_json.specs.Data.{Data}
 use Rattle.odb_doc.specs.declared.fault.Place.TheVariants as places
@@ -26,11 +26,9 @@ use Rattle.odb_doc.specs.Refusals.{Printed}
 use Rattle.odb_engine.specs.Cascade.{WritesIn, Reports, HasFault, HasValue, IsLeastOf, OfDocument}
 use Rattle.odb_engine.specs.Inputs.{BySecond}
 use Rattle.odb_engine.specs.ReadAgain.{IsReadAgain}
+use Rattle.odb_engine.specs.Rules.{rule_row}
+use Rattle.odb_engine.specs.declared.rule.EngineRule.TheVariants.{Unfinished}
 use Rattle.odb_engine.specs.ResponseLines.{response_line}
-
--- F66
-abbrev pub unfinished : Printed
-unfinished = record { code = codes "F66"; name = codes "Unfinished"; place = places.Events }
 
 -- the least fault of the value of an events document
 abbrev pub IsFaultOfEvents : Data → Printed → Type 0
@@ -60,7 +58,7 @@ end_of policy batch events = after_all (first_state batch policy) events
 pub data IsLeastOfRun (policy : Policy) (batch : List Record) (named : List EventValue) (refusal : Printed) : Type 0 where
   OfIds : (at : ℕ) → IsFirstUnknown batch named at → resolve_row (Broken at UnknownEvent) ≡ Some refusal → IsLeastOfRun policy batch named refusal
   OfEvent : (events : List Event) (cause : RunRefusal) → AreResolved batch named events → StopsAt (first_state batch policy) events cause → run_row cause ≡ Some refusal → IsLeastOfRun policy batch named refusal
-  OfEnd : (events : List Event) → AreResolved batch named events → IsRunFrom (first_state batch policy) events → is_finished (end_of policy batch events) ≡ false → refusal ≡ unfinished → IsLeastOfRun policy batch named refusal
+  OfEnd : (events : List Event) → AreResolved batch named events → IsRunFrom (first_state batch policy) events → is_finished (end_of policy batch events) ≡ false → refusal ≡ rule_row Unfinished → IsLeastOfRun policy batch named refusal
 
 -- The response to a finished run of the batch, under the policy, by just these events. In it no request starts before all
 -- that it names has ended with 2xx, and the response has exactly one element per id. It is read again as such, if a document

@@ -1,5 +1,5 @@
 -- What a task writes: of the requests of a batch and a second document, and of one line of a log.
-use Rattle.std.specs.Prelude.{◌≡◌, ◌⊎◌, ℕ, Bool, true, false, List, [], codes}
+use Rattle.std.specs.Prelude.{◌≡◌, ◌⊎◌, ℕ, Bool, true, false, List, []}
 use Rattle.serde_json.specs.Data.{Data}
 use Rattle.odb_doc.specs.declared.fault.Place.TheVariants as places
 use Rattle.odb_doc.specs.Documents.{IsDocument}
@@ -22,6 +22,8 @@ use Rattle.odb_engine.specs.FullPlans.{ShowsPlaces}
 use Rattle.odb_engine.specs.Matches.{MatchesValue}
 use Rattle.odb_engine.specs.Replays.{ReplaysValue}
 use Rattle.odb_engine.specs.Rests.{RestsValue}
+use Rattle.odb_engine.specs.Rules.{rule_row}
+use Rattle.odb_engine.specs.declared.rule.EngineRule.TheVariants.{NotPair}
 use Rattle.odb_engine.specs.Runs.{RunsValue}
 
 -- the plan, or the full plan of the batch in these bytes
@@ -77,14 +79,10 @@ lists_all (tasks.Run policy) = false
 abbrev pub OfDocuments : Task → Given → List ℕ → WritesIn
 OfDocuments task second batch = Lists (lists_all task) (Answers (OfTask task batch second) batch) (AreFaultsIn batch)
 
--- F07
-abbrev pub not_pair : Printed
-not_pair = record { code = codes "F07"; name = codes "NotPair"; place = places.Batch }
-
 -- the fault of a value that is not an array of two values
 pub record IsNoPair (value : Data) (refusal : Printed) : Type 0 where
   pub none : (first second : Data) → ¬ value ≡ spans.pair first second
-  pub is : refusal ≡ not_pair
+  pub is : refusal ≡ rule_row NotPair
 
 -- the bytes are those of the first of the two documents in a line with this value
 pub record IsFirstIn (line : List ℕ) (value : Data) (bytes : List ℕ) : Type 0 where

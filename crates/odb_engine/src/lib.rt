@@ -26,6 +26,7 @@ pub mod laws;
 pub mod lines;
 mod live;
 mod planned;
+mod rule;
 mod setup;
 mod tasks;
 
@@ -35,6 +36,7 @@ pub use form::Form;
 pub use halt::Halt;
 pub use lines::{EachLine, LineCommand, LineInput, answer_lines};
 pub use live::{LiveRun, Opened, Part, open_run, open_with_requests, requests_in, responses_in};
+pub use rule::EngineRule;
 pub use setup::{Faults, Setup};
 pub use tasks::{
     Answer, Command, Document, Names, Slice, Source, Task, answer_documents, answer_in_memory,

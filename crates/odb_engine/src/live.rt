@@ -26,7 +26,7 @@ mod units;
 use crate::halt::Halt;
 use crate::input::value_in;
 use crate::planned::{OfPlan, made_of};
-use crate::tasks::run::UNFINISHED;
+use crate::rule::EngineRule;
 use labels::OwnedLabels;
 use odb_check::laws::every_plan;
 use odb_check::{Plan, Seed};
@@ -286,7 +286,7 @@ impl LiveRun {
             ≡ Some (value_with self.now.labels self.now.texts (answer self.now.run))) }
     {
         if !self.run.is_finished() {
-            return Err(UNFINISHED);
+            return Err(Halt::from(EngineRule::Unfinished));
         }
         let mut text = response_of(alloc, &self.labels, &self.texts, &self.run)?;
         text.push('\n')?;
@@ -310,7 +310,7 @@ impl LiveRun {
     {
         let run = self.run();
         if !run.is_finished() {
-            return Err(UNFINISHED);
+            return Err(Halt::from(EngineRule::Unfinished));
         }
         Ok(run.undone(alloc)?)
     }

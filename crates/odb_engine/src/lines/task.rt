@@ -14,6 +14,7 @@ ghost use Rattle.odb_spans.specs.Positions as spans;
 use crate::disposal::DropOrLeak;
 use crate::halt::Halt;
 use crate::input::value_or_error;
+use crate::rule::EngineRule;
 use crate::setup::Setup;
 use crate::tasks::command::{Command, text_in, text_of};
 use crate::tasks::source::Slice;
@@ -22,13 +23,6 @@ use odb_doc::{Place, Refusal};
 use odb_spans::{ParseError, documents_in};
 use serde_json::Value;
 use std::alloc::Global;
-
-/// F07: the line of a task over two documents is not an array of two elements.
-const NOT_PAIR: Halt = Halt::Refused(Refusal {
-    code: "F07",
-    name: "NotPair",
-    place: Place::Batch,
-});
 
 /// Takes an array of two values apart; `None` if the value is no such array.
 fn pair_of(value: Value) -> Option<(Value, Value)>
@@ -76,7 +70,7 @@ fn text_of_pair(
 {
     let Some((first, mut second)) = pair_of(value_or_error(alloc, line, Place::Batch, error)?)
     else {
-        return Err(NOT_PAIR);
+        return Err(Halt::from(EngineRule::NotPair));
     };
     let first = DropOrLeak {
         value: first,

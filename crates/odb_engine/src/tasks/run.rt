@@ -15,31 +15,26 @@ ghost use Rattle.odb_engine.specs.Engines.{Ends};
 ghost use Rattle.odb_engine.specs.Contents.{AskedFor};
 ghost use Rattle.odb_engine.specs.Inputs.{IsFresh, ReadsFew, SomeDocument};
 ghost use Rattle.odb_engine.specs.ResponseLines.{response_line};
+ghost use Rattle.odb_engine.specs.Rules.{rule_row};
 ghost use Rattle.odb_engine.specs.Runs as runs;
 ghost use Rattle.odb_engine.specs.Halts.{Found, Halted, HaltsBy};
 
 use crate::disposal::{Disposal, DropOrLeak};
 use crate::ending::{Ended, EngineFault};
 use crate::halt::Halt;
+use crate::rule::EngineRule;
 use crate::setup::Setup;
 use crate::tasks::command::answer_task;
 use crate::tasks::response::push_response;
 use crate::tasks::task::Task;
 use odb_check::Plan;
-use odb_doc::{Events, Place, Refusal};
+use odb_doc::Events;
 use odb_io::{Input, Output};
 use odb_reply::laws::every_response;
 use odb_sched::{Done, Policy, Scheduler, resolve, run};
 use serde_json::Value;
 use std::alloc::Global;
 use std::io::{Read, Write};
-
-/// F66: no event is refused, but the run is unfinished after the last.
-pub(crate) const UNFINISHED: Halt = Halt::Refused(Refusal {
-    code: "F66",
-    name: "Unfinished",
-    place: Place::Events,
-});
 
 /// Returns the events in a value.
 fn events_of(alloc: Global, value: Value, disposal: Disposal) -> Result<Events, Halt>
@@ -63,7 +58,7 @@ fn events_of(alloc: Global, value: Value, disposal: Disposal) -> Result<Events, 
 fn finished<'p>(scheduler: Scheduler<'p>, disposal: Disposal) -> Result<Done<'p>, Halt>
     ensures done { IfOk result (λ done. done ≡ scheduler.entry) }
     ensures finished { OnOk result (is_finished scheduler.entry ≡ true) }
-    ensures least { IfErr result (HaltsBy (Some runs.unfinished)) }
+    ensures least { IfErr result (HaltsBy (Some (rule_row EngineRule.Unfinished))) }
     ensures unfinished { OnErr result (is_finished scheduler.entry ≡ false) }
 {
     if !scheduler.is_finished() {
@@ -71,7 +66,7 @@ fn finished<'p>(scheduler: Scheduler<'p>, disposal: Disposal) -> Result<Done<'p>
             value: scheduler,
             disposal,
         });
-        return Err(UNFINISHED);
+        return Err(Halt::from(EngineRule::Unfinished));
     }
     Ok(scheduler.close())
 }

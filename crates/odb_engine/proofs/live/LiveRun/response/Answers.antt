@@ -1,5 +1,6 @@
 -- What is written of a live run.
 use Rattle.std.proofs.Common.{◌≡◌, ◌∙◌, ◌++◌, ◌∷◌, [], Err, Some, string_bytes, true, inl, inr, refl, sym, ap, subst, arith}
+use Rattle.std.proofs.lemmas.Option.{same_Some}
 use Rattle.odb_check.specs.Texts.{newline}
 use Rattle.serde_json.specs.Read.{read}
 use Rattle.odb_reply.specs.BodyTexts.{value_with}
@@ -12,14 +13,16 @@ use Rattle.odb_engine.specs.Halts.{Found}
 use Rattle.odb_engine.specs.Live.{IsLeastOfLive, Live, Shows}
 use Rattle.odb_engine.specs.Live.IsLeastOfLive.{OfEnd}
 use Rattle.odb_engine.specs.LiveRuns.{live_of}
-use Rattle.odb_engine.specs.Runs.{unfinished}
 use Rattle.odb_engine.proofs.EngineLemmas.{at-exit, halted-by}
 use Rattle.odb_engine.proofs.LiveLemmas.{not-whole, refused}
 use Rattle.odb_engine.proofs.live.LiveRun.response.Goals as goal
 
 pub returns-then-not-is_finished-clause-found : goal.returns-then-not-is_finished-clause-found
 returns-then-not-is_finished-clause-found c =
-    λ form. subst (λ (live : Live). Shows live form Refused (fault_text form unfinished)) c.self.view_is (inl (record { refusal = unfinished; is = OfEnd (sym c.if-not-is_finished.ensures.value) refl; ends = refl; prints = refl }))
+    let live = live_of c.self.inside in
+    let finished = sym c.if-not-is_finished.ensures.value in
+    λ form. subst (λ (live : Live). Found (Shows live) form (Err c.from.result)) c.self.view_is
+    (refused live form c.from.result (halted-by (IsLeastOfLive live) _ (λ refusal row. OfEnd finished (same_Some _ _ (sym row))) c.from.result c.from.ensures))
 
 pub returns-in_err-text-clause-found : goal.returns-in_err-text-clause-found
 returns-in_err-text-clause-found c =
