@@ -6,7 +6,7 @@ ghost use Rattle.odb_ffi.specs.Returns.{Does, Fills, IsOutOfMemory, Returns, Ret
 
 use crate::options::{form_of, setup_of};
 use crate::status::{OUT_OF_MEMORY, SMALL_BUFFER, WRONG_OPTION, of_end};
-use odb_engine::{Answer, Form, Task, answer_in_memory};
+use odb_engine::{Answer, Form, Names, Task, answer_in_memory};
 use std::alloc::{AllocError, Global};
 
 /// Copies the text of an answer to the buffer if it fits, sets its length, and returns the status;
@@ -53,7 +53,8 @@ pub fn answer(
     ensures { Returns (Does task form batch.now second.now)
         result text_length.new buffer.old buffer.new }
 {
-    let answer = answer_in_memory(alloc, batch, second, task, setup_of(form, seed));
+    let setup = setup_of(form, seed);
+    let answer = answer_in_memory(alloc, batch, second, Names::NONE, task, setup);
     give(answer, buffer, text_length)
 }
 

@@ -1,6 +1,6 @@
 //! Options as numbers.
 
-ghost use Rattle.std.specs.Prelude.{◌≡◌, ◌≢◌, Some, None, IfSome};
+ghost use Rattle.std.specs.Prelude.{◌≡◌, ◌≢◌, Some, None, IfSome, false};
 ghost use Rattle.odb_ffi.specs.Options as options;
 ghost use Rattle.odb_ffi.specs.Returns.{NamesNone};
 
@@ -20,9 +20,10 @@ pub fn seed_of(seed: u64) -> Seed
     }
 }
 
-/// Returns the setup with this form and with the seed that a number is.
+/// Returns the setup with this form and with the seed that a number is, by which faults are printed as they are.
 pub fn setup_of(form: Form, seed: u64) -> Setup
     ensures form { result.form ≡ form }
+    ensures located { result.faults.located ≡ false }
     ensures none { seed ≡ 0 → result.seed.number ≡ None }
     ensures some { seed ≢ 0 → result.seed.number ≡ Some seed }
 {

@@ -1,6 +1,8 @@
 //! Faults with where they are: of a line in memory, and of documents whose readers are slow or fail.
 
-use odb_engine::{Ended, EngineFault, Faults, Names, Setup, Task, answer_documents, answer_line};
+use odb_engine::{
+    Ended, EngineFault, Faults, Names, Setup, Task, answer_documents, answer_in_memory, answer_line,
+};
 use odb_io::{Input, Output};
 use odb_sched::Mode;
 use odb_testing::PAIR;
@@ -114,4 +116,24 @@ fn is_reported(alloc: Global, line: &[u8], text: &str) -> bool {
 #[test]
 fn a_fault_of_a_line_has_its_number(rt: HostRuntime) {
     assert!(rt; is_reported(rt.alloc(), b" 7", "log:5:2: fault F03 NotObject batch\n"));
+}
+
+/// Returns whether a match of documents in memory writes this text of a fault.
+fn is_written(alloc: Global, batch: &str, text: &str) -> bool {
+    let task = Task::Match {
+        mode: Mode::Continue,
+        strict: false,
+    };
+    let (batch, responses) = (batch.as_bytes(), RESPONSES.as_bytes());
+    match answer_in_memory(alloc, batch, responses, NAMES, task, locating()) {
+        Ok(answer) => answer.ended == Ended::Refused && answer.text.as_slice() == text.as_bytes(),
+        Err(_) => false,
+    }
+}
+
+#[test]
+fn a_fault_of_documents_in_memory_is_in_one_of_them(rt: HostRuntime) {
+    let not_json = "batch.json:1:2: fault F02 NotJson batch\n";
+    assert!(rt; is_written(rt.alloc(), PAIR, FAULT));
+    assert!(rt; is_written(rt.alloc(), "{", not_json));
 }

@@ -7,6 +7,7 @@ ghost use Rattle.odb_engine.specs.Contents.Given.{InMemory};
 ghost use Rattle.odb_engine.specs.declared.ending.Ended.TheVariants.{Done};
 ghost use Rattle.odb_engine.specs.declared.halt.Halt.TheVariants as halts;
 ghost use Rattle.odb_engine.specs.Halts.{text_found};
+ghost use Rattle.odb_engine.specs.Located.{LocatesDocuments};
 ghost use Rattle.odb_engine.specs.lines.Numbers.{OfLocated, OfNumbered};
 ghost use Rattle.odb_engine.specs.Tasks.{OfDocuments, OfWholeLine};
 
@@ -17,7 +18,7 @@ use crate::lines::number::with_number;
 use crate::lines::text_of_line;
 use crate::setup::Setup;
 use crate::tasks::command::{Command, text_of};
-use crate::tasks::located::answer_located;
+use crate::tasks::located::{Names, answer_located, locate_in_memory};
 use crate::tasks::source::Slice;
 use crate::tasks::task::Task;
 use odb_doc::Refusal;
@@ -121,15 +122,8 @@ fn of_memory(found: Result<Answer, Halt>) -> Result<Answer, AllocError>
     }
 }
 
-/// Does a task on a batch document in memory, and on a second document if the task takes one: returns what
-/// is written, in the form of the setup. The documents are not copied.
-///
-/// Example: `answered` in crates/odb_tests_tasks/src/laws/engines.rt.
-///
-/// # Errors
-///
-/// `AllocError` if an allocation fails.
-pub fn answer_in_memory(
+/// Returns what a task writes of documents in memory, with its faults as they are.
+fn write_in_memory(
     alloc: Global,
     batch: &[u8],
     second: &[u8],
@@ -159,6 +153,37 @@ pub fn answer_in_memory(
         &mut faults,
     );
     of_memory(Answer::listed(alloc, setup.form, all, found, &faults))
+}
+
+/// Does a task on a batch document in memory, and on a second document if the task takes one: returns what
+/// is written, by the setup. The documents are not copied.
+///
+/// The documents have these names: faults are printed with them if the setup asks for where they are.
+///
+/// Example: `answered` in crates/odb_tests_tasks/src/laws/engines.rt.
+///
+/// # Errors
+///
+/// `AllocError` if an allocation fails.
+pub fn answer_in_memory(
+    alloc: Global,
+    batch: &[u8],
+    second: &[u8],
+    names: Names<'_>,
+    task: Task,
+    setup: Setup,
+) -> Result<Answer, AllocError>
+    ensures plain { setup.faults.located ≡ false → IfOk result (λ answer.
+        OfDocuments task (InMemory second.now) batch.now setup.form answer.ended answer.text.items) }
+    ensures located { setup.faults.located ≡ true → IfOk result (λ answer. LocatesDocuments task
+        names.entry.batch.now batch.now names.entry.second.now second.now setup.form
+        answer.ended answer.text.items) }
+{
+    if setup.faults.located {
+        locate_in_memory(alloc, batch, second, names, task, setup)
+    } else {
+        write_in_memory(alloc, batch, second, task, setup)
+    }
 }
 
 /// Returns what a task writes of a line, with its faults as they are.

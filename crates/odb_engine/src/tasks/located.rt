@@ -33,7 +33,7 @@ use odb_io::{Input, Output};
 use odb_spans::{ParseError, Position, position_by, position_in_pair_by, positions_by};
 use odb_text::Located;
 pub use pair::Names;
-use pair::answer_second;
+use pair::{answer_both, answer_second};
 use std::alloc::{AllocError, Global};
 use std::io::{Read, Write};
 
@@ -235,6 +235,25 @@ pub(crate) fn answer_located(
         answer_of_all(alloc, document, name, number, task, setup)
     } else {
         answer_of_task(alloc, document, name, number, task, setup)
+    }
+}
+
+/// Returns what a task writes of documents in memory, which have these names, and each fault with where it is.
+pub(crate) fn locate_in_memory(
+    alloc: Global,
+    batch: &[u8],
+    second: &[u8],
+    names: Names<'_>,
+    task: Task,
+    setup: Setup,
+) -> Result<Answer, AllocError>
+    ensures { IfOk result (λ answer. LocatesDocuments task names.entry.batch.now batch.now
+        names.entry.second.now second.now setup.form answer.ended answer.text.items) }
+{
+    if task.takes_second() {
+        answer_both(alloc, batch, second, names, task, setup)
+    } else {
+        answer_located(alloc, batch, names.batch, None, task, setup)
     }
 }
 

@@ -14,7 +14,7 @@ ghost use Rattle.odb_testing.specs.Readings.{AreOne};
 
 use crate::engines::{EVENTS, EXAMPLES, Example, FREE, OUTCOMES, called_plainly};
 use odb_engine::laws::{one_document, one_text, read_again};
-use odb_engine::{Ended, Form, Setup, Task, answer_in_memory, answer_line};
+use odb_engine::{Ended, Form, Names, Setup, Task, answer_in_memory, answer_line};
 use odb_io::{Input, Output};
 use odb_sched::{Mode, Order, Policy};
 use odb_testing::{PAIR, Two};
@@ -75,7 +75,7 @@ pub fn answered(
     ensures { IfSome result (λ it. OfDocuments task (InMemory second.now) batch.now form
         it.0 it.1.items) }
 {
-    match answer_in_memory(alloc, batch, second, task, in_form(form)) {
+    match answer_in_memory(alloc, batch, second, Names::NONE, task, in_form(form)) {
         Ok(answer) => Some((answer.ended, answer.text)),
         Err(_) => None,
     }

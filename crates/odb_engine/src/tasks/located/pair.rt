@@ -23,7 +23,7 @@ use crate::halt::Halt;
 use crate::input::{read_document, value_or_error};
 use crate::setup::Setup;
 use crate::tasks::answer::Answer;
-use crate::tasks::command::{Command, plan_of};
+use crate::tasks::command::{Command, plan_of, text_of};
 use crate::tasks::located::locate;
 use crate::tasks::source::Slice;
 use crate::tasks::task::Task;
@@ -41,8 +41,16 @@ pub struct Names<'n> {
     pub second: &'n str,
 }
 
+impl Names<'static> {
+    /// No names, for faults that are printed as they are.
+    pub const NONE: Names<'static> = Names {
+        batch: "",
+        second: "",
+    };
+}
+
 /// Returns what is written of the batch in a document by a second document in memory.
-fn text_of(
+fn text_by(
     alloc: Global,
     document: &[u8],
     batch: &Batch<'_>,
@@ -108,7 +116,7 @@ fn read_second<S: Read>(
         bytes: &bytes,
         error: None,
     };
-    let found = text_of(
+    let found = text_by(
         alloc,
         document,
         &batch.value,
@@ -167,6 +175,38 @@ fn locate_in_either(
 }
 
 /// Returns what was found of two documents, or the fault with where it is in either.
+fn locate_both(
+    alloc: Global,
+    form: Form,
+    names: Names<'_>,
+    batch: &[u8],
+    batch_error: Option<ParseError>,
+    second: &[u8],
+    second_error: Option<ParseError>,
+    found: Result<String, Halt>,
+) -> Result<Answer, AllocError>
+    requires batch { IfSome batch_error (λ _. (d : Data) → ¬ IsJson batch.now d) }
+    requires second { IfSome second_error (λ _. (d : Data) → ¬ IsJson second.now d) }
+    ensures { IfOk result (λ answer. LocatesFound form names.entry.batch.now batch.now
+        names.entry.second.now second.now found answer.ended answer.text.items) }
+{
+    match found {
+        Ok(text) => Ok(Answer::done(text)),
+        Err(Halt::Refused(refusal)) => locate_in_either(
+            alloc,
+            form,
+            names,
+            batch,
+            batch_error,
+            second,
+            second_error,
+            refusal,
+        ),
+        Err(_) => Err(AllocError),
+    }
+}
+
+/// Returns what was found of a batch that the check accepts and of the second document, or the fault with where it is.
 fn locate_found(
     alloc: Global,
     form: Form,
@@ -183,13 +223,42 @@ fn locate_found(
         error,
         found,
     } = second;
-    match found {
-        Ok(text) => Ok(Answer::done(text)),
-        Err(Halt::Refused(refusal)) => {
-            locate_in_either(alloc, form, names, document, None, &bytes, error, refusal)
-        }
-        Err(_) => Err(AllocError),
-    }
+    locate_both(alloc, form, names, document, None, &bytes, error, found)
+}
+
+/// Returns what is written of the batch in a document by a second document, both in memory.
+pub fn answer_both(
+    alloc: Global,
+    batch: &[u8],
+    second: &[u8],
+    names: Names<'_>,
+    task: Task,
+    setup: Setup,
+) -> Result<Answer, AllocError>
+    ensures { IfOk result (λ answer. LocatesPair task names.entry.batch.now batch.now
+        names.entry.second.now second.now setup.form answer.ended answer.text.items) }
+{
+    let mut first = Slice {
+        bytes: batch,
+        error: None,
+    };
+    let mut other = Slice {
+        bytes: second,
+        error: None,
+    };
+    let mut task = task;
+    let mut faults = Vec::new(alloc);
+    let found = text_of(alloc, &mut first, &mut other, &mut task, setup, &mut faults);
+    locate_both(
+        alloc,
+        setup.form,
+        names,
+        batch,
+        first.error,
+        second,
+        other.error,
+        found,
+    )
 }
 
 /// Returns what is written of the batch in a document by the second document of a reader.

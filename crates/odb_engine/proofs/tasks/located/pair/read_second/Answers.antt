@@ -27,10 +27,10 @@ returns-clause-found g c =
     let form = c.args.setup.form in
     let batch = records c.in_ok-read.field-0 in
     let P = OfTask c.args.task bytes (InMemory c.in_ok-bytes.bytes.items) in
-    let found = subst (λ (second : List ℕ). Found (OfTask c.args.task bytes (InMemory second) (plan_records c.in_ok-plan.plan.value)) form c.text_of-found.result) c.deref.ensures.value c.text_of-found.ensures.found in
-    found-weaker (P batch) (Answers P bytes) form c.text_of-found.result
+    let found = subst (λ (second : List ℕ). Found (OfTask c.args.task bytes (InMemory second) (plan_records c.in_ok-plan.plan.value)) form c.text_by-found.result) c.deref.ensures.value c.text_by-found.ensures.found in
+    found-weaker (P batch) (Answers P bytes) form c.text_by-found.result
     (λ ended text writes. accepted-answers P bytes _ batch form ended text c.in_ok-value_or_error.ensures.value c.in_ok-read.ensures.good c.in_ok-read.ensures.records c.in_ok-plan.ensures.good writes)
-    (subst (λ (rs : List Record). Found (P rs) form c.text_of-found.result) c.in_ok-plan.ensures.plan found)
+    (subst (λ (rs : List Record). Found (P rs) form c.text_by-found.result) c.in_ok-plan.ensures.plan found)
 
 pub returns-clause-second_error : goal.returns-clause-second_error
-returns-clause-second_error g c = subst (λ (bytes : List ℕ). IfSome c.text_of-found.new.second.error (λ _. (d : Data) → ¬ IsJson bytes d)) c.deref.ensures.value c.text_of-found.ensures.error
+returns-clause-second_error g c = subst (λ (bytes : List ℕ). IfSome c.text_by-found.new.second.error (λ _. (d : Data) → ¬ IsJson bytes d)) c.deref.ensures.value c.text_by-found.ensures.error

@@ -10,7 +10,7 @@ use Rattle.odb_engine.specs.Tasks.{OfDocuments, OfTask, lists_all}
 use Rattle.odb_engine.specs.declared.halt.Halt.{Halt}
 use Rattle.odb_engine.specs.declared.tasks.answer.Answer.{Answer}
 use Rattle.odb_engine.proofs.AllFaultLemmas.{lists-in}
-use Rattle.odb_engine.proofs.tasks.answer.answer_in_memory.Goals as goal
+use Rattle.odb_engine.proofs.tasks.answer.write_in_memory.Goals as goal
 
 pub returns : goal.returns
 returns c =
