@@ -25,7 +25,7 @@ use Rattle.odb_engine.specs.Cascade.{Writes, WritesIn, Prints, Reports, RefusesB
 use Rattle.odb_engine.specs.Engines.{Ends, WritesPrefix}
 use Rattle.odb_engine.specs.declared.form.Form.{Form}
 use Rattle.odb_engine.specs.Forms.{fault_text}
-use Rattle.odb_engine.specs.Halts.{Found, Refuses, RefusesNamesOf, Halted, text_found, HaltsBy}
+use Rattle.odb_engine.specs.Halts.{Found, Refuses, RefusesNamesOf, Halted, HaltsBy}
 
 -- a result of the search for a text
 abbrev pub FoundText : Type 0

@@ -12,7 +12,6 @@ use Rattle.odb_doc.specs.declared.fault.Place.TheVariants as places
 use Rattle.odb_check.specs.Firsts.{list_below}
 use Rattle.odb_check.specs.LeastNameFault.{HasGoodNames}
 use Rattle.odb_check.specs.Positions.{id_at}
-use Rattle.odb_check.specs.Texts.{newline}
 use Rattle.odb_check.proofs.BelowLemmas.{get_or-list_below, length-list_below}
 use Rattle.odb_sched.specs.declared.policy.Mode.{Mode}
 use Rattle.odb_sched.specs.declared.policy.Mode.TheVariants.{Continue, Stop}

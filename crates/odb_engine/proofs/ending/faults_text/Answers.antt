@@ -1,7 +1,6 @@
 use Rattle.std.proofs.Common.{◌≡◌, ◌∙◌, [], IfOk, ap, map, string_bytes, subst}
 use Rattle.std.proofs.lemmas.List.{take_all}
-use Rattle.odb_doc.specs.Refusals.{printed}
-use Rattle.odb_text.specs.Lines.{printed_at, unlocated}
+use Rattle.odb_text.specs.Lines.{printed_at}
 use Rattle.odb_engine.specs.Forms.{all_located_text}
 use Rattle.odb_engine.proofs.AllFaultLemmas.{unlocated-next}
 use Rattle.odb_engine.proofs.ending.faults_text.Goals as goal

@@ -1,6 +1,6 @@
 -- What holds of every part of a live run.
 use Rattle.std.proofs.Common.{◌≡◌, ◌∙◌, ap, subst, sym}
-use Rattle.odb_check.specs.PlanGraph.{IsPlan, IsPlanGraphOf, PlanGraph}
+use Rattle.odb_check.specs.PlanGraph.{IsPlan, IsPlanGraphOf}
 use Rattle.odb_check.specs.Plans.{batch_plan_graph}
 use Rattle.odb_sched.specs.run.Laws.{IsNeverStuck}
 use Rattle.odb_sched.specs.run.LiveEvents.{first_live}

@@ -1,5 +1,5 @@
 -- The next part of a live run, by the batch in a document.
-use Rattle.std.proofs.Common.{◌≡◌, ◌<◌, All, ℕ, List, Option, None, Some, IfSome, Result, Ok, Err, IfErr, IfOk, inl, inr, refl, subst, sym}
+use Rattle.std.proofs.Common.{◌≡◌, ◌<◌, All, ℕ, List, Option, None, Some, IfSome, inl, inr, subst}
 use Rattle.std.proofs.lemmas.Result.{IfErr-weaker, IfOk-weaker}
 use Rattle.odb_sched.specs.run.State.{size}
 use Rattle.odb_doc.specs.Refusals.{Printed}

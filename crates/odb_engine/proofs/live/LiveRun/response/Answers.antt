@@ -1,5 +1,5 @@
 -- What is written of a live run.
-use Rattle.std.proofs.Common.{◌≡◌, ◌∙◌, ◌++◌, ◌∷◌, [], Err, Some, string_bytes, true, inl, inr, refl, sym, ap, subst, arith}
+use Rattle.std.proofs.Common.{◌≡◌, ◌∙◌, ◌++◌, ◌∷◌, [], Err, Some, string_bytes, true, inr, refl, sym, ap, subst, arith}
 use Rattle.std.proofs.lemmas.Option.{same_Some}
 use Rattle.odb_check.specs.Texts.{newline}
 use Rattle.serde_json.specs.Read.{read}
@@ -7,8 +7,7 @@ use Rattle.odb_reply.specs.BodyTexts.{value_with}
 use Rattle.odb_reply.specs.Readable.{HasShallowValues}
 use Rattle.odb_sched.specs.run.Answers.{answer}
 use Rattle.odb_sched.specs.run.Steps.{is_finished}
-use Rattle.odb_engine.specs.declared.ending.Ended.TheVariants.{Done, Refused}
-use Rattle.odb_engine.specs.Forms.{fault_text}
+use Rattle.odb_engine.specs.declared.ending.Ended.TheVariants.{Done}
 use Rattle.odb_engine.specs.Halts.{Found}
 use Rattle.odb_engine.specs.Live.{IsLeastOfLive, Live, Shows}
 use Rattle.odb_engine.specs.Live.IsLeastOfLive.{OfEnd}

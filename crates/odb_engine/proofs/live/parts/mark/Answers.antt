@@ -1,5 +1,5 @@
 -- The marks of the requests of a part.
-use Rattle.std.proofs.Common.{◌≡◌, ◌∙◌, ◌++◌, ◌∷◌, [], ◌<◌, ℕ, List, Bool, true, get_or, length, set, take, ap, arith, sym}
+use Rattle.std.proofs.Common.{◌∙◌, List, Bool, true, get_or, set, take, ap, sym}
 use Rattle.std.proofs.lemmas.List.{take_all, take_more}
 use Rattle.odb_engine.specs.LiveParts.{marks_after}
 use Rattle.odb_engine.proofs.LivePartLemmas.{marks-more}

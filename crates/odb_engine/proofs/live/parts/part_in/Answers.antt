@@ -1,5 +1,5 @@
 -- The next part of a run.
-use Rattle.std.proofs.Common.{◌≡◌, ◌∙◌, ◌<◌, ℕ, List, All, Bool, Option, IfErr, ap, length, subst, sym}
+use Rattle.std.proofs.Common.{◌≡◌, ◌∙◌, ◌<◌, ℕ, List, All, Option, IfErr, ap, length, subst, sym}
 use Rattle.std.specs.Borrow.{Bor}
 use Rattle.odb_check.specs.Firsts.{list_below}
 use Rattle.odb_check.specs.Plans.{plan_records}

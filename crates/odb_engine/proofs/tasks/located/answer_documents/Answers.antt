@@ -1,5 +1,4 @@
-use Rattle.std.proofs.Common.{◌⊎◌, IsTrue, false, true, sym, ◌∙◌}
-use Rattle.std.proofs.lemmas.Bool.{true≢false}
+use Rattle.std.proofs.Common.{◌⊎◌, IsTrue}
 use Rattle.odb_engine.specs.Located.{LocatesDocuments}
 use Rattle.odb_engine.proofs.AllFaultLemmas.{ends-answered}
 use Rattle.odb_engine.proofs.tasks.located.answer_documents.Goals as goal
