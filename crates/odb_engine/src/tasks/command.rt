@@ -205,7 +205,9 @@ pub fn text_of<R: Document, S: Source, C: Command>(
 /// source if it takes a second document; or the first fault, or all faults of the batch document. The second source is read
 /// only if the check accepts the batch.
 ///
-/// The sources must be new, and the output must not have failed. The text is held in memory and written whole.
+/// The sources must be new, and the output must not have failed. The text is held in memory and written whole. Faults are
+/// written as they are: [`crate::answer_documents`] and [`crate::answer_in_memory`] locate those of a task, if the setup
+/// asks for that.
 ///
 /// # Errors
 ///
