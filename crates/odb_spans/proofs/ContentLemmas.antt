@@ -1,11 +1,11 @@
 -- A string is read the same from the text that ends with it.
-use Rattle.std.proofs.Common.{◌≡◌, ℕ, zero, suc, Bool, true, false, cond, ◌&&◌, ◌==◌, nat_lt, List, [], ◌∷◌, length, take, ◌≤◌, Option, Some, None, option_and_then, refl, sym, ap, ◌∙◌, arith}
+use Rattle.std.proofs.Common.{◌≡◌, ℕ, zero, suc, Bool, true, false, cond, ◌&&◌, ◌==◌, nat_lt, List, [], ◌∷◌, length, take, ◌≤◌, Option, Some, None, option_and_then, refl, sym, ap, subst, ◌∙◌, arith}
 use Rattle.std.proofs.lemmas.Bool.{true≢false, eqb-true, and_parts}
 use Rattle.std.proofs.lemmas.List.{length-take}
 use Rattle.std.specs.Char.{is_digit, encode_utf8}
 use Rattle.json.specs.Text.{code_unit, short_escape, is_high_surrogate, is_low_surrogate, surrogate_pair, Within, plain, after_backslash, after_u, after_high, prepend, content}
 use Rattle.json.specs.Word.{is_operator, is_space}
-use Rattle.json.specs.Lex.{quote, backslash, operator, space, other, Mode, between, in_string, in_escape}
+use Rattle.json.specs.Lex.{Class, quote, backslash, operator, space, other, class, Mode, between, in_word, in_string, in_escape}
 use Rattle.odb_spans.specs.Extents.{extent, extent_byte}
 
 -- the lexer's mode there
@@ -177,3 +177,124 @@ module _ (n : ℕ) where
   content-passed (after_high h) (s ∷ u ∷ a ∷ b ∷ []) = short-pair h (s ∷ u ∷ a ∷ b ∷ []) (omega arith) _
   content-passed (after_high h) (s ∷ u ∷ a ∷ b ∷ c ∷ []) = short-pair h (s ∷ u ∷ a ∷ b ∷ c ∷ []) (omega arith) _
   content-passed (after_high h) (s ∷ u ∷ a ∷ b ∷ c ∷ d ∷ xs) = after-pair _ _ h s u a b c d xs refl refl (content-passed plain xs)
+
+-- ---- the string is closed
+
+abbrev pub closes_byte : Mode → Class → (Mode → Bool) → Bool
+closes_byte between c k = true
+closes_byte in_word c k = true
+closes_byte in_string quote k = true
+closes_byte in_string backslash k = k in_escape
+closes_byte in_string operator k = k in_string
+closes_byte in_string space k = k in_string
+closes_byte in_string other k = k in_string
+closes_byte in_escape c k = k in_string
+
+abbrev ends_closed : Mode → Bool
+ends_closed between = true
+ends_closed in_word = true
+ends_closed in_string = false
+ends_closed in_escape = false
+
+-- the string that the lexer is in, if any, ends in these bytes
+unfoldable pub closes : Mode → List ℕ → Bool
+closes m [] = ends_closed m
+closes m (x ∷ xs) = closes_byte m (class x) (λ k. closes k xs)
+
+closes-string-byte : (q b o s : Bool) (k : Mode → Bool) → closes_byte in_string (cond q quote (cond b backslash (cond o operator (cond s space other)))) k ≡ cond q true (cond b (k in_escape) (k in_string))
+closes-string-byte true b o s k = refl
+closes-string-byte false true o s k = refl
+closes-string-byte false false true s k = refl
+closes-string-byte false false false true k = refl
+closes-string-byte false false false false k = refl
+
+closes-string : (x : ℕ) (xs : List ℕ) → closes in_string (x ∷ xs) ≡ cond (x == 34) true (cond (x == 92) (closes in_escape xs) (closes in_string xs))
+unfolding closes
+closes-string x xs = closes-string-byte (x == 34) (x == 92) (is_operator x) (is_space x) (λ k. closes k xs)
+
+closes-escape : (x : ℕ) (xs : List ℕ) → closes in_escape (x ∷ xs) ≡ closes in_string xs
+unfolding closes
+closes-escape x xs = refl
+
+closes-digit : (x : ℕ) (xs : List ℕ) → is_digit x 16 ≡ true → closes in_string (x ∷ xs) ≡ closes in_string xs
+closes-digit x xs h =
+    let quoted : (x == 34) ≡ false = not-this 34 x (x == 34) (eqb-true x 34) refl h in
+    let escaped : (x == 92) ≡ false = not-this 92 x (x == 92) (eqb-true x 92) refl h in
+    closes-string x xs ∙ (λ i. cond (quoted i) true (cond (escaped i) (closes in_escape xs) (closes in_string xs)))
+
+closes-unit : (a b c d u : ℕ) (xs : List ℕ) → code_unit a b c d ≡ Some u → closes in_string (a ∷ b ∷ c ∷ d ∷ xs) ≡ closes in_string xs
+unfolding code_unit
+closes-unit a b c d u xs found =
+    let p = and_parts (is_digit a 16 && is_digit b 16 && is_digit c 16) (is_digit d 16) (all-hex _ _ u found) in
+    let q = and_parts (is_digit a 16 && is_digit b 16) (is_digit c 16) p.0 in
+    let r = and_parts (is_digit a 16) (is_digit b 16) q.0 in
+    closes-digit a _ r.0 ∙ closes-digit b _ r.1 ∙ closes-digit c _ q.1 ∙ closes-digit d xs p.1
+
+-- what follows a prefix was read
+abbrev IsRead : Option (List ℕ) → Type 0
+IsRead None = ⊥
+IsRead (Some s) = Unit {0}
+
+was-read : (bytes : List ℕ) (o : Option (List ℕ)) → IsRead (prepend bytes o) → IsRead o
+was-read bytes None h = h
+was-read bytes (Some s) h = tt
+
+read-plain : (q b l e s : Bool) (x : ℕ) (xs : List ℕ) → (IsRead (content after_backslash xs) → e ≡ true) → (IsRead (content plain xs) → s ≡ true)
+    → IsRead (cond q (Some []) (cond b (content after_backslash xs) (cond l None (prepend (x ∷ []) (content plain xs))))) → cond q true (cond b e s) ≡ true
+read-plain true b l e s x xs f g h = refl
+read-plain false true l e s x xs f g h = f h
+read-plain false false true e s x xs f g h = absurd h
+read-plain false false false e s x xs f g h = g (was-read (x ∷ []) (content plain xs) h)
+
+read-escape : (u : Bool) (o : Option ℕ) (s : Bool) (xs : List ℕ) → (IsRead (content after_u xs) → s ≡ true) → (IsRead (content plain xs) → s ≡ true) → IsRead (cond u (content after_u xs) (option_and_then (λ c. prepend (c ∷ []) (content plain xs)) o)) → s ≡ true
+read-escape true o s xs f g h = f h
+read-escape false None s xs f g h = absurd h
+read-escape false (Some c) s xs f g h = g (was-read (c ∷ []) (content plain xs) h)
+
+read-unit : (hi lo : Bool) (v : ℕ) (s : Bool) (xs : List ℕ) → (IsRead (content (after_high v) xs) → s ≡ true) → (IsRead (content plain xs) → s ≡ true)
+    → IsRead (cond hi (content (after_high v) xs) (cond lo None (prepend (encode_utf8 v) (content plain xs)))) → s ≡ true
+read-unit true lo v s xs f g h = f h
+read-unit false true v s xs f g h = absurd h
+read-unit false false v s xs f g h = g (was-read (encode_utf8 v) (content plain xs) h)
+
+closes-after-unit : (o : Option ℕ) (a b c d : ℕ) (xs : List ℕ) → code_unit a b c d ≡ o → ((v : ℕ) → IsRead (content (after_high v) xs) → closes in_string xs ≡ true) → (IsRead (content plain xs) → closes in_string xs ≡ true)
+    → IsRead (option_and_then (λ u. cond (is_high_surrogate u) (content (after_high u) xs) (cond (is_low_surrogate u) None (prepend (encode_utf8 u) (content plain xs)))) o) → closes in_string (a ∷ b ∷ c ∷ d ∷ xs) ≡ true
+closes-after-unit None a b c d xs e f g h = absurd h
+closes-after-unit (Some v) a b c d xs e f g h = closes-unit a b c d v xs e ∙ read-unit (is_high_surrogate v) (is_low_surrogate v) v (closes in_string xs) xs (f v) g h
+
+read-pair : (lo : Bool) (v : ℕ) (bytes : List ℕ) (s : Bool) (xs : List ℕ) → (IsRead (content plain xs) → s ≡ true) → IsRead (cond lo (prepend bytes (content plain xs)) None) → s ≡ true
+read-pair true v bytes s xs g h = g (was-read bytes (content plain xs) h)
+read-pair false v bytes s xs g h = absurd h
+
+closes-after-pair : (t : Bool) (o : Option ℕ) (high s u a b c d : ℕ) (xs : List ℕ) → ((s == 92) && (u == 117)) ≡ t → code_unit a b c d ≡ o → (IsRead (content plain xs) → closes in_string xs ≡ true)
+    → IsRead (cond t (option_and_then (λ l. cond (is_low_surrogate l) (prepend (encode_utf8 (surrogate_pair high l)) (content plain xs)) None) o) None) → closes in_string (s ∷ u ∷ a ∷ b ∷ c ∷ d ∷ xs) ≡ true
+closes-after-pair false o high s u a b c d xs is e g h = absurd h
+closes-after-pair true None high s u a b c d xs is e g h = absurd h
+closes-after-pair true (Some v) high s u a b c d xs is e g h =
+    let escaped : s ≡ 92 = eqb-true s 92 (and_parts _ _ is).0 in
+    ap (λ y. closes in_string (y ∷ u ∷ a ∷ b ∷ c ∷ d ∷ xs)) escaped ∙ closes-string 92 _ ∙ closes-escape u _ ∙ closes-unit a b c d v xs e
+    ∙ read-pair (is_low_surrogate v) v (encode_utf8 (surrogate_pair high v)) (closes in_string xs) xs g h
+
+-- a string whose content is read is closed
+pub content-closes : (w : Within) (xs : List ℕ) → IsRead (content w xs) → closes (mode w) xs ≡ true
+unfolding content
+content-closes plain [] h = absurd h
+content-closes plain (x ∷ xs) h =
+    closes-string x xs ∙ read-plain (x == 34) (x == 92) (nat_lt x 32) (closes in_escape xs) (closes in_string xs) x xs (content-closes after_backslash xs) (content-closes plain xs) h
+content-closes after_backslash [] h = absurd h
+content-closes after_backslash (x ∷ xs) h = closes-escape x xs ∙ read-escape (x == 117) (short_escape x) (closes in_string xs) xs (content-closes after_u xs) (content-closes plain xs) h
+content-closes after_u [] h = absurd h
+content-closes after_u (a ∷ []) h = absurd h
+content-closes after_u (a ∷ b ∷ []) h = absurd h
+content-closes after_u (a ∷ b ∷ c ∷ []) h = absurd h
+content-closes after_u (a ∷ b ∷ c ∷ d ∷ xs) h = closes-after-unit (code_unit a b c d) a b c d xs refl (λ v. content-closes (after_high v) xs) (content-closes plain xs) h
+content-closes (after_high v) [] h = absurd h
+content-closes (after_high v) (s ∷ []) h = absurd h
+content-closes (after_high v) (s ∷ u ∷ []) h = absurd h
+content-closes (after_high v) (s ∷ u ∷ a ∷ []) h = absurd h
+content-closes (after_high v) (s ∷ u ∷ a ∷ b ∷ []) h = absurd h
+content-closes (after_high v) (s ∷ u ∷ a ∷ b ∷ c ∷ []) h = absurd h
+content-closes (after_high v) (s ∷ u ∷ a ∷ b ∷ c ∷ d ∷ xs) h = closes-after-pair ((s == 92) && (u == 117)) (code_unit a b c d) v s u a b c d xs refl refl (content-closes plain xs) h
+
+pub read-closes : (xs : List ℕ) (s : List ℕ) → content plain xs ≡ Some s → closes in_string xs ≡ true
+read-closes xs s e = content-closes plain xs (subst IsRead (sym e) tt)

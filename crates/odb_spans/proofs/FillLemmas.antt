@@ -64,7 +64,7 @@ around-item (json.item j earlier) later =
       spells = λ i. ap (λ ts. json_tokens j ++ ts) (h.spells i) ∙ sym (append_assoc (json_tokens j) h.before (json_tokens i ++ items_tokens later));
     }
 
-nested : (ts before us after vs : List Token) → ts ++ ((before ++ (us ++ after)) ++ vs) ≡ (ts ++ before) ++ (us ++ (after ++ vs))
+pub nested : (ts before us after vs : List Token) → ts ++ ((before ++ (us ++ after)) ++ vs) ≡ (ts ++ before) ++ (us ++ (after ++ vs))
 nested ts before us after vs =
     ap (λ l. ts ++ l) (append_assoc before (us ++ after) vs ∙ ap (λ l. before ++ l) (append_assoc us after vs)) ∙ sym (append_assoc ts before (us ++ (after ++ vs)))
 
@@ -161,8 +161,8 @@ module _ (literal : Literal) (text : List ℕ) (span : Span) (j : json.Json) (t 
       lex-front between (take span.start text) (literal.word ++ drop span.end text) lies.clear
       ∙ ap (λ l. front ++ l) (literal.lexed (drop span.end text) (ends-after (drop span.end text) t ts follows (sym lies.ended.follow)))
 
-  cut : SplitsAt fresh front here (token literal.mark ∷ rest)
-  cut = splits-at fresh front here (token literal.mark ∷ rest) (ap begins_colon first.lexed) refl (ap all_good whole ∙ good)
+  cut : SplitsAt fresh front here
+  cut = splits-at fresh front here (ap begins_colon first.lexed) (ap all_good whole ∙ good)
 
   fine : all_good (punctuate cut.place here) ≡ true
   fine = good-rest cut.passed (punctuate cut.place here) (sym (ap all_good cut.one) ∙ ap all_good whole ∙ good)
@@ -179,7 +179,7 @@ module _ (literal : Literal) (text : List ℕ) (span : Span) (j : json.Json) (t 
   passed = append_cancel_right cut.passed before (json_tokens j ++ (t ∷ ts)) (ap (λ l. cut.passed ++ l) (sym shared) ∙ sym cut.one ∙ whole)
 
   literal-tokens : tokens (replaced text span literal.word) ≡ before ++ (literal.mark ∷ (t ∷ ts))
-  literal-tokens = ap (punctuate fresh) changed ∙ cut.two ∙ ap₂ (λ l m. l ++ m) passed (literal.placed cut.place rest same.begins ∙ ap (λ l. literal.mark ∷ l) (sym lies.ended.follow))
+  literal-tokens = ap (punctuate fresh) changed ∙ cut.two (token literal.mark ∷ rest) refl ∙ ap₂ (λ l m. l ++ m) passed (literal.placed cut.place rest same.begins ∙ ap (λ l. literal.mark ∷ l) (sym lies.ended.follow))
 
 -- ---- the last member of a name
 

@@ -1,5 +1,5 @@
 -- The lexemes and the tokens of the text before a place where the lexer is between lexemes, whatever comes there.
-use Rattle.std.proofs.Common.{◌≡◌, ◌∙◌, ℕ, Bool, true, false, cond, ◌&&◌, ◌||◌, ◌==◌, List, [], ◌∷◌, ◌++◌, take, refl, sym, ap, ap₂, codes, append_assoc}
+use Rattle.std.proofs.Common.{◌≡◌, ◌∙◌, ℕ, Bool, true, false, cond, ◌&&◌, ◌||◌, ◌==◌, List, [], ◌∷◌, ◌++◌, take, refl, sym, ap, ap₂, subst, codes, append_assoc}
 use Rattle.std.specs.Prelude.{⊤}
 use Rattle.std.proofs.lemmas.Bool.{true≢false, eqb-true, and_parts}
 use Rattle.json.specs.Token.{Token, begin_object, end_object, begin_array, end_array, key, string, number, boolean, null, bad}
@@ -17,6 +17,21 @@ use Rattle.odb_spans.proofs.LexLemmas.{string-flat, word-flat}
 use Rattle.odb_spans.proofs.PlaceLemmas.{at-token, never-bad, is-allowed}
 use Rattle.odb_spans.proofs.WalkLemmas.{flat≢closes, opens≢flat}
 
+-- ---- after a word comes what ends it
+
+word-end : (q b o s : Bool) (y : ℕ) (ys : List ℕ) (k : Mode → List Lexeme) → (q ≡ true → (o || s) ≡ false) → (b ≡ true → (o || s) ≡ false) → (o || s) ≡ true
+    → lex_byte in_word (cond q quote (cond b backslash (cond o operator (cond s space other)))) y ys k ≡ lex_byte between (cond q quote (cond b backslash (cond o operator (cond s space other)))) y ys k
+word-end true b o s y ys k f g h = absurd (true≢false (sym h ∙ f refl))
+word-end false true o s y ys k f g h = absurd (true≢false (sym h ∙ g refl))
+word-end false false true s y ys k f g h = refl
+word-end false false false true y ys k f g h = refl
+word-end false false false false y ys k f g h = absurd (true≢false (sym h))
+
+word-over : (ys : List ℕ) → ends_word ys ≡ true → lex in_word ys ≡ lex between ys
+unfolding lex
+word-over [] ended = refl
+word-over (y ∷ ys) ended = word-end (y == 34) (y == 92) (is_operator y) (is_space y) y ys (λ k. lex k ys) (λ e. ap is_end (eqb-true y 34 e)) (λ e. ap is_end (eqb-true y 92 e)) ended
+
 -- ---- a string that ends before a place, and a word
 
 abbrev IsText : Mode → Type 0
@@ -25,20 +40,18 @@ IsText in_word = ⊥
 IsText in_string = ⊤
 IsText in_escape = ⊤
 
-abbrev is_between : Mode → Bool
-is_between between = true
-is_between in_word = false
-is_between in_string = false
-is_between in_escape = false
+-- a text may follow: the lexer is between lexemes, or at the end of a word that the text does not continue
+abbrev pub Ended : Mode → List ℕ → Type 0
+Ended between ys = ⊤
+Ended in_word ys = ends_word ys ≡ true
+Ended in_string ys = ⊥
+Ended in_escape ys = ⊥
 
-not-between : {P : Type 0} (m : Mode) → is_between m ≡ false → m ≡ between → P
-not-between m h e = absurd (true≢false (sym (ap is_between e) ∙ h))
-
-text-apart : (m : Mode) → IsText m → is_between m ≡ false
-text-apart between t = absurd t
-text-apart in_word t = absurd t
-text-apart in_string t = refl
-text-apart in_escape t = refl
+never-ended : {P : Type 0} (m : Mode) (ys : List ℕ) → IsText m → Ended m ys → P
+never-ended between ys t e = absurd t
+never-ended in_word ys t e = absurd t
+never-ended in_string ys t e = absurd e
+never-ended in_escape ys t e = absurd e
 
 abbrev Stops : Mode → List ℕ → List ℕ → Type 0
 Stops m xs ys = take (extent m 0 (xs ++ ys)) (xs ++ ys) ≡ take (extent m 0 xs) xs
@@ -48,7 +61,7 @@ unfolding extent
 closed [] = refl
 closed (x ∷ xs) = refl
 
-byte-stops : (m : Mode) (c : Class) (x : ℕ) (xs ys : List ℕ) → IsText m → mode_past (next_mode m c) xs ≡ between → ((k : Mode) → IsText k → mode_past k xs ≡ between → Stops k xs ys)
+byte-stops : (m : Mode) (c : Class) (x : ℕ) (xs ys : List ℕ) → IsText m → Ended (mode_past (next_mode m c) xs) ys → ((k : Mode) → IsText k → Ended (mode_past k xs) ys → Stops k xs ys)
     → take (extent_byte m c 0 x (λ m n. extent m n (xs ++ ys))) (x ∷ (xs ++ ys)) ≡ take (extent_byte m c 0 x (λ m n. extent m n xs)) (x ∷ xs)
 byte-stops between c x xs ys t e ih = absurd t
 byte-stops in_word c x xs ys t e ih = absurd t
@@ -59,33 +72,37 @@ byte-stops in_string space x xs ys t e ih = ap (λ l. x ∷ l) (ih in_string tt 
 byte-stops in_string other x xs ys t e ih = ap (λ l. x ∷ l) (ih in_string tt e)
 byte-stops in_escape c x xs ys t e ih = ap (λ l. x ∷ l) (ih in_string tt e)
 
-stops : (m : Mode) (xs ys : List ℕ) → IsText m → mode_past m xs ≡ between → Stops m xs ys
+stops : (m : Mode) (xs ys : List ℕ) → IsText m → Ended (mode_past m xs) ys → Stops m xs ys
 unfolding extent mode_past
-stops m [] ys t e = not-between m (text-apart m t) e
+stops m [] ys t e = never-ended m ys t e
 stops m (x ∷ xs) ys t e = byte-stops m (class x) x xs ys t e (λ k. stops k xs ys)
 
-content-front : (xs ys : List ℕ) → mode_past in_string xs ≡ between → content plain (xs ++ ys) ≡ content plain xs
+content-front : (xs ys : List ℕ) → Ended (mode_past in_string xs) ys → content plain (xs ++ ys) ≡ content plain xs
 content-front xs ys e = sym (content-passed 0 plain (xs ++ ys)) ∙ ap (content plain) (stops in_string xs ys tt e) ∙ content-passed 0 plain xs
 
-stem-byte : (q b o s : Bool) (x : ℕ) (xs ys : List ℕ) → (o || s) ≡ is_end x → mode_past (next_mode in_word (cond q quote (cond b backslash (cond o operator (cond s space other))))) xs ≡ between
-    → (mode_past in_word xs ≡ between → stem (xs ++ ys) ≡ stem xs) → stem (x ∷ (xs ++ ys)) ≡ stem (x ∷ xs)
+stem-byte : (q b o s : Bool) (x : ℕ) (xs ys : List ℕ) → (o || s) ≡ is_end x → Ended (mode_past (next_mode in_word (cond q quote (cond b backslash (cond o operator (cond s space other))))) xs) ys
+    → (Ended (mode_past in_word xs) ys → stem (xs ++ ys) ≡ stem xs) → stem (x ∷ (xs ++ ys)) ≡ stem (x ∷ xs)
 stem-byte true b o s x xs ys is e ih = ap (λ l. cond (is_end x) [] (x ∷ l)) (ih e)
 stem-byte false true o s x xs ys is e ih = ap (λ l. cond (is_end x) [] (x ∷ l)) (ih e)
 stem-byte false false true s x xs ys is e ih = ap (λ b. cond b [] (x ∷ stem (xs ++ ys))) (sym is) ∙ ap (λ b. cond b [] (x ∷ stem xs)) is
 stem-byte false false false true x xs ys is e ih = ap (λ b. cond b [] (x ∷ stem (xs ++ ys))) (sym is) ∙ ap (λ b. cond b [] (x ∷ stem xs)) is
 stem-byte false false false false x xs ys is e ih = ap (λ l. cond (is_end x) [] (x ∷ l)) (ih e)
 
-stem-front : (xs ys : List ℕ) → mode_past in_word xs ≡ between → stem (xs ++ ys) ≡ stem xs
+no-stem : (ys : List ℕ) → ends_word ys ≡ true → stem ys ≡ []
+no-stem [] e = refl
+no-stem (y ∷ ys) e = ap (λ b. cond b [] (y ∷ stem ys)) e
+
+stem-front : (xs ys : List ℕ) → Ended (mode_past in_word xs) ys → stem (xs ++ ys) ≡ stem xs
 unfolding mode_past
-stem-front [] ys e = not-between in_word refl e
+stem-front [] ys e = no-stem ys e
 stem-front (x ∷ xs) ys e = stem-byte (x == 34) (x == 92) (is_operator x) (is_space x) x xs ys refl e (stem-front xs ys)
 
-word-front : (x : ℕ) (xs ys : List ℕ) → mode_past in_word xs ≡ between → word (x ∷ (xs ++ ys)) ≡ word (x ∷ xs)
+word-front : (x : ℕ) (xs ys : List ℕ) → Ended (mode_past in_word xs) ys → word (x ∷ (xs ++ ys)) ≡ word (x ∷ xs)
 word-front x xs ys e = same-word _ _ (ap (λ l. cond (is_end x) [] (x ∷ l)) (stem-front xs ys e))
 
 -- ---- the lexemes before a place
 
-byte-front : (m : Mode) (c : Class) (x : ℕ) (xs ys : List ℕ) → mode_past (next_mode m c) xs ≡ between → ((k : Mode) → mode_past k xs ≡ between → lex k (xs ++ ys) ≡ lex k xs ++ lex between ys)
+byte-front : (m : Mode) (c : Class) (x : ℕ) (xs ys : List ℕ) → Ended (mode_past (next_mode m c) xs) ys → ((k : Mode) → Ended (mode_past k xs) ys → lex k (xs ++ ys) ≡ lex k xs ++ lex between ys)
     → lex_byte m c x (xs ++ ys) (λ k. lex k (xs ++ ys)) ≡ lex_byte m c x xs (λ k. lex k xs) ++ lex between ys
 byte-front between quote x xs ys e ih = ap₂ (λ o ls. token (string_token o) ∷ ls) (content-front xs ys e) (ih in_string e)
 byte-front between backslash x xs ys e ih = ap (λ ls. token bad ∷ ls) (ih in_word e)
@@ -104,25 +121,21 @@ byte-front in_string space x xs ys e ih = ih in_string e
 byte-front in_string other x xs ys e ih = ih in_string e
 byte-front in_escape c x xs ys e ih = ih in_string e
 
-pub lex-front : (m : Mode) (xs ys : List ℕ) → mode_past m xs ≡ between → lex m (xs ++ ys) ≡ lex m xs ++ lex between ys
+then-between : (m : Mode) (ys : List ℕ) → Ended m ys → lex m ys ≡ lex between ys
+then-between between ys e = refl
+then-between in_word ys e = word-over ys e
+then-between in_string ys e = absurd e
+then-between in_escape ys e = absurd e
+
+pub lex-ended : (m : Mode) (xs ys : List ℕ) → Ended (mode_past m xs) ys → lex m (xs ++ ys) ≡ lex m xs ++ lex between ys
 unfolding lex mode_past
-lex-front m [] ys e = ap (λ k. lex k ys) e
-lex-front m (x ∷ xs) ys e = byte-front m (class x) x xs ys e (λ k. lex-front k xs ys)
+lex-ended m [] ys e = then-between m ys e
+lex-ended m (x ∷ xs) ys e = byte-front m (class x) x xs ys e (λ k. lex-ended k xs ys)
+
+pub lex-front : (m : Mode) (xs ys : List ℕ) → mode_past m xs ≡ between → lex m (xs ++ ys) ≡ lex m xs ++ lex between ys
+lex-front m xs ys e = lex-ended m xs ys (subst (λ k. Ended k ys) (sym e) tt)
 
 -- ---- a literal before what ends a word
-
-word-end : (q b o s : Bool) (y : ℕ) (ys : List ℕ) (k : Mode → List Lexeme) → (q ≡ true → (o || s) ≡ false) → (b ≡ true → (o || s) ≡ false) → (o || s) ≡ true
-    → lex_byte in_word (cond q quote (cond b backslash (cond o operator (cond s space other)))) y ys k ≡ lex_byte between (cond q quote (cond b backslash (cond o operator (cond s space other)))) y ys k
-word-end true b o s y ys k f g h = absurd (true≢false (sym h ∙ f refl))
-word-end false true o s y ys k f g h = absurd (true≢false (sym h ∙ g refl))
-word-end false false true s y ys k f g h = refl
-word-end false false false true y ys k f g h = refl
-word-end false false false false y ys k f g h = absurd (true≢false (sym h))
-
-word-over : (ys : List ℕ) → ends_word ys ≡ true → lex in_word ys ≡ lex between ys
-unfolding lex
-word-over [] ended = refl
-word-over (y ∷ ys) ended = word-end (y == 34) (y == 92) (is_operator y) (is_space y) y ys (λ k. lex k ys) (λ e. ap is_end (eqb-true y 34 e)) (λ e. ap is_end (eqb-true y 92 e)) ended
 
 null-word : word (codes "null") ≡ null
 unfolding word
@@ -186,11 +199,11 @@ allowed : (c : Bool) (t : Token) (k : Place → List Token) (next : Place) → a
 allowed true t k next h = record { is = refl; good = (and_parts (is_good t) (all_good (k next)) h).1 }
 allowed false t k next h = absurd (true≢false (sym h))
 
-record Placed (p : Place) (u : Token) (b : Bool) (k : Place → List Token) : Type 0 where
-  emits : Token
-  next : Place
-  is : (f : Place → List Token) → place_token p u b f ≡ emits ∷ f next
-  good : all_good (k next) ≡ true
+pub record Placed (p : Place) (u : Token) (b : Bool) (k : Place → List Token) : Type 0 where
+  pub emits : Token
+  pub next : Place
+  pub is : (f : Place → List Token) → place_token p u b f ≡ emits ∷ f next
+  pub good : all_good (k next) ≡ true
 
 if-placed : (p : Place) (u : Token) (b c : Bool) (t : Token) (next : Place) (k : Place → List Token) → ((f : Place → List Token) → place_token p u b f ≡ if_allowed c t f next) → all_good (place_token p u b k) ≡ true → Placed p u b k
 if-placed p u b c t next k same h =
@@ -210,12 +223,12 @@ placed p (boolean v) b k h = if-placed p (boolean v) b (may_begin p) (boolean v)
 placed p null b k h = if-placed p null b (may_begin p) null after_value k (λ f. refl) h
 placed p bad b k h = absurd (true≢false (sym h))
 
--- the same tokens come first, whether ls or ms come at the place
-pub record SplitsAt (p : Place) (front ls ms : List Lexeme) : Type 0 where
+-- the same tokens come first, whatever comes at the place in place of ls
+pub record SplitsAt (p : Place) (front ls : List Lexeme) : Type 0 where
   pub passed : List Token
   pub place : Place
   pub one : punctuate p (front ++ ls) ≡ passed ++ punctuate place ls
-  pub two : punctuate p (front ++ ms) ≡ passed ++ punctuate place ms
+  pub two : (ms : List Lexeme) → begins_colon ms ≡ false → punctuate p (front ++ ms) ≡ passed ++ punctuate place ms
 
 same-colon : (front ls ms : List Lexeme) → begins_colon ls ≡ false → begins_colon ms ≡ false → begins_colon (front ++ ms) ≡ begins_colon (front ++ ls)
 same-colon [] ls ms f g = g ∙ sym f
@@ -223,34 +236,77 @@ same-colon (token t ∷ front) ls ms f g = refl
 same-colon (comma ∷ front) ls ms f g = refl
 same-colon (colon ∷ front) ls ms f g = refl
 
-token-splits : (p : Place) (u : Token) (front ls ms : List Lexeme) → begins_colon ls ≡ false → begins_colon ms ≡ false → (one : Placed p u (begins_colon (front ++ ls)) (λ next. punctuate next (front ++ ls))) → SplitsAt one.next front ls ms
-    → SplitsAt p (token u ∷ front) ls ms
-token-splits p u front ls ms f g one more = record {
+token-splits : (p : Place) (u : Token) (front ls : List Lexeme) → begins_colon ls ≡ false → (one : Placed p u (begins_colon (front ++ ls)) (λ next. punctuate next (front ++ ls))) → SplitsAt one.next front ls → SplitsAt p (token u ∷ front) ls
+token-splits p u front ls f one more = record {
   passed = one.emits ∷ more.passed;
   place = more.place;
   one = at-token p u (front ++ ls) ∙ one.is (λ next. punctuate next (front ++ ls)) ∙ ap (λ l. one.emits ∷ l) more.one;
-  two = at-token p u (front ++ ms) ∙ ap (λ b. place_token p u b (λ next. punctuate next (front ++ ms))) (same-colon front ls ms f g) ∙ one.is (λ next. punctuate next (front ++ ms)) ∙ ap (λ l. one.emits ∷ l) more.two;
+  two = λ ms g.
+      at-token p u (front ++ ms) ∙ ap (λ b. place_token p u b (λ next. punctuate next (front ++ ms))) (same-colon front ls ms f g) ∙ one.is (λ next. punctuate next (front ++ ms)) ∙ ap (λ l. one.emits ∷ l) (more.two ms g);
 }
 
-separator-splits : (p q : Place) (l : Lexeme) (front ls ms : List Lexeme) → ((ns : List Lexeme) → punctuate p (l ∷ ns) ≡ punctuate q ns) → SplitsAt q front ls ms → SplitsAt p (l ∷ front) ls ms
-separator-splits p q l front ls ms same more = record { passed = more.passed; place = more.place; one = same (front ++ ls) ∙ more.one; two = same (front ++ ms) ∙ more.two }
+separator-splits : (p q : Place) (l : Lexeme) (front ls : List Lexeme) → ((ns : List Lexeme) → punctuate p (l ∷ ns) ≡ punctuate q ns) → SplitsAt q front ls → SplitsAt p (l ∷ front) ls
+separator-splits p q l front ls same more = record { passed = more.passed; place = more.place; one = same (front ++ ls) ∙ more.one; two = λ ms g. same (front ++ ms) ∙ more.two ms g }
 
-at-good : (p : Place) (u : Token) (ls : List Lexeme) → all_good (punctuate p (token u ∷ ls)) ≡ true → Placed p u (begins_colon ls) (λ next. punctuate next ls)
+pub at-good : (p : Place) (u : Token) (ls : List Lexeme) → all_good (punctuate p (token u ∷ ls)) ≡ true → Placed p u (begins_colon ls) (λ next. punctuate next ls)
 at-good p u ls h = placed p u (begins_colon ls) (λ next. punctuate next ls) (sym (ap all_good (at-token p u ls)) ∙ h)
 
-pub splits-at : (p : Place) (front ls ms : List Lexeme) → begins_colon ls ≡ false → begins_colon ms ≡ false → all_good (punctuate p (front ++ ls)) ≡ true → SplitsAt p front ls ms
+pub splits-at : (p : Place) (front ls : List Lexeme) → begins_colon ls ≡ false → all_good (punctuate p (front ++ ls)) ≡ true → SplitsAt p front ls
 unfolding punctuate
-splits-at p [] ls ms f g h = record { passed = []; place = p; one = refl; two = refl }
-splits-at p (token u ∷ front) ls ms f g h =
-    let one = at-good p u (front ++ ls) h in token-splits p u front ls ms f g one (splits-at one.next front ls ms f g one.good)
-splits-at fresh (comma ∷ front) ls ms f g h = absurd (true≢false (sym h))
-splits-at after_value (comma ∷ front) ls ms f g h = separator-splits after_value after_comma comma front ls ms (λ ns. refl) (splits-at after_comma front ls ms f g h)
-splits-at after_comma (comma ∷ front) ls ms f g h = absurd (true≢false (sym h))
-splits-at after_key (comma ∷ front) ls ms f g h = absurd (true≢false (sym h))
-splits-at fresh (colon ∷ front) ls ms f g h = absurd (true≢false (sym h))
-splits-at after_value (colon ∷ front) ls ms f g h = absurd (true≢false (sym h))
-splits-at after_comma (colon ∷ front) ls ms f g h = absurd (true≢false (sym h))
-splits-at after_key (colon ∷ front) ls ms f g h = separator-splits after_key fresh colon front ls ms (λ ns. refl) (splits-at fresh front ls ms f g h)
+splits-at p [] ls f h = record { passed = []; place = p; one = refl; two = λ ms g. refl }
+splits-at p (token u ∷ front) ls f h =
+    let one = at-good p u (front ++ ls) h in token-splits p u front ls f one (splits-at one.next front ls f one.good)
+splits-at fresh (comma ∷ front) ls f h = absurd (true≢false (sym h))
+splits-at after_value (comma ∷ front) ls f h = separator-splits after_value after_comma comma front ls (λ ns. refl) (splits-at after_comma front ls f h)
+splits-at after_comma (comma ∷ front) ls f h = absurd (true≢false (sym h))
+splits-at after_key (comma ∷ front) ls f h = absurd (true≢false (sym h))
+splits-at fresh (colon ∷ front) ls f h = absurd (true≢false (sym h))
+splits-at after_value (colon ∷ front) ls f h = absurd (true≢false (sym h))
+splits-at after_comma (colon ∷ front) ls f h = absurd (true≢false (sym h))
+splits-at after_key (colon ∷ front) ls f h = separator-splits after_key fresh colon front ls (λ ns. refl) (splits-at fresh front ls f h)
+
+-- ---- lexemes of good tokens
+
+abbrev pub all_lexed : List Lexeme → Bool
+all_lexed [] = true
+all_lexed (token t ∷ ls) = is_good t && all_lexed ls
+all_lexed (comma ∷ ls) = all_lexed ls
+all_lexed (colon ∷ ls) = all_lexed ls
+
+pub lexed-rest : (l : Lexeme) (ls : List Lexeme) → all_lexed (l ∷ ls) ≡ true → all_lexed ls ≡ true
+lexed-rest (token t) ls h = (and_parts (is_good t) (all_lexed ls) h).1
+lexed-rest comma ls h = h
+lexed-rest colon ls h = h
+
+pub lexed-after : (front ls : List Lexeme) → all_lexed (front ++ ls) ≡ true → all_lexed ls ≡ true
+lexed-after [] ls h = h
+lexed-after (l ∷ front) ls h = lexed-after front ls (lexed-rest l (front ++ ls) h)
+
+token-good : (p : Place) (u : Token) (b : Bool) (k : Place → List Token) → all_good (place_token p u b k) ≡ true → is_good u ≡ true
+token-good p begin_object b k h = refl
+token-good p end_object b k h = refl
+token-good p begin_array b k h = refl
+token-good p end_array b k h = refl
+token-good p (key s) b k h = refl
+token-good p (string s) b k h = refl
+token-good p (number s) b k h = refl
+token-good p (boolean v) b k h = refl
+token-good p null b k h = refl
+token-good p bad b k h = absurd (true≢false (sym h))
+
+pub good-lexemes : (p : Place) (ls : List Lexeme) → all_good (punctuate p ls) ≡ true → all_lexed ls ≡ true
+unfolding punctuate
+good-lexemes p [] h = refl
+good-lexemes p (token u ∷ ls) h =
+    let one = at-good p u ls h in ap₂ (λ a b. a && b) (token-good p u (begins_colon ls) (λ next. punctuate next ls) (sym (ap all_good (at-token p u ls)) ∙ h)) (good-lexemes one.next ls one.good)
+good-lexemes fresh (comma ∷ ls) h = absurd (true≢false (sym h))
+good-lexemes after_value (comma ∷ ls) h = good-lexemes after_comma ls h
+good-lexemes after_comma (comma ∷ ls) h = absurd (true≢false (sym h))
+good-lexemes after_key (comma ∷ ls) h = absurd (true≢false (sym h))
+good-lexemes fresh (colon ∷ ls) h = absurd (true≢false (sym h))
+good-lexemes after_value (colon ∷ ls) h = absurd (true≢false (sym h))
+good-lexemes after_comma (colon ∷ ls) h = absurd (true≢false (sym h))
+good-lexemes after_key (colon ∷ ls) h = good-lexemes fresh ls h
 
 -- what follows good tokens is good
 pub good-rest : (ts us : List Token) → all_good (ts ++ us) ≡ true → all_good us ≡ true

@@ -24,7 +24,7 @@ abbrev BeginsItem : List ℕ → Option Span → Option json.Json → Type 0
 BeginsItem text None o = o ≡ None
 BeginsItem text (Some span) o = (j : json.Json) × (o ≡ Some j) × ((ts : List Token) × HasValue text span.start j ts)
 
-item-listed : (earlier : json.Items) (j : json.Json) (later : json.Items) → slice_get (list_of (append_items earlier (json.item j later))) (count_items earlier) ≡ Some j
+pub item-listed : (earlier : json.Items) (j : json.Json) (later : json.Items) → slice_get (list_of (append_items earlier (json.item j later))) (count_items earlier) ≡ Some j
 item-listed json.no_items j later = refl
 item-listed (json.item i earlier) j later = item-listed earlier j later
 

@@ -27,3 +27,8 @@ mod ElementLemmas
 mod FoundLemmas
 mod GivenLemmas
 mod NameLemmas
+mod AloneLemmas
+mod HoleLemmas
+mod PathLemmas
+mod LookedLemmas
+mod OnePlaceLemmas

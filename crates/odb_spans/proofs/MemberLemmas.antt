@@ -66,7 +66,7 @@ pub later-none : (o : Option json.Json) → later_or o None ≡ o
 later-none None = refl
 later-none (Some j) = refl
 
-later-later : (o p q : Option json.Json) → later_or (later_or o p) q ≡ later_or o (later_or p q)
+pub later-later : (o p q : Option json.Json) → later_or (later_or o p) q ≡ later_or o (later_or p q)
 later-later None p q = refl
 later-later (Some j) p q = refl
 

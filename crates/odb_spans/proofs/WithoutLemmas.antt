@@ -1,7 +1,8 @@
 -- The document with a literal in the place of a member of an element is read with its value there, and the other members as they were.
-use Rattle.std.proofs.Common.{◌≡◌, ◌∙◌, ℕ, ◌≤◌, List, [], ◌++◌, true, get_or, map, Some, None, option_map, bytes_eq, sym, ap, subst, arith}
+use Rattle.std.proofs.Common.{◌≡◌, ◌∙◌, ℕ, ◌≤◌, List, [], ◌++◌, true, get_or, map, take, Some, None, option_map, bytes_eq, sym, ap, subst, arith}
 use Rattle.std.specs.Prelude.{IsUtf8, set}
 use Rattle.std.proofs.lemmas.List.{map-set}
+use Rattle.json.specs.Lex.{between}
 use Rattle.json.specs.Token.{Token}
 use Rattle.json.specs.Json as json
 use Rattle.json.specs.Find as tree
@@ -16,6 +17,7 @@ use Rattle.odb_spans.proofs.ArrayLemmas.{HasItem, has-item}
 use Rattle.odb_spans.proofs.DataLemmas.{maps-to}
 use Rattle.odb_spans.proofs.EndLemmas.{ends-solid, solid-byte}
 use Rattle.odb_spans.proofs.FillLemmas.{Around, BeginsWell, Literal, alone, begins-solid, begins-well-members, ends-within, in-object, in_object, inside, last-member, members-changed, members-shallow, null_literal, read-last, replaced-json, true_literal}
+use Rattle.odb_spans.proofs.FrontLemmas.{lex-front}
 use Rattle.odb_spans.proofs.ReadLemmas.{IsTreeOf}
 
 -- the element with a literal in the place of a member
@@ -78,6 +80,7 @@ module _ (list name text : List ℕ) (d : Data) (at : ℕ) (span : Span) (ms : j
   is-place = record {
     with_null = holds null_literal;
     with_true = holds true_literal;
+    cut = λ more. lex-front between (take span.start text) more part.clear;
     first = solid-byte (get_or text span.start 0) (begins-solid text d span lies.value others part next utf8);
     last = ends-solid text span.start span.end (begins-solid text d span lies.value others part next utf8) part.extent part.some (ends-within text d span lies.value others part next utf8);
   }

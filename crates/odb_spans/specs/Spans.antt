@@ -1,5 +1,6 @@
 -- Where the members of the elements of a document lie, as the bodies of a batch: what the public clauses cite.
 use Rattle.std.specs.Prelude.{◌≡◌, ◌≤◌, ◌-◌, ℕ, suc, List, [], ◌∷◌, ◌++◌, length, take, drop, get_or, set, map, true, false, Option, Some, None, ⊤, codes}
+use Rattle.json.specs.Lex.{between, lex}
 use Rattle.json.specs.Word.{is_space}
 use Rattle.serde_json.specs.Data.{Data, boolean}
 use Rattle.serde_json.specs.Find.{get}
@@ -47,10 +48,11 @@ pub record HasMemberWith (text : List ℕ) (member : Option Data) (list name doc
   pub reads : IsJson (replaced document span text) changed
   pub members : members_of list name changed ≡ set (members_of list name d) at member
 
--- The span is where this member of the element at this position lies: with `null` in its place the element has no such member, and with `true` it is true. It begins and ends with no blank (RFC 8259, section 2).
+-- The span is where this member of the element at this position lies: with `null` in its place the element has no such member, and with `true` it is true. No token goes over its start: whatever comes there, the tokens before it are the same. It begins and ends with no blank (RFC 8259, section 2).
 pub record IsPlaceOfMember (list name document : List ℕ) (d : Data) (at : ℕ) (span : Span) : Type 0 where
   pub with_null : HasMemberWith (codes "null") None list name document d at span
   pub with_true : HasMemberWith (codes "true") (Some (boolean true)) list name document d at span
+  pub cut : (text : List ℕ) → lex between (take span.start document ++ text) ≡ lex between (take span.start document) ++ lex between text
   pub first : is_space (get_or document span.start 0) ≡ false
   pub last : is_space (get_or document (span.end - 1) 0) ≡ false
 

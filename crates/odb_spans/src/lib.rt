@@ -3,7 +3,7 @@
 //! A value that [`odb_doc::parse`] made has lost how the client wrote it: `9.990`, 23 digits, blanks. A
 //! gateway has to send each body as it was written, and so does a service that stores it.
 //! [`bodies_in`] returns for each request the [`Span`] of its body, by one scan of the document, and [`members_in`] that of
-//! another member of each element of an array, as of the body of each response.
+//! another member of each element of an array, as of the body of each response. That each has one place is in [`laws`].
 //!
 //! A fault names an element by its [`Place`](odb_doc::Place). [`position_of`] returns the [`Position`] at
 //! which the element begins, with its line and column, [`positions_of`] those of many faults, and
@@ -18,6 +18,7 @@ mod fault;
 mod front;
 mod given;
 mod item;
+pub mod laws;
 mod locate;
 mod member;
 mod members;

@@ -18,7 +18,8 @@ use std::alloc::{AllocError, Global};
 ///
 /// In a document that is JSON, [`odb_doc::parse`] reads the bytes of a span as that member, which nests at most 124
 /// deep; with `null` in their place that element has no such member, with `true` it is true, and the others have
-/// theirs. A span has no blank at either end. A member that is `null` is treated as absent. If a name repeats in an
+/// theirs. A span has no blank at either end, and no token goes over its start. Only one list of spans has all this:
+/// [`crate::laws::one_place`]. A member that is `null` is treated as absent. If a name repeats in an
 /// object, its last member counts. Of any other bytes, too, each span lies within the document.
 ///
 /// Costs O(n) for a document of n bytes.
