@@ -14,3 +14,4 @@ pub mod SoundLemmas
 mod ResendLemmas
 pub mod NextPartLemmas
 pub mod PartLawLemmas
+mod OneRestLemmas

@@ -53,10 +53,10 @@ referred_within rs i p is = by_reference (reference_at rs i) is
 
 -- ---- the URL of a request in the rest
 
-same_text : (o : Option (List ℕ)) (x y : List ℕ) → o ≡ Some x → o ≡ Some y → x ≡ y
+pub same_text : (o : Option (List ℕ)) (x y : List ℕ) → o ≡ Some x → o ≡ Some y → x ≡ y
 same_text o x y one other = same_Some x y (sym one ∙ other)
 
-one_joined : (location url made other : List ℕ) → IsJoined location url made → IsJoined location url other → made ≡ other
+pub one_joined : (location url made other : List ℕ) → IsJoined location url made → IsJoined location url other → made ≡ other
 one_joined location url made other one two = one.is ∙ ap (λ (t : List ℕ). location ++ t) (same_run one.after.splits two.after.splits).1 ∙ sym two.is
 
 pub url_made : (rs : List Record) (kept : List Bool) (locations : ℕ → Option (List ℕ)) (i p : ℕ) (r : Record) (location url : List ℕ) → Leaves rs kept i p → slice_get rs i ≡ Some r → locations p ≡ Some location
@@ -73,7 +73,7 @@ url_made rs kept locations i p r location url leaves is recorded joined plain = 
 })
 
 -- a URL that moves goes by the one position that it refers to
-one_position : (rs : List Record) (kept : List Bool) (i p q : ℕ) → Leaves rs kept i p → Leaves rs kept i q → p ≡ q
+pub one_position : (rs : List Record) (kept : List Bool) (i p q : ℕ) → Leaves rs kept i p → Leaves rs kept i q → p ≡ q
 one_position rs kept i p q one other = same_Some p q (sym one.refers ∙ other.refers)
 
 pub lacks_recorded : (rs : List Record) (kept : List Bool) (locations : ℕ → Option (List ℕ)) (i p : ℕ) → Leaves rs kept i p → locations p ≡ None → LacksLocation rs kept locations i

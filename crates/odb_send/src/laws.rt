@@ -3,10 +3,11 @@
 //! The laws are clauses of functions that change nothing. They speak of the words that the clauses of
 //! [`crate::rest_of`], of [`crate::rest_text`] and of [`odb_reply::match_responses`] use.
 
-ghost use Rattle.std.specs.Prelude.{◌≡◌, ◌↔◌, ◌≤◌, ◌++◌, [], ℕ, Bool, List, Option, Some, codes, length};
+ghost use Rattle.std.specs.Prelude.{◌≡◌, ◌↔◌, ◌≤◌, ◌++◌, [], ℕ, Bool, List, Option, Some, IsSome, codes, length};
 ghost use Rattle.serde_json.specs.Data.{Data};
 ghost use Rattle.serde_json.specs.Read.{read};
 ghost use Rattle.odb_check.specs.LeastNameFault.{HasGoodNames};
+ghost use Rattle.odb_doc.specs.Documents.{IsJson};
 ghost use Rattle.odb_doc.specs.batch.LeastFault.{IsWellShaped};
 ghost use Rattle.odb_doc.specs.batch.Records.{Record};
 ghost use Rattle.odb_doc.specs.canonical.Canonical.{canonical_value};
@@ -15,6 +16,7 @@ ghost use Rattle.odb_reply.specs.Fits.{Fits, IsTableOf};
 ghost use Rattle.odb_reply.specs.ResponseDocuments.{Entry};
 ghost use Rattle.odb_sched.specs.declared.states.RequestState.{RequestState};
 ghost use Rattle.odb_send.specs.declared.rest.Rest.{Rest};
+ghost use Rattle.odb_send.specs.Faults.{RefusesRest, RestFault, rest_row};
 ghost use Rattle.odb_send.specs.Laws.{HasSucceeded, IsPartOfPlan, MayBeSent, with_rest};
 ghost use Rattle.odb_send.specs.NextPart.{HasNoLonger, HasSome, IsFresh, IsNextPart, IsPartAfter, MayGo, NeedsMet};
 ghost use Rattle.odb_send.specs.Rests.{IsRestOf, kept, records_in};
@@ -82,6 +84,22 @@ pub fn every_text()
         → IsTextOf document d batch rest text → IsDocumentOf text (records_in batch rest) }
 {
     odb_names::laws::one_reading();
+}
+
+/// A rest and its text are determined, the text by the bytes of the batch's document too: so are the faults by which there is none.
+pub fn one_rest()
+    ensures text { (document : List ℕ) (d : Data) (batch : List Record) (statuses : List ℕ)
+        (locations : ℕ → Option (List ℕ)) (rest other : Rest) (text different : List ℕ) → IsJson document d
+        → IsRestOf batch statuses locations rest → IsRestOf batch statuses locations other
+        → IsTextOf document d batch rest text → IsTextOf document d batch other different → text ≡ different }
+    ensures fault { (batch : List Record) (units : List Bool) (locations : ℕ → Option (List ℕ))
+        (fault other : RestFault) → IsSome (rest_row fault) → IsSome (rest_row other)
+        → RefusesRest fault batch units locations → RefusesRest other batch units locations → fault ≡ other }
+    ensures none { (batch : List Record) (statuses : List ℕ) (locations : ℕ → Option (List ℕ)) (rest : Rest)
+        (fault : RestFault) → IsSome (rest_row fault) → RefusesRest fault batch (kept rest) locations
+        → ¬ IsRestOf batch statuses locations rest }
+{
+    odb_spans::laws::one_place();
 }
 
 /// What holds of every part of a batch on its way (OData JSON Format 4.01, sections 19.1 and 19.4), by what has become of its
