@@ -14,6 +14,7 @@ use Rattle.odb_doc.specs.batch.LeastFault.{IsWellShaped, IsLeastFault}
 use Rattle.odb_doc.specs.batch.Records.{Record, IsBatchOf}
 use Rattle.odb_check.specs.FaultTable.{CheckFault, check_row}
 use Rattle.odb_check.specs.LeastNameFault.{HasGoodNames, RefusesNames}
+use Rattle.odb_send.specs.Parts.{IsBatchIn}
 use Rattle.odb_engine.specs.declared.ending.Ended.{Ended}
 use Rattle.odb_engine.specs.declared.form.Form.{Form}
 use Rattle.odb_engine.specs.Forms.{fault_text}
@@ -76,12 +77,15 @@ refused_no_value place bytes refusal P refused has =
 -- ---- a document, and the value of a batch document
 
 -- one text is written of a document, if one is of its value
+pub document_in_one : (place : Place) (P : Data → WritesIn) (bytes : List ℕ) (form : Form) → ((value : Data) → IsDocument bytes value → IsOne (P value form)) → IsOne (OfDocument place P bytes form)
+document_in_one place P bytes form one a b s t (inl x) (inl y) = (x.ends ∙ sym y.ends, x.prints ∙ ap (fault_text form) (one_refusal place bytes x.refusal y.refusal x.is y.is) ∙ sym y.prints)
+document_in_one place P bytes form one a b s t (inl x) (inr y) = absurd (refused_no_value place bytes x.refusal (λ value. P value form b t) x.is y)
+document_in_one place P bytes form one a b s t (inr x) (inl y) = absurd (refused_no_value place bytes y.refusal (λ value. P value form a s) y.is x)
+document_in_one place P bytes form one a b s t (inr x) (inr y) =
+    one y.value y.document a b s t (subst (λ value. P value form a s) (one_value bytes x.value y.value x.document y.document) x.holds) y.holds
+
 pub document_one : (place : Place) (P : Data → WritesIn) (bytes : List ℕ) (form : Form) → ((value : Data) → IsOne (P value form)) → IsOne (OfDocument place P bytes form)
-document_one place P bytes form one a b s t (inl x) (inl y) = (x.ends ∙ sym y.ends, x.prints ∙ ap (fault_text form) (one_refusal place bytes x.refusal y.refusal x.is y.is) ∙ sym y.prints)
-document_one place P bytes form one a b s t (inl x) (inr y) = absurd (refused_no_value place bytes x.refusal (λ value. P value form b t) x.is y)
-document_one place P bytes form one a b s t (inr x) (inl y) = absurd (refused_no_value place bytes y.refusal (λ value. P value form a s) y.is x)
-document_one place P bytes form one a b s t (inr x) (inr y) =
-    one y.value a b s t (subst (λ value. P value form a s) (one_value bytes x.value y.value x.document y.document) x.holds) y.holds
+document_one place P bytes form one = document_in_one place P bytes form (λ value is. one value)
 
 least_one : AreFunctional → (value : Data) (s t : Printed) → IsLeastOfBatch value s → IsLeastOfBatch value t → s ≡ t
 least_one law value s t (inl one) (inl two) =
@@ -97,18 +101,24 @@ least_not_value law value P refusal (inl one) is = law.no_shape value one.fault 
 least_not_value law value P refusal (inr one) is =
     law.no_name is.batch one.fault (ap is_some one.is) (subst (RefusesNames one.fault) (law.one_batch value _ _ one.refuses.is_batch is.is_batch) one.refuses.holds) is.holds.0
 
+pub value_in_one : AreFunctional → (P : List Record → WritesIn) (form : Form) (value : Data) → ((batch : List Record) → IsBatchOf value batch → HasGoodNames batch → IsOne (P batch form)) → IsOne (AnswersValue P value form)
+value_in_one law P form value one a b s t (inl x) (inl y) = (x.ends ∙ sym y.ends, x.prints ∙ ap (fault_text form) (least_one law value x.refusal y.refusal x.is y.is) ∙ sym y.prints)
+value_in_one law P form value one a b s t (inl x) (inr y) = absurd (least_not_value law value (λ batch. P batch form b t) x.refusal x.is y)
+value_in_one law P form value one a b s t (inr x) (inl y) = absurd (least_not_value law value (λ batch. P batch form a s) y.refusal y.is x)
+value_in_one law P form value one a b s t (inr x) (inr y) =
+    one y.batch y.is_batch y.holds.0 a b s t (subst (λ xs. P xs form a s) (law.one_batch value _ _ x.is_batch y.is_batch) x.holds.1) y.holds.1
+
 pub value_one : AreFunctional → (P : List Record → WritesIn) (form : Form) → ((batch : List Record) → HasGoodNames batch → IsOne (P batch form)) → (value : Data) → IsOne (AnswersValue P value form)
-value_one law P form one value a b s t (inl x) (inl y) = (x.ends ∙ sym y.ends, x.prints ∙ ap (fault_text form) (least_one law value x.refusal y.refusal x.is y.is) ∙ sym y.prints)
-value_one law P form one value a b s t (inl x) (inr y) = absurd (least_not_value law value (λ batch. P batch form b t) x.refusal x.is y)
-value_one law P form one value a b s t (inr x) (inl y) = absurd (least_not_value law value (λ batch. P batch form a s) y.refusal y.is x)
-value_one law P form one value a b s t (inr x) (inr y) =
-    one y.batch y.holds.0 a b s t (subst (λ xs. P xs form a s) (law.one_batch value _ _ x.is_batch y.is_batch) x.holds.1) y.holds.1
+value_one law P form one value = value_in_one law P form value (λ batch is. one batch)
 
 -- ---- the cascade
 
--- one text is written of a document, if one is of each batch whose names are good
+-- one text is written of a document, if one is of each batch in it whose names are good
+pub answers_in_one : AreFunctional → (P : List Record → WritesIn) (bytes : List ℕ) (form : Form) → ((d : Data) (batch : List Record) → IsBatchIn bytes d batch → HasGoodNames batch → IsOne (P batch form)) → IsOne (Answers P bytes form)
+answers_in_one law P bytes form one = document_in_one Batch (AnswersValue P) bytes form (λ value document. value_in_one law P form value (λ batch is good. one value batch (record { json = document.1; is = is }) good))
+
 pub answers_one : AreFunctional → (P : List Record → WritesIn) (bytes : List ℕ) (form : Form) → ((batch : List Record) → HasGoodNames batch → IsOne (P batch form)) → IsOne (Answers P bytes form)
-answers_one law P bytes form one = document_one Batch (AnswersValue P) bytes form (value_one law P form one)
+answers_one law P bytes form one = answers_in_one law P bytes form (λ d batch is. one batch)
 
 -- two readings of a batch that is accepted have the same requests
 pub same_batch : AreFunctional → (bytes : List ℕ) (P Q : List Record → Type 0) → (one : Accepts bytes P) (two : Accepts bytes Q) → one.holds.batch ≡ two.holds.batch

@@ -15,6 +15,7 @@ mod MatchLemmas
 mod RestLemmas
 mod CanonLawLemmas
 mod MatchLawLemmas
+mod RestLawLemmas
 mod LiveLemmas
 mod LivePartLemmas
 mod RequestLemmas

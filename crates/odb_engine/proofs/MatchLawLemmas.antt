@@ -17,9 +17,9 @@ use Rattle.odb_reply.specs.MatchFaults as match_faults
 use Rattle.odb_reply.specs.ResponseDocuments.{Entry, IsResponseDocument, RefusesResponses, ReadsAs, responses_in}
 use Rattle.odb_reply.specs.ResponseDocuments as response_documents
 use Rattle.odb_doc.specs.Refusals.{Printed}
-use Rattle.odb_engine.specs.Cascade.{IsOne}
+use Rattle.odb_engine.specs.Cascade.{IsOne, WritesIn}
 use Rattle.odb_engine.specs.Forms.{fault_text}
-use Rattle.odb_engine.specs.Matches.{AreImpossible, IsAnswered, MatchesValue, Misfits, OfEntries, WritesStatuses, decided}
+use Rattle.odb_engine.specs.Matches.{AreImpossible, IsAnswered, MatchesValue, Misfits, OfEntries, OfResponses, WritesStatuses, decided}
 use Rattle.odb_engine.specs.declared.form.Form.{Form}
 use Rattle.odb_engine.proofs.SecondLemmas.{reading_one}
 
@@ -55,15 +55,20 @@ statuses_one law strict batch statuses form a b s t (inl x) (inr y) = absurd (no
 statuses_one law strict batch statuses form a b s t (inr x) (inl y) = absurd (not_answered law strict batch statuses y.refusal y.is x.0)
 statuses_one law strict batch statuses form a b s t (inr x) (inr y) = (x.1.0 ∙ sym y.1.0, x.1.1 ∙ sym y.1.1)
 
-entries_one : AreOneMatch → (strict : Bool) (batch : List Record) (entries : List Entry) (form : Form) → IsOne (OfEntries (λ places statuses. WritesStatuses strict batch statuses) batch entries form)
-entries_one law strict batch entries form a b s t (inl x) (inl y) = (x.ends ∙ sym y.ends, x.prints ∙ ap (fault_text form) (one_misfits law batch entries x.refusal y.refusal x.is y.is) ∙ sym y.prints)
-entries_one law strict batch entries form a b s t (inl x) (inr y) = absurd (law.no_misfit batch entries x.is.fault (ap is_some x.is.is) x.is.least y.fits)
-entries_one law strict batch entries form a b s t (inr x) (inl y) = absurd (law.no_misfit batch entries y.is.fault (ap is_some y.is.is) y.is.least x.fits)
-entries_one law strict batch entries form a b s t (inr x) (inr y) =
+-- one text is written of responses, if one is by each table of those that fit
+entries_one : AreOneMatch → (W : List ℕ → List ℕ → WritesIn) (batch : List Record) (entries : List Entry) (form : Form) → ((places statuses : List ℕ) → IsOne (W places statuses form)) → IsOne (OfEntries W batch entries form)
+entries_one law W batch entries form one a b s t (inl x) (inl y) = (x.ends ∙ sym y.ends, x.prints ∙ ap (fault_text form) (one_misfits law batch entries x.refusal y.refusal x.is y.is) ∙ sym y.prints)
+entries_one law W batch entries form one a b s t (inl x) (inr y) = absurd (law.no_misfit batch entries x.is.fault (ap is_some x.is.is) x.is.least y.fits)
+entries_one law W batch entries form one a b s t (inr x) (inl y) = absurd (law.no_misfit batch entries y.is.fault (ap is_some y.is.is) y.is.least x.fits)
+entries_one law W batch entries form one a b s t (inr x) (inr y) =
     let same = law.one_table batch entries x.places y.places x.statuses y.statuses x.fits x.table y.table in
-    statuses_one law strict batch y.statuses form a b s t (subst (λ statuses. WritesStatuses strict batch statuses form a s) same.1 x.writes) y.writes
+    one y.places y.statuses a b s t (subst (λ places. W places y.statuses form a s) same.0 (subst (λ statuses. W x.places statuses form a s) same.1 x.writes)) y.writes
+
+pub responses_one : AreOneMatch → (W : List ℕ → List ℕ → WritesIn) (mode : Mode) (batch : List Record) → ((places statuses : List ℕ) (form : Form) → IsOne (W places statuses form)) → (value : Data) (form : Form) → IsOne (OfResponses W mode batch value form)
+responses_one law W mode batch one = reading_one response_documents.responses_row RefusesResponses IsResponseDocument (λ value. AllZip ReadsAs (responses_in value))
+    (record { one_fault = law.one_fault; no_fault = law.no_fault; one_reading = λ value. law.one_list (responses_in value) }) (λ entries. OfEntries W batch (decided mode batch entries))
+    (λ entries form. entries_one law W batch (decided mode batch entries) form (λ places statuses. one places statuses form))
 
 -- a batch and the value of a response document have one text
 pub matches_value_one : AreOneMatch → (mode : Mode) (strict : Bool) (batch : List Record) (value : Data) (form : Form) → IsOne (MatchesValue mode strict batch value form)
-matches_value_one law mode strict batch = reading_one response_documents.responses_row RefusesResponses IsResponseDocument (λ value. AllZip ReadsAs (responses_in value))
-    (record { one_fault = law.one_fault; no_fault = law.no_fault; one_reading = λ value. law.one_list (responses_in value) }) (λ entries. OfEntries (λ places statuses. WritesStatuses strict batch statuses) batch (decided mode batch entries)) (λ entries. entries_one law strict batch (decided mode batch entries))
+matches_value_one law mode strict batch = responses_one law (λ places statuses. WritesStatuses strict batch statuses) mode batch (λ places statuses. statuses_one law strict batch statuses)

@@ -1,5 +1,5 @@
 -- The exits of a rest, and its result.
-use Rattle.std.proofs.Common.{◌≡◌, ◌⊎◌, ◌++◌, ◌∷◌, ℕ, List, [], Bool, inl, inr, refl}
+use Rattle.std.proofs.Common.{◌≡◌, ◌⊎◌, ◌++◌, ◌∷◌, ℕ, List, [], Bool, IsSome, is_some, inl, inr, refl, ap}
 use Rattle.odb_check.specs.LeastNameFault.{HasGoodNames}
 use Rattle.odb_check.specs.Texts.{newline}
 use Rattle.odb_doc.specs.declared.fault.Place.TheVariants.{Batch}
@@ -49,8 +49,8 @@ rest-misfit mode form document batch value entries fault lists least = halted-by
 -- a Location is missing
 pub rest-location : (mode : Mode) (form : Form) (document : List ℕ) (batch : List Record) (value : Data) (entries : List Entry) (places statuses : List ℕ) (fault : RestFault) → Lists value entries → Fits batch (decided mode batch entries)
     → IsTableOf batch (decided mode batch entries) places statuses → ((units : List Bool) → AreMarksOf batch (IsInRest batch statuses) units → RefusesRest fault batch units (recorded value places))
-    → (halt : Halt) → HaltsBy (rest_row fault) halt → Refuses (RestsValue mode document batch value) form halt
-rest-location mode form document batch value entries places statuses fault lists fits table least = halted-by (λ refusal. RestsValue mode document batch value form Refused (fault_text form refusal)) _
+    → (IsSome (rest_row fault) → (units : List Bool) × AreMarksOf batch (IsInRest batch statuses) units) → (halt : Halt) → HaltsBy (rest_row fault) halt → Refuses (RestsValue mode document batch value) form halt
+rest-location mode form document batch value entries places statuses fault lists fits table least marks = halted-by (λ refusal. RestsValue mode document batch value form Refused (fault_text form refusal)) _
     (λ refusal row. inr (
       entries,
       lists,
@@ -59,7 +59,7 @@ rest-location mode form document batch value entries places statuses fault lists
         places = places;
         statuses = statuses;
         table = table;
-        writes = inl (reports (LacksLocations batch value places statuses) form refusal (record { fault = fault; least = least; is = row }));
+        writes = inl (reports (LacksLocations batch value places statuses) form refusal (let units = marks (ap is_some row) in record { fault = fault; units = units.0; marks = units.1; least = least units.0 units.1; is = row }));
       }),
     ))
 

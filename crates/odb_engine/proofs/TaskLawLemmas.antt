@@ -1,5 +1,5 @@
 -- What a task may write is one text: of a batch and a second document, and of a line.
-use Rattle.std.proofs.Common.{◌≡◌, ◌∙◌, Bool, true, false, true≢false, List, [], ℕ, Option, None, Some, inl, inr, sym, ap, subst}
+use Rattle.std.proofs.Common.{◌≡◌, ◌∙◌, Bool, true, false, true≢false, List, [], ℕ, Option, None, Some, inl, inr, refl, sym, ap, subst}
 use Rattle.serde_json.specs.Data.{Data, Items, null, boolean, number, string, array, object, item, no_items}
 use Rattle.odb_doc.specs.Documents.{IsJson}
 use Rattle.odb_doc.specs.declared.fault.Place.{Place}
@@ -10,6 +10,7 @@ use Rattle.odb_check.specs.LeastNameFault.{HasGoodNames}
 use Rattle.odb_sched.specs.declared.order.Order.{Order}
 use Rattle.odb_sched.specs.run.Choosing.{AllowsOrder}
 use Rattle.odb_sched.specs.run.State.{State}
+use Rattle.odb_send.specs.Parts.{IsBatchIn}
 use Rattle.odb_engine.specs.declared.form.Form.{Form}
 use Rattle.odb_engine.specs.declared.tasks.task.Task.{Task}
 use Rattle.odb_engine.specs.declared.tasks.task.Task.TheVariants as tasks
@@ -20,12 +21,14 @@ use Rattle.odb_engine.specs.Contents.Given.{ByReader, InHand, InMemory}
 use Rattle.odb_engine.specs.Tasks.{AnswersPair, InLine, IsTakenOf, OfDocuments, OfLine, OfPair, OfTask, OfWholeLine, lists_all, takes_bytes, takes_second}
 use Rattle.odb_engine.specs.Matches.{MatchesValue}
 use Rattle.odb_engine.specs.Replays.{ReplaysValue}
+use Rattle.odb_engine.specs.Rests.{RestsValue}
 use Rattle.odb_engine.specs.Runs.{RunsValue}
 use Rattle.odb_engine.proofs.CanonLawLemmas.{canonical_one}
 use Rattle.odb_engine.proofs.CourseLemmas.{AreOneRecord, HasOrder, replays_value_one}
-use Rattle.odb_engine.proofs.LawLemmas.{AreFunctional, answers_one, document_one, value_one}
+use Rattle.odb_engine.proofs.LawLemmas.{AreFunctional, answers_in_one, document_one, value_one}
 use Rattle.odb_engine.proofs.ListLawLemmas.{written-one}
 use Rattle.odb_engine.proofs.MatchLawLemmas.{AreOneMatch, matches_value_one}
+use Rattle.odb_engine.proofs.RestLawLemmas.{AreOneRest, places_one, rests_value_one}
 use Rattle.odb_engine.proofs.RunLawLemmas.{AreOneHistory, HaveOneCause, runs_value_one}
 use Rattle.odb_engine.proofs.SecondLemmas.{some_document_one}
 
@@ -81,6 +84,7 @@ module _ (law : AreFunctional) (P : List ℕ → Given → List Record → Write
 pub record AreOneText : Type 0 where
   pub batch : AreFunctional
   pub matching : AreOneMatch
+  pub rest : AreOneRest
   pub recorded : AreOneRecord
   pub order : (order : Order) (recorded : List (Option Outcome)) (first : State) → HasOrder order recorded first
   pub history : AreOneHistory
@@ -100,30 +104,37 @@ given-one (ByReader (Some left)) known place P form one = some_document_one left
 given-one (InMemory bytes) known place P form one = document_one place P bytes form one
 given-one (InHand value) known place P form one = one value
 
--- one text is written of a batch and a second document, by a task that takes no bytes
-task-one : AreOneText → (task : Task) → takes_bytes task ≡ false → (document : List ℕ) (form : Form) (given : Given) → IsKnown given → (batch : List Record) → HasGoodNames batch → IsOne (OfTask task document given batch form)
-task-one law (tasks.Check all) alone document form given known batch good a b s t x y = (x.0 ∙ sym y.0, x.1 ∙ sym y.1)
-task-one law (tasks.Plan false) alone document form given known batch good a b s t x y = (x.0 ∙ sym y.0, x.1 ∙ sym y.1)
-task-one law (tasks.Plan true) alone document form given known batch good a b s t x y = absurd (true≢false alone)
-task-one law tasks.Draw alone document form given known batch good a b s t x y = (x.0 ∙ sym y.0, x.1 ∙ sym y.1)
-task-one law tasks.Canon alone document form given known batch good a b s t x y = canonical_one batch form a b s t x y
-task-one law (tasks.Match mode strict) alone document form given known batch good a b s t x y =
+-- the batch is in this document, if its bytes are taken
+abbrev IsTaken : Task → List ℕ → List Record → Type 0
+IsTaken task document batch = takes_bytes task ≡ true → (d : Data) × IsBatchIn document d batch
+
+-- one text is written of a batch and a second document
+task-one : AreOneText → (task : Task) (document : List ℕ) (form : Form) (given : Given) → IsKnown given → (batch : List Record) → HasGoodNames batch → IsTaken task document batch → IsOne (OfTask task document given batch form)
+task-one law (tasks.Check all) document form given known batch good taken a b s t x y = (x.0 ∙ sym y.0, x.1 ∙ sym y.1)
+task-one law (tasks.Plan false) document form given known batch good taken a b s t x y = (x.0 ∙ sym y.0, x.1 ∙ sym y.1)
+task-one law (tasks.Plan true) document form given known batch good taken a b s t x y = let has = taken refl in places_one law.rest document has.0 batch form has.1.json a b s t x y
+task-one law tasks.Draw document form given known batch good taken a b s t x y = (x.0 ∙ sym y.0, x.1 ∙ sym y.1)
+task-one law tasks.Canon document form given known batch good taken a b s t x y = canonical_one batch form a b s t x y
+task-one law (tasks.Match mode strict) document form given known batch good taken a b s t x y =
     given-one given known places.Responses (MatchesValue mode strict batch) form (λ value. matches_value_one law.matching mode strict batch value form) a b s t x y
-task-one law (tasks.Rest mode) alone document form given known batch good a b s t x y = absurd (true≢false alone)
-task-one law (tasks.Replay policy order traced) alone document form given known batch good a b s t x y =
+task-one law (tasks.Rest mode) document form given known batch good taken a b s t x y =
+    let has = taken refl in given-one given known places.Responses (RestsValue mode document batch) form (λ value. rests_value_one law.rest document has.0 batch has.1 value law.matching mode form) a b s t x y
+task-one law (tasks.Replay policy order traced) document form given known batch good taken a b s t x y =
     given-one given known places.Outcomes (ReplaysValue (AllowsOrder order) policy traced batch) form (λ value. replays_value_one order (law.order order) law.recorded policy traced batch value form) a b s t x y
-task-one law (tasks.Run policy) alone document form given known batch good a b s t x y = given-one given known places.Events (RunsValue policy batch) form (λ value. runs_value_one law.causes law.history policy batch good value form) a b s t x y
+task-one law (tasks.Run policy) document form given known batch good taken a b s t x y = given-one given known places.Events (RunsValue policy batch) form (λ value. runs_value_one law.causes law.history policy batch good value form) a b s t x y
 
-answers-one : AreOneText → (task : Task) → takes_bytes task ≡ false → (form : Form) (given : Given) → IsKnown given → (bytes : List ℕ) → IsOne (Answers (OfTask task bytes given) bytes form)
-answers-one law task alone form given known bytes = answers_one law.batch (OfTask task bytes given) bytes form (task-one law task alone bytes form given known)
+answers-one : AreOneText → (task : Task) (form : Form) (given : Given) → IsKnown given → (bytes : List ℕ) → IsOne (Answers (OfTask task bytes given) bytes form)
+answers-one law task form given known bytes = answers_in_one law.batch (OfTask task bytes given) bytes form (λ d batch is good. task-one law task bytes form given known batch good (λ takes. (d, is)))
 
-pub documents-one : AreOneText → (task : Task) → takes_bytes task ≡ false → (form : Form) (given : Given) → IsKnown given → (bytes : List ℕ) → IsOne (OfDocuments task given bytes form)
-documents-one law task alone form given known bytes = written-one law.batch (lists_all task) (Answers (OfTask task bytes given) bytes) bytes form (answers-one law task alone form given known bytes)
+pub documents-one : AreOneText → (task : Task) (form : Form) (given : Given) → IsKnown given → (bytes : List ℕ) → IsOne (OfDocuments task given bytes form)
+documents-one law task form given known bytes = written-one law.batch (lists_all task) (Answers (OfTask task bytes given) bytes) bytes form (answers-one law task form given known bytes)
 
-pub line-one : AreOneText → (task : Task) → takes_bytes task ≡ false → (form : Form) (line : List ℕ) → IsOne (OfWholeLine task line form)
-line-one law task alone form line = written-one law.batch (lists_all task) (OfLine task line) line form
-    (subst (λ (takes : Bool). IsOne (InLine (takes_second task) takes (OfTask task) line form)) (sym alone) (at (takes_second task)))
+-- of a line with two documents the bytes are not taken
+pub line-one : AreOneText → (task : Task) → (takes_second task ≡ true → takes_bytes task ≡ false) → (form : Form) (line : List ℕ) → IsOne (OfWholeLine task line form)
+line-one law task alone form line = written-one law.batch (lists_all task) (OfLine task line) line form (at (takes_second task) refl)
   where
-    at : (two : Bool) → IsOne (InLine two false (OfTask task) line form)
-    at false = answers-one law task alone form (InMemory []) tt line
-    at true = pair-one law.batch (OfTask task) form (λ batch good second. task-one law task alone [] form (InHand second) tt batch good) line
+    at : (two : Bool) → takes_second task ≡ two → IsOne (InLine two (takes_bytes task) (OfTask task) line form)
+    at false is = answers-one law task form (InMemory []) tt line
+    at true is =
+        subst (λ (takes : Bool). IsOne (InLine true takes (OfTask task) line form)) (sym (alone is))
+        (pair-one law.batch (OfTask task) form (λ batch good second. task-one law task [] form (InHand second) tt batch good (λ takes. absurd (true≢false (sym takes ∙ alone is)))) line)

@@ -18,10 +18,12 @@ use Rattle.odb_engine.specs.declared.ending.Ended.TheVariants.{Done}
 use Rattle.odb_engine.specs.Cascade.{Reports, WritesIn}
 use Rattle.odb_engine.specs.Matches.{OfResponses}
 
--- a request of the rest lacks a Location, and this is the least fault
+-- a request of the rest lacks a Location, by the marks of the units that are in it, and this is the least fault
 pub record LacksLocations (batch : List Record) (value : Data) (places statuses : List ℕ) (refusal : Printed) : Type 0 where
   pub fault : RestFault
-  pub least : (units : List Bool) → AreMarksOf batch (IsInRest batch statuses) units → RefusesRest fault batch units (recorded value places)
+  pub units : List Bool
+  pub marks : AreMarksOf batch (IsInRest batch statuses) units
+  pub least : RefusesRest fault batch units (recorded value places)
   pub is : rest_row fault ≡ Some refusal
 
 -- the text is that of the rest, and a newline

@@ -65,26 +65,27 @@ pub fn one_document()
 {}
 
 /// Two texts that a task may write for the same bytes of a batch document and of a second document are equal,
-/// and so are the ends: for each task with its options, but a full plan and a rest, in each form, and also if one of the documents is
-/// refused. Likewise for a line of a log, with one document or with two. So what a task writes is a function of
-/// the bytes and the form. A full plan has places of bodies, and a rest has bodies, of which no law states that they are the only
-/// ones.
+/// and so are the ends: for each task with its options, in each form, and also if one of the documents is
+/// refused. Likewise for a line of a log, with one document or with two, but for a rest of a line. So what a task writes is a
+/// function of the bytes and the form.
 ///
 /// The relation `OfDocuments` is that of [`crate::answer_documents`], and `OfWholeLine` that of [`crate::answer_line`]. `left` is
-/// what the second reader has left.
+/// what the second reader has left. No law states that the batch in a line has its bytes in one place alone.
 pub fn one_text()
-    ensures task { (task : Task) (form : Form) (bytes left : List ℕ) → takes_bytes task ≡ false
+    ensures task { (task : Task) (form : Form) (bytes left : List ℕ)
         → IsOne (OfDocuments task (ByReader (Some left)) bytes form) }
-    ensures memory { (task : Task) (form : Form) (bytes second : List ℕ) → takes_bytes task ≡ false
+    ensures memory { (task : Task) (form : Form) (bytes second : List ℕ)
         → IsOne (OfDocuments task (InMemory second) bytes form) }
-    ensures line { (task : Task) (form : Form) (line : List ℕ) → takes_bytes task ≡ false
-        → IsOne (OfWholeLine task line form) }
+    ensures line { (task : Task) (form : Form) (line : List ℕ)
+        → (takes_second task ≡ true → takes_bytes task ≡ false) → IsOne (OfWholeLine task line form) }
 {
     odb_doc::laws::one_batch();
     odb_doc::laws::one_fault();
     odb_check::laws::one_fault();
     odb_reply::laws::one_document();
     odb_reply::laws::one_match();
+    odb_spans::laws::one_place();
+    odb_send::laws::one_rest();
     odb_reply::laws::one_status();
     odb_doc::laws::one_record();
     odb_exec::laws::every_order();

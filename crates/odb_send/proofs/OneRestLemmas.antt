@@ -1,5 +1,5 @@
 -- The rest of a batch is one, and so is its text.
-use Rattle.std.proofs.Common.{◌≡◌, ◌∙◌, ◌++◌, ◌<◌, ℕ, zero, suc, Bool, false, List, [], ◌∷◌, length, get_or, slice_get, Option, None, Some, IsSome, option_and_then, inl, inr, codes, refl, ap, ap₂, sym, subst, arith}
+use Rattle.std.proofs.Common.{◌≡◌, ◌∙◌, ◌++◌, ◌<◌, ℕ, zero, suc, Bool, false, List, [], ◌∷◌, length, get_or, Option, Some, IsSome, option_and_then, inl, inr, codes, refl, ap, ap₂, sym, subst, arith}
 use Rattle.std.specs.List.{AllZip}
 use Rattle.std.proofs.lemmas.Bool.{cases_order, false≢true}
 use Rattle.std.proofs.lemmas.List.{same_lists}
@@ -16,7 +16,7 @@ use Rattle.odb_spans.specs.declared.span.Span.{Span}
 use Rattle.odb_send.specs.declared.fault.RestRule.TheVariants.{NoLocation}
 use Rattle.odb_send.specs.declared.rest.Rest.{Rest}
 use Rattle.odb_send.specs.Faults.{LacksLocation, RefusesRest, RestFault, rest_row}
-use Rattle.odb_send.specs.Rests.{HasUrls, IsJoined, IsRestOf, IsUrl, Leaves, Moves, is_kept, kept, select, urls}
+use Rattle.odb_send.specs.Rests.{HasUrls, IsJoined, IsRestOf, IsUrl, Moves, is_kept, kept, select, urls}
 use Rattle.odb_send.specs.Rests.IsUrl.{same, moved}
 use Rattle.odb_send.specs.Texts.{IsTextOf, bodies_in, joined, text_of, text_of_request}
 use Rattle.odb_send.specs.Units.{IsInRest}

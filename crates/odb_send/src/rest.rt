@@ -1,12 +1,12 @@
 //! The rest of a batch.
 
-ghost use Rattle.std.specs.Prelude.{◌≡◌, ◌<◌, ℕ, List, Bool, length, IfOk, IfErr};
+ghost use Rattle.std.specs.Prelude.{◌≡◌, ◌<◌, ℕ, List, Bool, length, IsSome, IfOk, IfErr};
 ghost use Rattle.serde_json.specs.View.{view};
 ghost use Rattle.odb_check.specs.Plans.{plan_records};
 ghost use Rattle.odb_check.specs.Units as all;
 ghost use Rattle.odb_reply.specs.Fits as fits;
 ghost use Rattle.odb_reply.specs.BodyTexts.{text_at};
-ghost use Rattle.odb_send.specs.Faults.{RefusesRest};
+ghost use Rattle.odb_send.specs.Faults.{RefusesRest, rest_row};
 ghost use Rattle.odb_send.specs.Locations.{recorded, texts_of};
 ghost use Rattle.odb_send.specs.Marks.{AreUrls};
 ghost use Rattle.odb_send.specs.Rests as rests;
@@ -95,6 +95,9 @@ pub fn rest_of(
         (IsInRest (plan_records plan.now) (fits.statuses table.now)) units
         → RefusesRest fault (plan_records plan.now) units
         (recorded (view responses.now) (fits.places table.now))) }
+    ensures marks { IfErr result (λ fault. IsSome (rest_row fault) → (units : List Bool)
+        × AreMarksOf (plan_records plan.now)
+        (IsInRest (plan_records plan.now) (fits.statuses table.now)) units) }
 {
     let kept = kept_units(alloc, plan, table)?;
     let locations = locations_of(alloc, plan, table, responses)?;

@@ -27,13 +27,14 @@ returns c =
     let law : AreOneText = record {
       batch = batch;
       matching = matching;
+      rest = record { one_place = c.one_place.ensures; one_text = c.one_rest.ensures.text; one_fault = c.one_rest.ensures.fault; no_fault = c.one_rest.ensures.none };
       recorded = record { one_fault = c.one_record.ensures.one; no_fault = c.one_record.ensures.none; one_reading = c.one_record.ensures.outcomes };
       order = λ order outcomes first. record { course = c.every_order.ensures.one_course order outcomes first; fault = c.every_order.ensures.one_fault order outcomes first; apart = c.every_order.ensures.fault_or_end order outcomes first };
       history = record { one_fault = c.one_history.ensures.one; no_fault = c.one_history.ensures.none; one_reading = c.one_history.ensures.events };
       causes = record { one_refusal = c.every_cause.ensures.one_refusal; one_unknown = c.every_cause.ensures.one_unknown };
     } in
     record {
-      task = λ task form bytes left alone. documents-one law task alone form (ByReader (Some left)) tt bytes;
-      memory = λ task form bytes second alone. documents-one law task alone form (InMemory second) tt bytes;
+      task = λ task form bytes left. documents-one law task form (ByReader (Some left)) tt bytes;
+      memory = λ task form bytes second. documents-one law task form (InMemory second) tt bytes;
       line = λ task form line alone. line-one law task alone form line;
     }

@@ -1,8 +1,8 @@
-use Rattle.std.proofs.Common.{List, Bool, length, subst, rules}
+use Rattle.std.proofs.Common.{List, Bool, IsSome, length, subst, rules}
 use Rattle.serde_json.specs.View.{view}
 use Rattle.odb_check.specs.Plans.{plan_records}
 use Rattle.odb_reply.specs.Fits.{places, statuses}
-use Rattle.odb_send.specs.Faults.{RefusesRest}
+use Rattle.odb_send.specs.Faults.{RefusesRest, rest_row}
 use Rattle.odb_send.specs.Locations.{recorded, texts_of}
 use Rattle.odb_send.specs.Marks.{AreUrls}
 use Rattle.odb_reply.specs.BodyTexts.{text_at}
@@ -29,6 +29,12 @@ returns-in_err-urls-clause-least c =
     subst (λ (us : List Bool). RefusesRest fault rs us all) (one_marks rs (IsInRest rs (statuses c.args.table.now)) kept units c.in_ok-kept.ensures are)
     (refuses_by rs kept (text_at found) all fault (listed_locations rs found all c.in_ok-locations.ensures) first) in
     search (rules, least)
+
+pub returns-in_err-urls-clause-marks : goal.returns-in_err-urls-clause-marks
+returns-in_err-urls-clause-marks c =
+    let rs = plan_records c.args.plan.now in
+    let marks : IsSome (rest_row c.in_err-urls.field-0.0) → (units : List Bool) × AreMarksOf rs (IsInRest rs (statuses c.args.table.now)) units = λ numbered. (c.in_ok-kept.kept.items, c.in_ok-kept.ensures) in
+    search (rules, marks)
 
 pub returns-clause-rest : goal.returns-clause-rest
 returns-clause-rest c =

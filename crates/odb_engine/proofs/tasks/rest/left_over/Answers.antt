@@ -41,7 +41,7 @@ returns-in_err-rest-clause-found c =
     let all = c.in_ok-decided.ensures in
     λ form. at-exit (Found (RestsValue mode document batch value) form) _ _ c.from_residual-in_err-rest.ensures.1
     (rest-location mode form document batch value listed (places table) (statuses table) _ (c.in_ok-read.ensures.good, c.in_ok-read.ensures.responses)
-    (subst (Fits batch) all c.in_ok-table.ensures.fits) (subst (λ es. IsTableOf batch es (places table) (statuses table)) all c.in_ok-table.ensures.table) c.in_err-rest.ensures.least)
+    (subst (Fits batch) all c.in_ok-table.ensures.fits) (subst (λ es. IsTableOf batch es (places table) (statuses table)) all c.in_ok-table.ensures.table) c.in_err-rest.ensures.least c.in_err-rest.ensures.marks)
 
 pub returns-clause-found : goal.returns-clause-found
 returns-clause-found c =
