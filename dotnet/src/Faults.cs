@@ -28,8 +28,7 @@ namespace OdbBatch {
         public string Id { get; }
 
         /// <summary>The exception for a status from 11 to 15, which are S1 to S5, or 21 or 22, P1 and P2; null for another one.</summary>
-        internal static RefusedException Of(uint status, string id) =>
-            status < 11 || status > 22 ? null : new RefusedException((status < 20 ? "S" : "P") + status % 10, id);
+        internal static RefusedException Of(uint status, string id) => status < 11 || status > 22 ? null : new RefusedException((status < 20 ? "S" : "P") + status % 10, id);
     }
 
     /// <summary>Why a document is refused. Where its place begins is looked up when it is asked for, but of <see cref="Odb.Faults"/> at once: do

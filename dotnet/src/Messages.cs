@@ -6,6 +6,7 @@ using System.Net.Http;
 using System.Text;
 using System.Threading;
 using System.Threading.Tasks;
+using System.Xml;
 
 namespace OdbBatch {
     /// <summary>What messages have in common.</summary>
@@ -181,18 +182,20 @@ namespace OdbBatch {
         /// <summary>The value of a string of JSON; null if it is another value.</summary>
         internal static string String(byte[] text) => Native.Headers(Joined("{\"a\":", text, "}"))?["a"];
 
-        /// <summary>The members of an object that are strings or numbers; none of what is no object.</summary>
+        // How deep the reader of .NET goes; else it keeps each level.
+        private static readonly XmlDictionaryReaderQuotas Quotas = new XmlDictionaryReaderQuotas { MaxDepth = 128, MaxStringContentLength = int.MaxValue, MaxNameTableCharCount = int.MaxValue };
+
+        /// <summary>The members of an object that are strings or numbers, up to one that nests too deep; none of what is no object.</summary>
         internal static Dictionary<string, string> Members(byte[] text) {
             var found = new Dictionary<string, string>();
             try {
-                using (var reader = System.Runtime.Serialization.Json.JsonReaderWriterFactory.CreateJsonReader(text, System.Xml.XmlDictionaryReaderQuotas.Max)) {
-                    reader.MoveToContent();
-                    if (reader.GetAttribute("type") == "object") reader.Read();
-                    while (reader.Depth == 1 && reader.NodeType == System.Xml.XmlNodeType.Element)
+                using (var reader = System.Runtime.Serialization.Json.JsonReaderWriterFactory.CreateJsonReader(text, Quotas)) {
+                    if (reader.MoveToContent() == XmlNodeType.Element && reader.GetAttribute("type") == "object") reader.Read();
+                    while (reader.Depth == 1 && reader.NodeType == XmlNodeType.Element)
                         if (reader.GetAttribute("type") is string kind && (kind == "string" || kind == "number")) found[reader.GetAttribute("item") ?? reader.LocalName] = reader.ReadElementContentAsString();
                         else reader.Skip();
                 }
-            } catch (System.Xml.XmlException) { } // not JSON
+            } catch (XmlException) { } // not JSON
             return found;
         }
     }

@@ -214,6 +214,7 @@ public class PerformTests {
         Assert.AreEqual("a200 b200 c200: Books(1)?x=1, B(4)/Pages, B(4) \"9\"",
             sent("post", null, null, "{\"x\":{\"@id\":\"no\"},\"@odata.context\":\"https://host/odata/$metadata#B/$entity\",\"@odata.id\":\"B(4)\",\"@odata.etag\":\"\\u00229\\\"\"}"));
         Assert.AreEqual("a200 b200 c200: Books(1)?x=1, B(5)/Pages, B(5) 9", sent("post", null, null, "{\"@id\":\"https://host/odata/B(5)\",\"@etag\":\"9\"}"));
+        Assert.AreEqual("a200 b424 c424: Books(1)?x=1", sent("post", null, null, "{\"a\":" + new string('[', 1000000) + new string(']', 1000000) + ",\"@etag\":\"9\"}"));
         // A relative URL without a context, which may be relative to anything, is none.
         Assert.AreEqual("a200 b424 c424: Books(1)?x=1", sent("post", null, null, "{\"@id\":\"/odata/B(5)\"}"));
     }
