@@ -202,6 +202,10 @@ public class ClientTests {
         Assert.AreEqual(2100, results.Count());
         Assert.LessOrEqual(service.Posted.Max(it => Odb.Requests(it).Count), 4);
         Assert.AreEqual(2100, service.Posted.Sum(it => Odb.Requests(it).Count));
+        var broken = new Service((it, c) => throw new HttpRequestException("reset"));
+        results = Sent(batch.ToDocument(), broken, 4);
+        Assert.AreEqual("reset", results.Error?.Message);
+        Assert.AreEqual(1, broken.Posted.Count);
     }
 
     [Test]
