@@ -193,6 +193,16 @@ public class PerformTests {
     }
 
     [Test]
+    public void Roots_may_be_others() {
+        var options = Options();
+        options.Roots = new[] { new Uri("https://host/odata/"), new Uri("http://other:81/x/") };
+        const string batch = "{\"requests\":[{\"id\":\"a\",\"method\":\"get\",\"url\":\"A\"},{\"id\":\"b\",\"method\":\"get\",\"url\":\"http://other:81/x/B\"},{\"id\":\"c\",\"method\":\"get\",\"url\":\"http://other:81/y\"}]}";
+        Assert.AreEqual("a200 b200 c404", Performed(batch, (it, c) => Answer(200), options));
+        options.Roots = new[] { new Uri("http://other:81/x/") };
+        Assert.AreEqual("a404 b200 c404", Performed(batch, (it, c) => Answer(200), options));
+    }
+
+    [Test]
     public void References_are_replaced() {
         const string batch = "{\"requests\":[{\"id\":\"a\",\"method\":\"METHOD\",\"url\":\"Books(1)?x=1\"},"
             + "{\"id\":\"b\",\"method\":\"get\",\"url\":\"$a/Pages\",\"dependsOn\":[\"a\"]},"
