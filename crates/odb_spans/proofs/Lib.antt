@@ -31,4 +31,6 @@ mod AloneLemmas
 mod HoleLemmas
 mod PathLemmas
 mod LookedLemmas
+mod OneSpanLemmas
 mod OnePlaceLemmas
+mod OnePairLemmas

@@ -1,314 +1,51 @@
 -- A member of an element has one place in a document.
-use Rattle.std.proofs.Common.{◌≡◌, ◌∙◌, ℕ, zero, suc, ◌+◌, ◌-◌, ◌<◌, Bool, true, false, cond, ◌==◌, List, [], ◌∷◌, ◌++◌, length, take, drop, get_or, codes, Option, Some, None, refl, sym, ap, ap₂, subst, arith, append_assoc, append-nil, length-append}
-use Rattle.std.proofs.lemmas.Bool.{true≢false, and_parts}
-use Rattle.std.proofs.lemmas.List.{append_cancel_left, drop-drop, drop_more, get_or-drop, get_or-take, length-drop, length-map, length-take, take-append-drop}
+use Rattle.std.proofs.Common.{◌≡◌, ◌∙◌, ℕ, suc, ◌+◌, ◌<◌, List, [], ◌∷◌, length, drop, Option, Some, None, refl, sym, ap, ap₂, subst, arith}
+use Rattle.std.proofs.lemmas.List.{length-map}
 use Rattle.std.specs.List.{AllZip}
-use Rattle.json.specs.Token.{Token, bad, boolean, null}
-use Rattle.json.specs.Word.{ends_word, is_operator, is_space, word}
-use Rattle.json.specs.Align.{is_blank, is_good}
-use Rattle.json.specs.Lex.{Lexeme, token, quote, backslash, operator, space, other, class, between, lex, Place, fresh, after_value, begins_colon, may_begin, if_allowed, place_token, punctuate, tokens}
 use Rattle.json.specs.Json as json
-use Rattle.json.specs.Tree.{json_tokens}
+use Rattle.json.specs.Lex.{between, lex}
 use Rattle.serde_json.specs.Data.{Data}
 use Rattle.odb_doc.specs.Documents.{IsJson}
 use Rattle.odb_doc.specs.Members.{elements_at}
-use Rattle.odb_spans.specs.Spans.{EachSpan, HasMemberAt, IsPlaceOfMember, IsSpanOf, bytes_of, member_of, members_of, replaced}
+use Rattle.odb_spans.specs.Spans.{EachSpan, HasMemberAt, IsPlaceOfMember, IsSpanOf, member_of, members_of}
 use Rattle.odb_spans.specs.declared.span.Span.{Span}
-use Rattle.odb_spans.proofs.AloneLemmas.{BeginsToken, all-blank, colon-front, lex-value, no-colon, none-left, same-token, value-again}
-use Rattle.odb_spans.proofs.BracketLemmas.{begins}
-use Rattle.odb_spans.proofs.FillLemmas.{null-at, true-at}
-use Rattle.odb_spans.proofs.FrontLemmas.{SplitsAt, all_good, all_lexed, at-good, good-json, good-lexemes, good-rest, lex-null, lex-true, lexed-after, same-place, splits-at}
-use Rattle.odb_spans.proofs.HoleLemmas.{Hole, fill, before, after, HoleIn, find-json, same-tree, spells}
+use Rattle.odb_spans.proofs.AloneLemmas.{BeginsToken}
 use Rattle.odb_spans.proofs.LookedLemmas.{looks-other, looks-true}
-use Rattle.odb_spans.proofs.PartLemmas.{begins-with-token}
-use Rattle.odb_spans.proofs.PathLemmas.{IsMemberHole, IsTrueValue, SameHole, is-member-hole, looked, same-hole}
-use Rattle.odb_spans.proofs.PlaceLemmas.{at-token}
+use Rattle.odb_spans.proofs.OneSpanLemmas.{HasHole, IsFilled, IsSolidSpan, begun, has-hole, one-span}
+use Rattle.odb_spans.proofs.PathLemmas.{IsMemberHole, IsTrueValue, is-member-hole, looked, same-hole}
 use Rattle.odb_spans.proofs.ReadLemmas.{IsTreeOf, tree-of}
 
--- ---- after a literal
-
-ends-if : (b : Bool) → is_good (cond b null bad) ≡ true → b ≡ true
-ends-if true h = refl
-ends-if false h = absurd (true≢false (sym h))
-
-null-ends : (ys : List ℕ) → all_lexed (lex between (codes "null" ++ ys)) ≡ true → ends_word ys ≡ true
-unfolding lex word
-null-ends ys h = ends-if (ends_word ys) (and_parts (is_good (cond (ends_word ys) null bad)) _ h).0
-
-if-allowed : (c : Bool) (t : Token) (k : Place → List Token) (next : Place) → all_good (if_allowed c t k next) ≡ true → c ≡ true
-if-allowed true t k next h = refl
-if-allowed false t k next h = absurd (true≢false (sym h))
-
-null-begins : (q : Place) (ls : List Lexeme) → all_good (punctuate q (token null ∷ ls)) ≡ true → may_begin q ≡ true
-null-begins q ls h = if-allowed (may_begin q) null (λ next. punctuate next ls) after_value (sym (ap all_good (at-token q null ls)) ∙ h)
-
-good-tree : (j : json.Json) → all_good (json_tokens j) ≡ true
-good-tree j = ap all_good (sym (append-nil (json_tokens j))) ∙ good-json j [] refl
-
--- ---- where the member is in the tree of the document
-
--- the span's value is at the place of the member, and the tokens before and after the span are those round the place
-record HasHole (list name document : List ℕ) (at : ℕ) (tree : json.Json) (span : Span) : Type 0 where
-  hole : Hole
-  value : json.Json
-  is : tree ≡ fill hole value
-  member : IsMemberHole list name at hole
-  spelled : tokens (bytes_of document span) ≡ json_tokens value
-  next : Place
-  front : (ms : List Lexeme) → begins_colon ms ≡ false → punctuate fresh (lex between (take span.start document) ++ ms) ≡ before hole ++ punctuate next ms
-  begin : may_begin next ≡ true
-  rest : punctuate after_value (lex between (drop span.end document)) ≡ after hole
-  good : all_good (after hole) ≡ true
-  ends : ends_word (drop span.end document) ≡ true
-
 module _ (list name document : List ℕ) (d : Data) (at : ℕ) (span : Span) (v : Data) (within : at < length (members_of list name d)) (place : IsPlaceOfMember list name document d at span) (text : IsSpanOf document span v) where
-  abbrev front : List Lexeme
-  front = lex between (take span.start document)
+  is-solid : IsSolidSpan document span
+  is-solid = record { order = text.order; within = text.within; first = place.first; last = place.last; cut = place.cut }
 
-  abbrev past : List ℕ
-  past = drop span.end document
+  is-filled : IsFilled document span place.with_null.changed place.with_true.changed
+  is-filled = record { null_reads = place.with_null.reads; true_reads = place.with_true.reads }
 
-  abbrev rest : List Lexeme
-  rest = lex between past
+  the-hole : (top : IsTreeOf document d) → HasHole document top.tree span place.with_null.changed place.with_true.changed
+  the-hole top = has-hole document span _ _ v is-filled is-solid text.reads d top
 
-  null-tree : IsTreeOf (replaced document span (codes "null")) place.with_null.changed
-  null-tree = tree-of _ place.with_null.changed place.with_null.reads.1
+  is-member : (top : IsTreeOf document d) → IsMemberHole list name at (the-hole top).hole
+  is-member top =
+      let hole = the-hole top in
+      is-member-hole list name at hole.hole
+      (subst (λ j. IsTrueValue (looked list name at j)) hole.true_is (looks-true list name _ d place.with_true.changed at hole.true_tree within place.with_true.members))
+      (λ t. looks-other list name _ d place.with_null.changed at hole.null_tree within place.with_null.members (subst (λ j. IsTrueValue (looked list name at j)) (sym hole.null_is) t))
 
-  true-tree : IsTreeOf (replaced document span (codes "true")) place.with_true.changed
-  true-tree = tree-of _ place.with_true.changed place.with_true.reads.1
+  begins-token : BeginsToken (lex between (drop span.start document))
+  begins-token = begun document span _ _ v is-filled is-solid text.reads
 
-  null-cut : punctuate fresh (front ++ lex between (codes "null" ++ past)) ≡ json_tokens null-tree.tree
-  null-cut = ap (punctuate fresh) (sym (place.cut (codes "null" ++ past))) ∙ null-tree.spelled ∙ append-nil (json_tokens null-tree.tree)
-
-  ends-word : ends_word past ≡ true
-  ends-word = null-ends past (lexed-after front _ (good-lexemes fresh (front ++ lex between (codes "null" ++ past)) (ap all_good null-cut ∙ good-tree null-tree.tree)))
-
-  null-spelled : punctuate fresh (front ++ token null ∷ rest) ≡ json_tokens null-tree.tree
-  null-spelled = ap (λ l. punctuate fresh (front ++ l)) (sym (lex-null past ends-word)) ∙ null-cut
-
-  cut : SplitsAt fresh front (token null ∷ rest)
-  cut = splits-at fresh front (token null ∷ rest) refl (ap all_good null-spelled ∙ good-tree null-tree.tree)
-
-  good-next : all_good (punctuate cut.place (token null ∷ rest)) ≡ true
-  good-next = good-rest cut.passed _ (sym (ap all_good cut.one) ∙ ap all_good null-spelled ∙ good-tree null-tree.tree)
-
-  may-begin : may_begin cut.place ≡ true
-  may-begin = null-begins cut.place rest good-next
-
-  abbrev follow : List Token
-  follow = punctuate after_value rest
-
-  good-follow : all_good follow ≡ true
-  good-follow = sym (ap all_good (null-at cut.place rest may-begin)) ∙ good-next
-
-  with-null : json_tokens null-tree.tree ≡ cut.passed ++ null ∷ follow
-  with-null = sym null-spelled ∙ cut.one ∙ ap (λ l. cut.passed ++ l) (null-at cut.place rest may-begin)
-
-  with-true : json_tokens true-tree.tree ≡ cut.passed ++ boolean true ∷ follow
-  with-true =
-      sym (append-nil (json_tokens true-tree.tree)) ∙ sym true-tree.spelled ∙ ap (punctuate fresh) (place.cut (codes "true" ++ past)) ∙ ap (λ l. punctuate fresh (front ++ l)) (lex-true past ends-word)
-      ∙ cut.two (token (boolean true) ∷ rest) refl ∙ ap (λ l. cut.passed ++ l) (true-at cut.place rest may-begin)
-
-  found : HoleIn null-tree.tree cut.passed follow
-  found = find-json null-tree.tree cut.passed follow with-null
-
-  true-is : true-tree.tree ≡ fill found.hole (json.boolean true)
-  true-is = same-tree _ _ (with-true ∙ ap₂ (λ f b. f ++ boolean true ∷ b) found.front_is found.back_is ∙ sym (spells found.hole (json.boolean true)))
-
-  is-member : IsMemberHole list name at found.hole
-  is-member =
-      is-member-hole list name at found.hole (subst (λ j. IsTrueValue (looked list name at j)) true-is (looks-true list name _ d place.with_true.changed at true-tree within place.with_true.members))
-      (λ t. looks-other list name _ d place.with_null.changed at null-tree within place.with_null.members (subst (λ j. IsTrueValue (looked list name at j)) (sym found.is) t))
-
-  -- ---- with its own value
-
-  own-tree : IsTreeOf (bytes_of document span) v
-  own-tree = tree-of _ v text.reads.1
-
-  own : tokens (bytes_of document span) ≡ json_tokens own-tree.tree
-  own = own-tree.spelled ∙ append-nil (json_tokens own-tree.tree)
-
-  abbrev own_lexemes : List Lexeme
-  own_lexemes = lex between (bytes_of document span)
-
-  from-start : bytes_of document span ++ past ≡ drop span.start document
-  from-start =
-      let order = text.order in
-      let end : span.start + (span.end - span.start) ≡ span.end = omega (arith, order) in
-      ap (λ l. bytes_of document span ++ l) (sym (drop-drop (span.end - span.start) span.start document ∙ ap (λ k. drop k document) end)) ∙ take-append-drop (span.end - span.start) (drop span.start document)
-
-  lexed-own : lex between (drop span.start document) ≡ own_lexemes ++ rest
-  lexed-own = ap (lex between) (sym from-start) ∙ lex-value own-tree.tree (bytes_of document span) past own ends-word
-
-  lexed : lex between document ≡ front ++ (own_lexemes ++ rest)
-  lexed = ap (lex between) (sym (take-append-drop span.start document)) ∙ place.cut (drop span.start document) ∙ ap (λ l. front ++ l) lexed-own
-
-  first : BeginsToken own_lexemes
-  first =
-      let b = begins-with-token own-tree.tree in
-      let f = begins fresh own_lexemes b.first b.others refl b.good (own ∙ b.is) in
-      record { first = f.first; rest = f.rest; is = f.lexed }
-
-  no-colon-own : begins_colon (own_lexemes ++ rest) ≡ false
-  no-colon-own = ap (λ l. begins_colon (l ++ rest)) first.is
-
-  alone : punctuate fresh (own_lexemes ++ rest) ≡ json_tokens own-tree.tree ++ follow
-  alone = value-again own-tree.tree own_lexemes rest (no-colon rest good-follow) own
-
-  begun : BeginsToken (lex between (drop span.start document))
-  begun = record { first = first.first; rest = first.rest ++ rest; is = lexed-own ∙ ap (λ l. l ++ rest) first.is }
-
-  module _ (top : IsTreeOf document d) where
-    whole : json_tokens top.tree ≡ cut.passed ++ punctuate cut.place (own_lexemes ++ rest)
-    whole = sym (append-nil (json_tokens top.tree)) ∙ sym top.spelled ∙ ap (punctuate fresh) lexed ∙ cut.two (own_lexemes ++ rest) no-colon-own
-
-    same : punctuate cut.place (own_lexemes ++ rest) ≡ json_tokens own-tree.tree ++ follow
-    same =
-        let b = begins-with-token own-tree.tree in
-        let ls = first.rest ++ rest in
-        let k = λ (next : Place). punctuate next ls in
-        let all : (p : Place) → punctuate p (own_lexemes ++ rest) ≡ place_token p first.first (begins_colon ls) k = λ p. ap (λ l. punctuate p (l ++ rest)) first.is ∙ at-token p first.first ls in
-        let placed : place_token fresh first.first (begins_colon ls) k ≡ b.first ∷ (b.others ++ follow) = sym (all fresh) ∙ alone ∙ ap (λ l. l ++ follow) b.is in
-        let fine : all_good (place_token cut.place first.first (begins_colon ls) k) ≡ true = ap all_good (sym (all cut.place)) ∙ good-rest cut.passed _ (ap all_good (sym whole) ∙ good-tree top.tree) in
-        all cut.place ∙ (same-place cut.place fresh k b.first (b.others ++ follow) b.good b.inner refl first.first (begins_colon ls) placed fine).same ∙ sym (all fresh) ∙ alone
-
-    has-hole : HasHole list name document at top.tree span
-    has-hole = record {
-      hole = found.hole;
-      value = own-tree.tree;
-      is = same-tree _ _ (whole ∙ ap (λ l. cut.passed ++ l) same ∙ ap₂ (λ f b. f ++ (json_tokens own-tree.tree ++ b)) found.front_is found.back_is ∙ sym (spells found.hole own-tree.tree));
-      member = is-member;
-      spelled = own;
-      next = cut.place;
-      front = λ ms k. cut.two ms k ∙ ap (λ f. f ++ punctuate cut.place ms) found.front_is;
-      begin = may-begin;
-      rest = found.back_is;
-      good = sym (ap all_good found.back_is) ∙ good-follow;
-      ends = ends-word;
-    }
-
--- ---- no two spans have the same place
-
-no-blank : (q b o s : Bool) → s ≡ false → is_blank (cond q quote (cond b backslash (cond o operator (cond s space other)))) ≡ false
-no-blank true b o s e = refl
-no-blank false true o s e = refl
-no-blank false false true s e = refl
-no-blank false false false true e = absurd (true≢false e)
-no-blank false false false false e = refl
-
-solid : (x : ℕ) → is_space x ≡ false → is_blank (class x) ≡ false
-solid x e = no-blank (x == 34) (x == 92) (is_operator x) (is_space x) e
-
-no-take : (n : ℕ) → ◌≡◌ {A = List ℕ} (take n []) []
-no-take zero = refl
-no-take (suc n) = refl
-
-take-split : (m n k : ℕ) (xs : List ℕ) → k ≡ m + n → take k xs ≡ take m xs ++ take n (drop m xs)
-take-split zero n k xs e = let same : k ≡ n = omega (arith, e) in ap (λ i. take i xs) same
-take-split (suc m) n zero xs e = absurd (omega (arith, e))
-take-split (suc m) n (suc k) [] e = sym (no-take n)
-take-split (suc m) n (suc k) (x ∷ xs) e = ap (λ l. x ∷ l) (take-split m n k xs (omega (arith, e)))
-
--- the same tokens cannot follow themselves
-never-longer : (before after : List Token) (t : Token) → after ≡ before ++ t ∷ after → ⊥
-never-longer before after t e = omega (arith, ap (λ (l : List Token). length l) e, length-append before (t ∷ after))
-
-tail-of : (t u : Token) (ts us : List Token) → t ∷ ts ≡ u ∷ us → ts ≡ us
-tail-of t u ts us e = cc (e)
-
--- after a token there is no place for the same value
-module _ (next later : Place) (u : Token) (more rest : List Lexeme) (after : List Token) (good : all_good after ≡ true) (begin : may_begin later ≡ true) where
-  no-place : punctuate next (token u ∷ (more ++ token null ∷ rest)) ≡ null ∷ after → punctuate after_value rest ≡ after → ⊥
-  no-place e follow =
-      let ls = more ++ token null ∷ rest in
-      let one = at-good next u ls (ap all_good e ∙ good) in
-      let here : punctuate one.next ls ≡ after = tail-of one.emits null _ after (sym (one.is (λ p. punctuate p ls)) ∙ sym (at-token next u ls) ∙ e) in
-      let cut = splits-at one.next more (token null ∷ rest) refl (ap all_good here ∙ good) in
-      let may = null-begins cut.place rest (good-rest cut.passed _ (sym (ap all_good cut.one) ∙ ap all_good here ∙ good)) in
-      never-longer cut.passed after null (sym here ∙ cut.one ∙ ap (λ l. cut.passed ++ l) (null-at cut.place rest may ∙ ap (λ l. null ∷ l) follow))
-
-module _ (list name document : List ℕ) (d : Data) (at : ℕ) (tree : json.Json) (one other : Span) (v w : Data) (p : IsPlaceOfMember list name document d at one) (q : IsPlaceOfMember list name document d at other) (a : HasHole list name document at tree one) (b : HasHole list name document at tree other)
-    (text : IsSpanOf document one v) (more : IsSpanOf document other w) (begun : BeginsToken (lex between (drop one.start document))) where
-  same-place-of : SameHole a.hole b.hole a.value b.value
-  same-place-of = same-hole list name at a.hole b.hole a.value b.value a.member b.member (sym a.is ∙ b.is)
-
-  not-later : one.start < other.start → ⊥
-  not-later later =
-      let n = other.start - (one.start + 1) in
-      let order = more.order in
-      let end = more.within in
-      let inside : one.start < length document = omega (arith, later, order, end) in
-      let x = get_or document one.start 0 in
-      let between_them = take n (drop (one.start + 1) document) in
-      let count : other.start - one.start ≡ suc n = omega (arith, later) in
-      let here : drop one.start document ≡ x ∷ drop (one.start + 1) document = drop_more document one.start 0 inside in
-      let far : other.start ≡ one.start + (other.start - one.start) = omega (arith, later) in
-      let split : take other.start document ≡ take one.start document ++ (x ∷ between_them) =
-      take-split one.start (other.start - one.start) other.start document far ∙ ap (λ l. take one.start document ++ l) (ap₂ (λ k l. take k l) count here) in
-      let token_here = same-token x (drop (one.start + 1) document) between_them begun.first begun.rest (solid x p.first) (sym (ap (lex between) here) ∙ begun.is) in
-      let rest = lex between (drop other.end document) in
-      let ls = token null ∷ rest in
-      let lexed : lex between (take other.start document) ++ ls ≡ lex between (take one.start document) ++ (token token_here.first ∷ (token_here.rest ++ ls)) =
-      ap (λ l. l ++ ls) (ap (lex between) split ∙ p.cut (x ∷ between_them) ∙ ap (λ l. lex between (take one.start document) ++ l) token_here.is) ∙ append_assoc (lex between (take one.start document)) (token token_here.first ∷ token_here.rest) ls in
-      let there = b.front ls refl ∙ ap (λ l. before b.hole ++ l) (null-at b.next rest b.begin ∙ ap (λ l. null ∷ l) b.rest) ∙ ap (λ h. before h ++ null ∷ after h) (sym same-place-of.hole) in
-      let both = sym (a.front (token token_here.first ∷ (token_here.rest ++ ls)) refl) ∙ ap (punctuate fresh) (sym lexed) ∙ there in
-      no-place a.next b.next token_here.first token_here.rest rest (after a.hole) a.good b.begin (append_cancel_left (before a.hole) _ _ both) (b.rest ∙ ap after (sym same-place-of.hole))
-
-  module _ (start : one.start ≡ other.start) where
-    not-longer : one.end < other.end → ⊥
-    not-longer longer =
-        let first = text.order in
-        let last = more.within in
-        let n = other.end - (one.end + 1) in
-        let own = bytes_of document one in
-        let rest = drop one.end document in
-        let y = get_or document one.end 0 in
-        let added = take (suc n) rest in
-        let inside : one.end < length document = omega (arith, longer, last) in
-        let here : rest ≡ y ∷ drop (one.end + 1) document = drop_more document one.end 0 inside in
-        let begins_with : added ≡ y ∷ take n (drop (one.end + 1) document) = ap (take (suc n)) here in
-        let ends : ends_word added ≡ true = ap ends_word begins_with ∙ sym (ap ends_word here) ∙ a.ends in
-        let count : other.end - other.start ≡ (one.end - one.start) + suc n = omega (arith, longer, start, first) in
-        let past : one.start + (one.end - one.start) ≡ one.end = omega (arith, first) in
-        let longer_text : bytes_of document other ≡ own ++ added =
-        ap (λ k. take (other.end - other.start) (drop k document)) (sym start) ∙ take-split (one.end - one.start) (suc n) (other.end - other.start) (drop one.start document) count
-        ∙ ap (λ l. own ++ take (suc n) l) (drop-drop (one.end - one.start) one.start document ∙ ap (λ k. drop k document) past) in
-        let uncolon : begins_colon (lex between added) ≡ false =
-        colon-front added (drop (suc n) rest) (ap (λ l. begins_colon (lex between l)) (take-append-drop (suc n) rest) ∙ no-colon (lex between rest) (ap all_good a.rest ∙ a.good)) in
-        let all = sym b.spelled ∙ ap tokens longer_text ∙ ap (punctuate fresh) (lex-value a.value own added a.spelled ends) ∙ value-again a.value (lex between own) (lex between added) uncolon a.spelled in
-        let none : punctuate after_value (lex between added) ≡ [] =
-        append_cancel_left (json_tokens a.value) _ _ (sym all ∙ ap json_tokens (sym same-place-of.value) ∙ sym (append-nil (json_tokens a.value))) in
-        let enough : n < length added = omega (arith, ap (λ (l : List ℕ). length l) begins_with, length-take (suc n) rest, length-drop one.end document, longer, last) in
-        let blank = all-blank added (none-left (lex between added) none) n enough in
-        let few : n < suc n = omega arith in
-        let where_is : one.end + n ≡ other.end - 1 = omega (arith, longer) in
-        let byte : get_or added n 0 ≡ get_or document (other.end - 1) 0 = get_or-take (suc n) rest n 0 few ∙ get_or-drop one.end document n 0 ∙ ap (λ k. get_or document k 0) where_is in
-        true≢false (sym blank ∙ ap (λ c. is_blank (class c)) byte ∙ solid (get_or document (other.end - 1) 0) q.last)
-
--- ---- the law
-
-eq_of_not-lt : (m n : ℕ) → (m < n → ⊥) → (n < m → ⊥) → m ≡ n
-eq_of_not-lt m n f g = omega (arith, f, g)
-
-module _ (list name document : List ℕ) (d : Data) (at : ℕ) (v w : Data) (json : IsJson document d) (within : at < length (members_of list name d)) (one other : Span) (p : IsPlaceOfMember list name document d at one) (q : IsPlaceOfMember list name document d at other)
+module _ (list name document : List ℕ) (d : Data) (json : IsJson document d) (at : ℕ) (within : at < length (members_of list name d)) (one other : Span) (v w : Data) (p : IsPlaceOfMember list name document d at one) (q : IsPlaceOfMember list name document d at other)
     (text : IsSpanOf document one v) (more : IsSpanOf document other w) where
   top : IsTreeOf document d
   top = tree-of document d json.1
 
-  a : HasHole list name document at top.tree one
-  a = has-hole list name document d at one v within p text top
-
-  b : HasHole list name document at top.tree other
-  b = has-hole list name document d at other w within q more top
-
-  start : one.start ≡ other.start
-  start = eq_of_not-lt one.start other.start (not-later list name document d at top.tree one other v w p q a b text more (begun list name document d at one v within p text)) (not-later list name document d at top.tree other one w v q p b a more text (begun list name document d at other w within q more))
-
-  end : one.end ≡ other.end
-  end = eq_of_not-lt one.end other.end (not-longer list name document d at top.tree one other v w p q a b text more (begun list name document d at one v within p text) start) (not-longer list name document d at top.tree other one w v q p b a more text (begun list name document d at other w within q more) (sym start))
-
-  pub one-place : one ≡ other
-  one-place = ap₂ (λ s e. record { start = s; end = e }) start end
+  one-place : one ≡ other
+  one-place =
+      let a = the-hole list name document d at one v within p text top in
+      let b = the-hole list name document d at other w within q more top in
+      let same = same-hole list name at a.hole b.hole a.value b.value (is-member list name document d at one v within p text top) (is-member list name document d at other w within q more top) (sym a.is ∙ b.is) in
+      one-span document top.tree one other (is-solid list name document d at one v within p text) (is-solid list name document d at other w within q more) _ _ _ _ a b same (begins-token list name document d at one v within p text) (begins-token list name document d at other w within q more)
 
 module _ (list name document : List ℕ) (d : Data) (json : IsJson document d) where
   abbrev IsPlace : ℕ → Span → Type 0
@@ -326,7 +63,7 @@ module _ (list name document : List ℕ) (d : Data) (json : IsJson document d) w
   same-list from (e ∷ elements) (None ∷ spans) (Some t ∷ others) have places had more count = absurd (cc (sym have.0 ∙ had.0.1))
   same-list from (e ∷ elements) (Some s ∷ spans) (None ∷ others) have places had more count = absurd (cc (sym had.0 ∙ have.0.1))
   same-list from (e ∷ elements) (Some s ∷ spans) (Some t ∷ others) have places had more count =
-      ap₂ (λ o l. Some o ∷ l) (one-place list name document d from have.0.0 had.0.0 json (omega (arith, count)) s t places.0 more.0 have.0.2 had.0.2)
+      ap₂ (λ o l. Some o ∷ l) (one-place list name document d json from (omega (arith, count)) s t have.0.0 had.0.0 places.0 more.0 have.0.2 had.0.2)
       (same-list (suc from) elements spans others have.1 places.1 had.1 more.1 (omega (arith, count)))
 
   -- the members of a name have one list of places

@@ -1,19 +1,25 @@
 -- A pair of documents in a line.
-use Rattle.std.proofs.Common.{◌≡◌, ◌∙◌, ℕ, ◌≤◌, length, true, false, cond, List, [], Option, None, Some, Result, Ok, Err, IfOk, IfSome, refl, sym, ap, subst, arith}
+use Rattle.std.proofs.Common.{◌≡◌, ◌∙◌, ℕ, ◌-◌, ◌≤◌, length, take, get_or, true, false, cond, List, [], Option, None, Some, option_map, option_and_then, Result, Ok, Err, IfOk, IfSome, refl, sym, ap, subst, arith, append-nil}
 use Rattle.std.specs.declared.alloc.AllocError.{AllocError}
+use Rattle.json.specs.Token.{Token}
+use Rattle.json.specs.Word.{is_space}
+use Rattle.json.specs.Lex.{between}
 use Rattle.json.specs.Json as json
-use Rattle.json.specs.Tree.{depth}
+use Rattle.json.specs.Tree.{depth, items_tokens}
 use Rattle.serde_json.specs.Data.{Data, number, array, object, no_items, item, no_members}
 use Rattle.serde_json.specs.Read.{max_depth, number_of, of_items, of_json, of_members}
 use Rattle.odb_doc.specs.Documents.{IsJson}
 use Rattle.odb_doc.specs.declared.fault.Place.{Place}
-use Rattle.odb_spans.specs.Parts.{GivesPair, HasValue, IsPairOf}
+use Rattle.odb_spans.specs.Parts.{GivesPair, HasValue, IsPairOf, LiesAt}
 use Rattle.odb_spans.specs.Positions.{ArePartsOf, BeginsInPair, BeginsInPart, IsTextAt, is_in_batch, pair}
-use Rattle.odb_spans.specs.Spans.{IsWithin}
+use Rattle.odb_spans.specs.Spans.{IsWithin, replaced}
 use Rattle.odb_spans.specs.Walks.{IsStart}
 use Rattle.odb_spans.specs.declared.span.Span.{Span}
 use Rattle.odb_spans.proofs.DataLemmas.{item-read, maps-to}
-use Rattle.odb_spans.proofs.ReadLemmas.{tree-of}
+use Rattle.odb_spans.proofs.EndLemmas.{ends-solid}
+use Rattle.odb_spans.proofs.FillLemmas.{BeginsWell, Literal, alone, begins-solid, begins-well-items, ends-within, in-array, in_array, null_literal, replaced-json, true_literal}
+use Rattle.odb_spans.proofs.FrontLemmas.{lex-front}
+use Rattle.odb_spans.proofs.ReadLemmas.{IsTreeOf, tree-of}
 use Rattle.odb_spans.proofs.WholeLemmas.{text-at, whole}
 
 -- ---- the two documents
@@ -42,6 +48,11 @@ pair-read one two d reads =
       more = second.reads;
       is = h.is ∙ ap array (first.is ∙ ap (item first.first) (second.is ∙ ap (item second.first) (sym none)));
     }
+
+pub two-reads : (one two : json.Json) (first second : Data) → of_json one ≡ Some first → of_json two ≡ Some second → of_json (json.array (two_items one two)) ≡ Some (pair first second)
+two-reads one two first second reads more =
+    ap (λ o. option_map array (option_and_then (λ d. option_map (item d) (of_items (json.item two json.no_items))) o)) reads
+    ∙ ap (λ o. option_map array (option_map (item first) (option_and_then (λ d. option_map (item d) (Some no_items)) o))) more
 
 -- the tree of a pair is an array of two
 pub record IsTreeOfPair (j : json.Json) : Type 0 where
@@ -82,7 +93,34 @@ module _ (line : List ℕ) (start : ℕ) (at : IsStart line start) where
       none two.one two.two (subst (λ j. HasValue line start j []) two.is (whole line start (pair batch second) top is.0 at))
 
   module _ (first second : Span) (order : first.end ≤ second.start) (is_pair : (j : json.Json) → HasValue line start j [] → IsPairOf line first second j) where
+    module _ (d : Data) (is : IsJson line d) where
+      top : IsTreeOf line d
+      top = tree-of line d is.1
+
+      found : IsPairOf line first second top.tree
+      found = is_pair top.tree (whole line start d top is.0 at)
+
+      abbrev after : List Token
+      after = items_tokens (json.item found.two json.no_items)
+
+      lies : LiesAt line first found.one after
+      lies = subst (LiesAt line first found.one) (append-nil after) found.first_lies
+
+      next : BeginsWell after
+      next = subst BeginsWell (append-nil after) (begins-well-items (json.item found.two json.no_items) [])
+
+      -- the line with a literal in the place of the first document
+      filled : (literal : Literal) (second : Data) → of_json found.two ≡ Some second → IsJson (replaced line first literal.word) (pair literal.value second)
+      filled literal second more =
+          let small : depth (json.array (two_items found.one found.two)) ≤ max_depth = subst (λ j. depth j ≤ max_depth) found.is top.shallow in
+          replaced-json line d first found.one after lies next is.0 (λ i. in_array json.no_items (json.item found.two json.no_items) i) (in-array json.no_items (json.item found.two json.no_items) (λ i. i) [] alone) top found.is literal (pair literal.value second)
+          (omega (arith, small, literal.flat)) (two-reads literal.tree found.two literal.value second literal.read more)
+
+      first-last : is_space (get_or line (first.end - 1) 0) ≡ false
+      first-last = ends-solid line first.start first.end (begins-solid line d first found.one after lies next is.0) lies.extent lies.some (ends-within line d first found.one after lies next is.0)
+
     pub parts : (d : Data) → IsJson line d → ArePartsOf line first second d
+    unfolding found top
     parts d is =
         let top = tree-of line d is.1 in
         let found = is_pair top.tree (whole line start d top is.0 at) in
@@ -95,6 +133,10 @@ module _ (line : List ℕ) (start : ℕ) (at : IsStart line start) where
           order = order;
           first_text = text-at line first found.one read.first found.first_text read.reads (omega (arith, shallow));
           other_text = text-at line second found.two read.second found.second_text read.more (omega (arith, shallow));
+          with_null = filled d is null_literal read.second read.more;
+          with_true = filled d is true_literal read.second read.more;
+          cut = λ more. lex-front between (take first.start line) more found.first_lies.clear;
+          last = first-last d is;
         }
 
     module _ (place : Place) (offset : ℕ) where

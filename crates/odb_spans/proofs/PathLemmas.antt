@@ -74,10 +74,10 @@ item-at (json.item i earlier) later (suc at) =
 
 -- ---- the place of the member
 
-record IsValueHole (hole : Hole) : Type 0 where
-  is : hole ≡ here
+pub record IsValueHole (hole : Hole) : Type 0 where
+  pub is : hole ≡ here
 
-in-value : (hole : Hole) → IsTrueValue (Some (fill hole (json.boolean true))) → IsValueHole hole
+pub in-value : (hole : Hole) → IsTrueValue (Some (fill hole (json.boolean true))) → IsValueHole hole
 in-value here t = record { is = refl }
 in-value (in_item earlier hole later) t =
     let js = append_items earlier (json.item (fill hole (json.boolean true)) later) in

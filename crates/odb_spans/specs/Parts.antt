@@ -304,6 +304,7 @@ pub record IsPairOf (text : List ℕ) (first second : Span) (j : json.Json) : Ty
   pub is : j ≡ json.array (json.item one (json.item two json.no_items))
   pub first_text : IsTextOf text first one
   pub second_text : IsTextOf text second two
+  pub first_lies : LiesAt text first one (items_tokens (json.item two json.no_items) ++ [])
 
 -- the two documents of a pair whose array begins there
 abbrev pub GivesPair : List ℕ → ℕ → Option (Span × Span) → Type 0

@@ -1,6 +1,7 @@
 -- Where the element that a place names begins in a document: what the public clauses cite.
-use Rattle.std.specs.Prelude.{◌≡◌, ◌≤◌, ◌<◌, ◌+◌, ◌-◌, ◌==◌, ◌||◌, ℕ, Bool, true, false, cond, List, length, take, get_or, set, slice_get, Option, Some, None, nat_lt, nat_le, count_by, codes}
+use Rattle.std.specs.Prelude.{◌≡◌, ◌≤◌, ◌<◌, ◌+◌, ◌-◌, ◌==◌, ◌||◌, ℕ, Bool, true, false, cond, List, ◌++◌, length, take, get_or, set, slice_get, Option, Some, None, nat_lt, nat_le, count_by, codes}
 use Rattle.std.specs.List.{after_last}
+use Rattle.json.specs.Lex.{between, lex}
 use Rattle.json.specs.Word.{is_space}
 use Rattle.serde_json.specs.Data.{Data, null, boolean, array, item, no_items}
 use Rattle.odb_doc.specs.Documents.{IsJson}
@@ -79,7 +80,7 @@ pub record Stands (document : List ℕ) (place : Place) (position : Position) : 
 abbrev pub pair : Data → Data → Data
 pair batch second = array (item batch (item second no_items))
 
--- the value is a pair, whose two documents lie at these spans of the line, one after the other
+-- The value is a pair, whose two documents lie at these spans of the line, one after the other. With `null` in the place of the first it is a pair of null and the second, and so with `true`. No token goes over the start of the first, whatever comes there, and it ends with no blank.
 pub record ArePartsOf (line : List ℕ) (first other : Span) (d : Data) : Type 0 where
   pub batch : Data
   pub second : Data
@@ -87,6 +88,10 @@ pub record ArePartsOf (line : List ℕ) (first other : Span) (d : Data) : Type 0
   pub order : first.end ≤ other.start
   pub first_text : IsTextAt line first batch
   pub other_text : IsTextAt line other second
+  pub with_null : IsJson (replaced line first (codes "null")) (pair null second)
+  pub with_true : IsJson (replaced line first (codes "true")) (pair (boolean true) second)
+  pub cut : (text : List ℕ) → lex between (take first.start line ++ text) ≡ lex between (take first.start line) ++ lex between text
+  pub last : is_space (get_or line (first.end - 1) 0) ≡ false
 
 -- the place is in the batch, not in the second document
 abbrev pub is_in_batch : Place → Bool

@@ -1,13 +1,14 @@
-//! What holds of the places of all members of a name.
+//! What holds of the places of members and documents: there is one of each.
 //!
-//! The law is a clause of a function that changes nothing. It speaks of the words that the clauses of [`crate::members_in`] and
-//! [`crate::bodies_in`] use.
+//! The laws are clauses of functions that change nothing. They speak of the words that the clauses of [`crate::members_in`],
+//! [`crate::bodies_in`] and [`crate::documents_in`] use.
 
 ghost use Rattle.std.specs.Prelude.{◌≡◌, ℕ, List, Option};
 ghost use Rattle.std.specs.List.{AllZip};
 ghost use Rattle.serde_json.specs.Data.{Data};
 ghost use Rattle.odb_doc.specs.Documents.{IsJson};
 ghost use Rattle.odb_doc.specs.Members.{elements_at};
+ghost use Rattle.odb_spans.specs.Positions.{ArePartsOf};
 ghost use Rattle.odb_spans.specs.Spans.{EachSpan, HasMemberAt, IsPlaceOfMember};
 ghost use Rattle.odb_spans.specs.declared.span.Span.{Span};
 
@@ -19,4 +20,10 @@ pub fn one_place()
         → EachSpan (IsPlaceOfMember list name document d) 0 spans
         → AllZip (HasMemberAt name document) (elements_at list d) others
         → EachSpan (IsPlaceOfMember list name document d) 0 others → spans ≡ others }
+{}
+
+/// The first of the two documents in a line lies in one place: its bytes are determined by those of the line.
+pub fn one_pair()
+    ensures { (line : List ℕ) (d : Data) (first second other another : Span) → IsJson line d
+        → ArePartsOf line first second d → ArePartsOf line other another d → first ≡ other }
 {}

@@ -1,7 +1,8 @@
-use Rattle.std.proofs.Common.{◌≡◌, ◌∙◌, [], refl, sym, ap, subst, arith}
+use Rattle.std.proofs.Common.{◌≡◌, ◌∙◌, ◌++◌, [], refl, sym, ap, subst, arith}
 use Rattle.std.proofs.lemmas.Bool.{true≢false}
 use Rattle.json.specs.Json as json
-use Rattle.odb_spans.specs.Parts.{GivesPair}
+use Rattle.json.specs.Tree.{items_tokens}
+use Rattle.odb_spans.specs.Parts.{GivesPair, LiesAt}
 use Rattle.odb_spans.proofs.BracketLemmas.{array-at, array-byte}
 use Rattle.odb_spans.proofs.PartLemmas.{value-within}
 use Rattle.odb_spans.proofs.locate.pair_in.Goals as goal
@@ -66,5 +67,6 @@ returns-in-None c =
             is = array-of-two j array.inner first.others next.others first.value next.value array.is first.is next.is none;
             first_text = first.text_of;
             second_text = next.text_of;
+            first_lies = subst (λ js. LiesAt c.args.line.now c.in_ok-batch.batch first.value (items_tokens js ++ [])) (next.is ∙ ap (json.item next.value) none) first.lies;
           }),
     )
