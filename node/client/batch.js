@@ -199,11 +199,7 @@ class Batch {
     const { mode, limit } = requireOptions(options, OF_SEND)
     if (typeof post !== 'function') throw new TypeError('what posts a batch must be a function')
     const parts = withDetails(() => new Parts(this.document(), { mode, limit }))
-    const sendPart = async (body) => readAnswer(await post({ method: 'POST', headers: batchHeaders(mode), body }))
-    for (let body; (body = parts.next()) !== undefined; ) {
-      const answer = await sendPart(body).catch((error) => parts.fail(error))
-      if (answer !== undefined) parts.take(answer)
-    }
+    await parts.send(async (body) => readAnswer(await post({ method: 'POST', headers: batchHeaders(mode), body })))
     const requests = new Map(this.#requests.map((request) => [request.id, request]))
     const sent = { document: parts.document, requests, findName: (named) => Named.nameIn(this.#origin, named) }
     return new Results(sent, parts.answers, () => this.#readRest(restDocument(parts.document, parts.responses())), parts)

@@ -1,80 +1,50 @@
 'use strict'
 
-// A batch on its way in parts: which part is next, and what its requests are answered. It does not send.
+// A batch that is sent in parts, which the library makes.
 
-const { check, match, plan } = require('../calls/commands.js')
-const { MAX_REQUESTS, optionNumbers } = require('../calls/options.js')
-const { requests } = require('../calls/requests.js')
-const { writeBatch, writeRequest } = require('../documents/batch_text.js')
+const { match, rest } = require('../calls/commands.js')
+const { MAX_REQUESTS } = require('../calls/options.js')
+const { openListed } = require('../calls/run.js')
 const { bodyBytes, documentBytes } = require('../documents/bytes.js')
 const { readResponses } = require('../documents/responses.js')
-const { Fault } = require('../errors/faults.js')
+const { Fault, Refused } = require('../errors/faults.js')
 const { Refusal, badGateway, toRefusal } = require('../errors/refusals.js')
 const { isSuccess } = require('../http/messages.js')
 const { skipMark } = require('../http/bodies.js')
 const { References } = require('../http/references.js')
-const { firstSegment } = require('../http/urls.js')
+const { replaceHeaders } = require('./rest.js')
 
 // What a request is answered that was not sent, or left out by a service that stops.
 const SKIPPED = { status: 424, headers: {}, body: Buffer.alloc(0) }
-
-/** The bytes of a body, as they are on the wire. */
-function wireBytes(body) {
-  return Buffer.from(typeof body === 'string' ? body : bodyBytes(body))
-}
+// What is recorded of a request that is not sent any more: neither it nor what depends on it is left then.
+const SETTLED = 400
+// What stands for a status that may not be reported.
+const BROKEN = 502
+// The library reads a batch for each part of it. One with more requests is cut into longer parts first, each a batch of its own.
+const MANY = 1000
 
 /** The bytes of a response document, without the mark that a text may begin with. */
 function responseBytes(body) {
   return skipMark(Buffer.from(documentBytes(body)))
 }
 
-/**
- * Whether a URL may take the place of a reference: it does not begin with `$`, and does not lead to a `$batch`. It comes from a
- * service, which may send anything.
- */
-function isUsableUrl(url) {
-  try {
-    return !firstSegment(url).startsWith('$') && check({ requests: [{ id: 'a', method: 'get', url }] }).requests === 1
-  } catch (error) {
-    if (error instanceof Fault) return false
-    throw error
-  }
+/** An answer with the bytes of its body, as they are on the wire. */
+function onWire({ status, headers, body }) {
+  return { status, headers, body: Buffer.from(typeof body === 'string' ? body : bodyBytes(body)) }
 }
 
-/**
- * The units of a plan: groups, and requests without one, each with the ids of its requests in order, and the numbers of the
- * units that these depend on, which are earlier ones.
- */
-function groupUnits(planned) {
-  const units = []
-  const numbers = new Map()
-  for (const { id, group, needs } of planned) {
-    if (group === null || units.at(-1)?.group !== group) units.push({ group, ids: [], needs: new Set() })
-    const [unit, number] = [units.at(-1), units.length - 1]
-    unit.ids.push(id)
-    for (const name of [id, group ?? id]) numbers.set(name, number)
-    for (const name of needs) if (numbers.get(name) !== number) unit.needs.add(numbers.get(name))
+/** The ids of each unit, by the name of the group or the id of a request without one; or a RangeError for a group that is too long. */
+function unitsOf(groups, limit) {
+  const units = new Map()
+  for (const [id, group] of groups) {
+    const name = group ?? id
+    if (units.has(name)) units.get(name).push(id)
+    else units.set(name, [id])
+  }
+  for (const [group, { length }] of units) {
+    if (length > limit) throw new RangeError(`the group ${group} has ${length} requests, and a batch may have ${limit}`)
   }
   return units
-}
-
-/** Throws unless a part may have as many requests as a limit, and each of some units has a place in it. */
-function requireLimit(limit, units) {
-  if (!Number.isInteger(limit) || limit < 1 || limit > MAX_REQUESTS) {
-    throw new RangeError(`limit must be a whole number from 1 to ${MAX_REQUESTS}, not ${String(limit)}`)
-  }
-  const { group, ids } = units.find((unit) => unit.ids.length > limit) ?? {}
-  if (ids) throw new RangeError(`the group ${group} has ${ids.length} requests, and a batch may have ${limit}`)
-}
-
-/**
- * Whether a service stops at what it has answered a unit: at a status from 400 to 599. 424 is one only if it does not come from
- * another request, which has failed in the unit or has had the unit skipped.
- */
-function isError(answers, isSkipped) {
-  const failed = answers.filter((answer) => !isSuccess(answer))
-  const others = failed.filter(({ status }) => status !== SKIPPED.status)
-  return others.some(({ status }) => status >= 400) || (failed.length > 0 && others.length === 0 && !isSkipped)
 }
 
 class Parts {
@@ -86,131 +56,206 @@ class Parts {
   error
   #limit
   #mode
-  #needs
+  // How many requests a part has, which may be one that is cut again.
+  #most
+  // What is left of the batch since something could not be sent, its requests, and its run.
+  #left
+  #requests
+  #run
+  #groups
   #units
   #references
-  // The number of the next unit, and of those that have succeeded or are in the part that is out.
-  #at = 0
-  #sound = new Set()
-  // The part that is out, and the numbers of its units.
+  // The part that is out; the requests that are not sent any more, and whether what is left has some that never were.
   #part
-  #out = []
+  #settled = new Set()
+  #isToCut = false
   #isStopped = false
 
   /** Throws a Fault for a batch that is refused, and a RangeError for a limit that cannot be kept. */
   constructor(document, { limit = MAX_REQUESTS, mode = 'continue' }) {
-    optionNumbers({ mode })
-    const planned = plan(document)
-    this.#units = groupUnits(planned)
-    requireLimit(limit, this.#units)
+    if (!Number.isInteger(limit) || limit < 1 || limit > MAX_REQUESTS) {
+      throw new RangeError(`limit must be a whole number from 1 to ${MAX_REQUESTS}, not ${String(limit)}`)
+    }
     this.#limit = limit
     this.#mode = mode
     this.document = document
-    this.#needs = new Map(planned.map(({ id, needs }) => [id, needs]))
-    this.#references = new References(requests(document))
-    this.answers = new Map(planned.map(({ id }) => [id, SKIPPED]))
+    this.#open(document)
+    this.#groups = new Map(this.#requests.map(({ id, group }) => [id, group]))
+    const count = this.#groups.size
+    this.#most = count <= Math.max(MANY, 4 * limit) ? limit : Math.floor(Math.sqrt(count * limit))
+    this.#units = unitsOf(this.#groups, limit)
+    this.#references = new References(this.#requests)
+    this.answers = new Map(this.#requests.map(({ id }) => [id, SKIPPED]))
   }
 
-  /** The next part, or undefined if nothing more is to be sent. */
-  next() {
-    const [texts, names] = [[], new Set()]
-    this.#out = []
-    for (; this.#at < this.#units.length && !this.#isStopped; this.#at++) {
-      const unit = this.#units[this.#at]
-      if (![...unit.needs].every((number) => this.#sound.has(number))) continue
-      if (texts.length + unit.ids.length > this.#limit) break
-      const added = this.#writeUnit(unit, names)
-      if (added instanceof Refusal) {
-        if (texts.length > 0) break // what comes before it is sent first
-        this.#note(this.#at, this.#repeat(unit.ids, added.answer))
-        names.clear()
-      } else {
-        texts.push(...added)
-        this.#out.push(this.#at)
-        this.#sound.add(this.#at)
+  #open(document) {
+    this.#left = document
+    const { run, requests } = openListed(document, { mode: this.#mode })
+    this.#run = run
+    this.#requests = requests
+  }
+
+  /** Sends the batch; `post` is fulfilled with what a document is answered. */
+  async send(post) {
+    try {
+      while (this.#next()) await (this.#part.ids.length > this.#limit ? this.#sendParts(post) : this.#sendPart(post))
+    } finally {
+      this.#run.close()
+    }
+  }
+
+  async #sendPart(post) {
+    const answer = await post(this.#part.document).catch((error) => this.#fail(error))
+    if (answer !== undefined) this.#take(answer)
+  }
+
+  async #sendParts(post) {
+    const parts = new Parts(this.#part.document, { limit: this.#limit, mode: this.#mode })
+    await parts.send(post)
+    this.error = parts.error
+    this.#isStopped = parts.#isStopped
+    this.#settle(parts.answers)
+  }
+
+  /** Makes the next part; false if nothing more is to be sent. */
+  #next() {
+    while (!this.#isStopped) {
+      try {
+        if (this.#isToCut) this.#cut()
+        const part = this.#run.part(this.#left, this.#most)
+        if (part === null) return false
+        // In one part the batch is sent as it is.
+        const document = this.#replaceTags(part.ids, part.ids.length < this.answers.size ? part.document : this.document)
+        this.#part = { document, ids: part.ids }
+        if (!this.#isToCut) return true
+      } catch (error) {
+        if (!(error instanceof Fault)) throw error
+        this.#refuseFrom(Number(error.place.split('/').at(-1)))
       }
     }
-    this.#part = writeBatch(texts)
-    return texts.length > 0 ? this.#part : undefined
+    return false
+  }
+
+  /** A part with ETags in place of references to requests that it does not have. If there is none, its request is refused. */
+  #replaceTags(ids, document) {
+    const inside = new Set(ids)
+    const headers = new Map()
+    for (const id of ids.filter((request) => this.#references.hasTags(request))) {
+      try {
+        headers.set(id, this.#references.headers(id, inside))
+      } catch (error) {
+        if (!(error instanceof Refusal)) throw error
+        this.#refuse(id, error.answer)
+        break
+      }
+    }
+    return headers.size > 0 ? replaceHeaders(document, headers) : document
   }
 
   /**
-   * The texts of the requests of a unit, or the refusal of a reference that stands for nothing; adds its names to those of the
-   * part. What the part does not have has succeeded, so that it is not depended on, and references to it are replaced.
+   * Answers the request at a position of what is left, which refers to what has no URL that it may have; in mode continue also all
+   * after it that refer to what has no URL at all.
    */
-  #writeUnit({ group, ids }, names) {
-    for (const name of [...ids, group ?? ids[0]]) names.add(name)
-    try {
-      return ids.map((id) => writeRequest(this.#member(id, names), this.#needs.get(id).filter((name) => names.has(name))))
-    } catch (error) {
-      if (error instanceof Refusal) return error
-      throw error
+  #refuseFrom(position) {
+    const [first, ...others] = this.#requests.slice(position)
+    const lacks = (id) => isSuccess(this.answers.get(id)) && this.#recorded(id).headers.location === undefined
+    const alike = this.#mode === 'stop' ? [] : others.filter(({ reference }) => reference !== null && lacks(reference))
+    for (const { id, reference } of [first, ...alike]) {
+      const message = `${reference} was answered without a URL that ${id} may have`
+      this.#refuse(id, new Refusal(424, 'NoLocation', message, { target: reference }).answer)
     }
   }
 
-  #member(id, names) {
-    const { reference } = this.#references.of(id)
-    const member = this.#references.member(id, names)
-    if (reference === null || names.has(reference) || isUsableUrl(member.url)) return member
-    const message = `${reference} was answered with a URL that cannot be used`
-    throw new Refusal(424, 'NoLocation', message, { target: reference })
+  /** Answers a request that cannot be sent, and its group. In mode stop nothing is sent that comes after it. */
+  #refuse(id, answer) {
+    const ids = this.#units.get(this.#groups.get(id) ?? id)
+    for (const other of ids) this.answers.set(other, onWire(answer))
+    const all = [...this.#groups.keys()]
+    for (const other of this.#mode === 'stop' ? [...ids, ...all.slice(all.indexOf(id))] : ids) this.#settled.add(other)
+    this.#isToCut = true
+  }
+
+  /** Leaves out what is not sent any more, and what depends on that. */
+  #cut() {
+    const isOver = ({ id, status }) => this.#settled.has(id) && !isSuccess({ status })
+    const recorded = this.#requests.map(({ id }) => this.#recorded(id))
+    const left = rest(this.#left, { responses: recorded.map((response) => (isOver(response) ? { ...response, status: SETTLED } : response)) })
+    this.#run.close()
+    this.#open(left)
+    this.#isToCut = false
   }
 
   /** Takes what the part that is out was answered. */
-  take({ status, headers, body }) {
-    if (!isSuccess({ status })) {
-      this.#end({ status, headers, body })
+  #take(answer) {
+    if (!isSuccess(answer)) {
+      this.#end(answer)
       return
     }
     let found
     try {
-      const text = responseBytes(body)
-      match(this.#part, text, { mode: this.#mode })
+      const text = responseBytes(answer.body)
+      match(this.#part.document, text, { mode: this.#mode })
       found = readResponses(text)
     } catch (error) {
-      this.fail(error)
+      this.#fail(error)
       return
     }
-    for (const number of this.#out) this.#note(number, found)
+    this.#settle(found)
   }
 
   /** Takes the exception by which the part that is out was not answered. */
-  fail(error) {
+  #fail(error) {
     this.error = error
     this.#end(toRefusal(error, badGateway).answer)
   }
 
-  /** The responses to the whole batch, as `match` accepts them: statuses, and of what others refer to the URL and the ETag. */
-  responses() {
-    const responses = Array.from(this.answers, ([id, { status }]) => {
-      return { id, status, atomicityGroup: this.#references.of(id).group, headers: this.#references.recorded(id) }
-    })
-    return { responses }
-  }
-
   /** Gives each request of the part that is out the same answer. Nothing more is sent. */
   #end(answer) {
-    for (const number of this.#out) this.#note(number, this.#repeat(this.#units[number].ids, answer))
+    const same = onWire(answer)
     this.#isStopped = true
+    this.#settle(new Map(this.#part.ids.map((id) => [id, same])))
   }
 
-  /** The same answer to each of some requests. */
-  #repeat(ids, { status, headers, body }) {
-    const answer = { status, headers, body: wireBytes(body) }
-    return new Map(ids.map((id) => [id, answer]))
-  }
-
-  /** Notes what the requests of a unit were answered; one without an answer was skipped. */
-  #note(number, answers) {
-    const { ids, needs } = this.#units[number]
-    for (const id of ids) {
-      const answer = answers.get(id) ?? SKIPPED
-      this.answers.set(id, answer)
-      if (!isSuccess(answer)) this.#sound.delete(number)
-      else if (this.#references.referred.has(id)) this.#references.keep(id, answer.headers, answer.body)
+  /** Notes what the requests of the part that is out were answered, and reports it; one without an answer was skipped. */
+  #settle(found) {
+    const names = new Set(this.#part.ids.map((id) => this.#groups.get(id) ?? id))
+    for (const ids of Array.from(names, (name) => this.#units.get(name))) {
+      for (const id of ids) {
+        const answer = found.get(id) ?? SKIPPED
+        this.answers.set(id, answer)
+        this.#settled.add(id)
+        if (isSuccess(answer) && this.#references.referred.has(id)) this.#references.keep(id, answer.headers, answer.body)
+      }
+      if (!this.#isStopped) this.#report(ids)
     }
-    const isSkipped = [...needs].some((unit) => !this.#sound.has(unit))
-    this.#isStopped ||= this.#mode === 'stop' && isError(ids.map((id) => this.answers.get(id)), isSkipped)
+  }
+
+  /** Reports what the requests of a unit were answered, unless it was skipped, since what it needs has failed. */
+  #report(ids) {
+    const recorded = ids.map((id) => this.#recorded(id))
+    const failed = recorded.filter((response) => !isSuccess(response)).map(({ status }) => status)
+    try {
+      this.#run.startUnit(ids[0])
+    } catch (error) {
+      if (error instanceof Refused) return
+      throw error
+    }
+    for (const { id, status, headers } of recorded) {
+      // A 424 beside a 3xx is no error: it is that of a member that was undone.
+      const reported = status === SKIPPED.status ? Math.min(...failed) : status
+      this.#run.report(id, reported < 200 ? BROKEN : reported, headers)
+    }
+  }
+
+  /** The response to a request, with the URL and the ETag of what others refer to as headers. */
+  #recorded(id) {
+    const { status } = this.answers.get(id)
+    return { id, status, atomicityGroup: this.#groups.get(id), headers: this.#references.recorded(id) }
+  }
+
+  /** The responses to the whole batch, as `match` accepts them: statuses, and of what others refer to the URL and the ETag. */
+  responses() {
+    return { responses: Array.from(this.answers.keys(), (id) => this.#recorded(id)) }
   }
 }
 

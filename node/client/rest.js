@@ -26,17 +26,25 @@ function findRest(document, responses, recorded) {
   }
 }
 
-/** A request of the rest without references to ETags of what is not in it. */
-function resolveTags(request, ids, recorded) {
-  const headers = { ...request.headers }
+/** The headers of a request of the rest without references to ETags of what is not in it. */
+function resolveTags({ id, headers: given }, ids, recorded) {
+  const headers = { ...given }
   for (const name of OF_ETAGS) {
     const referred = headers[name]?.startsWith('$') ? headers[name].slice(1) : undefined
     if (!recorded.has(referred) || ids.has(referred)) continue
     const { etag } = recorded.get(referred)
-    if (etag === undefined) throw new RangeError(`${request.id} refers to ${referred}, which was answered without an ETag`)
+    if (etag === undefined) throw new RangeError(`${id} refers to ${referred}, which was answered without an ETag`)
     headers[name] = etag
   }
-  return { ...request, headers }
+  return headers
+}
+
+/** A batch in which requests have other headers, by their ids. */
+function replaceHeaders(document, headers) {
+  const planned = plan(document)
+  return writeBatch(requests(document).map((request, at) => {
+    return writeRequest({ ...request, headers: headers.get(request.id) ?? request.headers }, planned[at].needs)
+  }))
 }
 
 /**
@@ -46,9 +54,9 @@ function resolveTags(request, ids, recorded) {
 function restDocument(document, responses) {
   const recorded = new Map(responses.responses.map(({ id, headers }) => [id, headers]))
   const left = findRest(document, responses, recorded)
-  const planned = plan(left)
-  const ids = new Set(planned.map(({ id }) => id))
-  return writeBatch(requests(left).map((request, at) => writeRequest(resolveTags(request, ids, recorded), planned[at].needs)))
+  const given = requests(left)
+  const ids = new Set(given.map(({ id }) => id))
+  return replaceHeaders(left, new Map(given.map((request) => [request.id, resolveTags(request, ids, recorded)])))
 }
 
-module.exports = { restDocument }
+module.exports = { replaceHeaders, restDocument }

@@ -82,7 +82,7 @@ class References {
   prepare(id) {
     const request = this.#requests.get(id)
     const { method, group, body } = request
-    const [headers, url] = [this.#headersOf(request), this.url(id)]
+    const [headers, url] = [this.headers(id), this.url(id)]
     if (body === undefined) return { id, method, url, headers, body, group }
     headers['content-type'] ??= 'application/json'
     return { id, method, url, headers, body: toWire(body, headers), group }
@@ -99,17 +99,16 @@ class References {
   }
 
   /** The headers of a request with ETags in place of references, but for those to the ids that are kept; or a refusal. */
-  #headersOf({ headers }, kept = NONE) {
+  headers(id, kept = NONE) {
+    const { headers } = this.of(id)
     const found = { ...headers }
-    for (const [name, id] of this.#tagged(headers)) if (!kept.has(id)) found[name] = this.#tagOf(id)
+    for (const [name, other] of this.#tagged(headers)) if (!kept.has(other)) found[name] = this.#tagOf(other)
     return found
   }
 
-  /** A request as it is in a batch with the requests of these ids: references to others are replaced; or a refusal. */
-  member(id, ids) {
-    const request = this.of(id)
-    const headers = this.#headersOf(request, ids)
-    return { ...request, headers, url: ids.has(request.reference) ? request.url : this.url(id) }
+  /** Whether the headers of a request refer to ETags. */
+  hasTags(id) {
+    return this.#tagged(this.of(id).headers).length > 0
   }
 
   /** What returns the URL of a request that others refer to. It is kept, so that a long chain of them needs no deep stack. */

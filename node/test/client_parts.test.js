@@ -196,6 +196,25 @@ test('replaces references to earlier parts', async () => {
   }
 })
 
+test('cuts more than a thousand requests into longer parts first', async () => {
+  const requests = Array.from({ length: 1200 }, (_, at) => {
+    const [id, before] = [`r${at}`, `r${at - 1}`]
+    return at % 3 === 0 ? [id, 'post', 'A'] : [id, 'get', at % 3 === 1 ? `$${before}/B` : 'C', { dependsOn: [before] }]
+  })
+  const document = described(...requests)
+  const answeredBy = (statusOf) => locatedOf({ outcomes: document.requests.map(({ id }, at) => ({ id, status: statusOf(at) })) })
+  const outcomes = answeredBy((at) => (at % 300 === 0 ? 404 : 200))
+  for (const mode of ['continue', 'stop']) {
+    const whole = match(document, replay(document, { outcomes }, { mode }).response)
+    const { statuses, parts } = await inParts(document, outcomes, { mode, limit: 50 })
+    assert.deepEqual(statuses, whole)
+    assert.deepEqual(parts.map(({ length }) => length).filter((length) => length > 50), [])
+  }
+  const busy = () => ({ status: 503 })
+  const { statuses, parts } = await inParts(document, answeredBy(() => 200), { limit: 50, script: [undefined, busy] })
+  assert.deepEqual([parts.length, new Set([...statuses.values()].slice(50))], [2, new Set([503, 424])])
+})
+
 test('sends what comes before a request that cannot be sent, and what comes after it', async () => {
   const document = described(
     ['a', 'post'], ['b'], ['c'], ['d', 'get', '$a/Lines', { dependsOn: ['a'] }], ['e', 'get', 'A', { dependsOn: ['c'] }],
@@ -203,7 +222,7 @@ test('sends what comes before a request that cannot be sent, and what comes afte
   )
   const outcomes = document.requests.map(({ id }) => ({ id, status: 200 }))
   const { statuses, results, parts } = await inParts(document, outcomes, { limit: 2 })
-  assert.deepEqual(parts.map((part) => part.map(({ id }) => id)), [['a', 'b'], ['c'], ['e']])
+  assert.deepEqual(parts.map((part) => part.map(({ id }) => id)), [['a', 'b'], ['c', 'e']])
   assert.deepEqual([...statuses.values()], [200, 200, 200, 424, 200, 400])
   assert.equal(results.get('f').json().error.code, 'NoETag')
 })
@@ -236,7 +255,7 @@ test('takes ten thousand requests, each of which refers to the one before', asyn
     return { status: 200, body: { responses: requests.map(({ id }) => ({ id, status: 200, headers: { Location: `/B(${id})` } })) } }
   }
   const begun = process.cpuUsage()
-  for (const limit of [10000, 9999]) {
+  for (const limit of [10000, 9999, 1000]) {
     const results = await batch.send(post, { limit })
     assert(Array.from(results).every(({ ok }) => ok))
   }

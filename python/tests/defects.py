@@ -79,10 +79,10 @@ DEFECTS = {
     "parts-of-any-length": ("client/_parts", "self._run.part(self._left, self._most)", "self._run.part(self._left, 10_000)", SENDING, "as_many"),
     "longer-parts-as-they-are": ("client/_parts", "if len(self._part.ids) > self._limit:", "if False:", SENDING, "longer_parts"),
     "a-refusal-before-its-turn": (
-        "client/_parts", "given[given.index(request_id) :] if", "given if", SENDING, "stands_for_nothing",
+        "client/_parts", "itertools.dropwhile(request_id.__ne__, self._groups)", "self._groups", SENDING, "stand_for_nothing",
     ),
     "a-stop-that-goes-on": ("client/_parts", "document, ListedRun(document, mode=mode)", "document, ListedRun(document)", SENDING, "error_in_mode_stop"),
-    "what-comes-after-a-refusal": ("client/_parts", 'if self._mode == "stop" else ()', "if False else ()", SENDING, "stands_for_nothing"),
+    "what-comes-after-a-refusal": ("client/_parts", 'if self._mode == "stop":\n            self._settled', "if False:\n            self._settled", SENDING, "stand_for_nothing"),
     "each-424-stops": ("client/_parts", "min(failed) if answer.status == 424 else answer.status", "answer.status", SENDING, "no_error_in_mode_stop"),
     "a-part-after-a-refusal": ("client/_parts", "self._is_stopped = True\n", "pass\n", SENDING, "answer_to_the_whole"),
     "responses-to-something-else": ("client/_parts", "match(self._part.document, text, mode=self._mode)", "pass", SENDING, "not_the_response"),

@@ -1,6 +1,7 @@
 """A batch that is sent in parts, which the library makes."""
 
 import contextlib
+import itertools
 import math
 from collections import defaultdict
 from typing import Awaitable, Callable, Mapping, Optional
@@ -60,7 +61,7 @@ class Parts:
         self._part, self._settled, self._is_to_cut = Part(b"", ()), set[str](), False
         self._is_stopped = False
         count = len(self._groups)
-        self._most = limit if count <= _MANY else max(limit, math.isqrt(count * limit))
+        self._most = limit if count <= max(_MANY, 4 * limit) else math.isqrt(count * limit)
 
     async def send(self, post: Callable[[bytes], Awaitable[Posted]]) -> None:
         """Sends the batch.
@@ -118,18 +119,20 @@ class Parts:
         """Answers the request at a position of what is left, which refers to what has no URL that it may have; in mode continue
         also all after it that refer to what has no URL at all."""
         first, *others = self._run.requests[position:]
-        lacking = {name for name in self._resolver.referred if "location" not in self._recorded(name).headers}
-        for request in (first, *(others if self._mode == "continue" else ())):
-            if request.reference is not None and (request is first or request.reference in lacking & self._settled):
-                message = f"{request.reference} was answered without a URL that {request.id} may have"
-                self._refuse(request.id, Refusal(424, "NoLocation", message, request.reference).answer)
+        done = (name for name in self._resolver.referred if self.answers[name].is_success)
+        lacking = {name for name in done if "location" not in self._recorded(name).headers}
+        alike = [request for request in others if request.reference in lacking] if self._mode == "continue" else []
+        for request in (first, *alike):
+            message = f"{request.reference} was answered without a URL that {request.id} may have"
+            self._refuse(request.id, Refusal(424, "NoLocation", message, request.reference).answer)
 
     def _refuse(self, request_id: str, answer: Answer) -> None:
         """Answers a request that cannot be sent, and its group. In mode stop nothing is sent that comes after it."""
         ids = self._units[self._groups[request_id] or request_id]
         self.answers.update(dict.fromkeys(ids, answer))
-        given = list(self._groups)
-        self._settled.update(ids, given[given.index(request_id) :] if self._mode == "stop" else ())
+        self._settled.update(ids)
+        if self._mode == "stop":
+            self._settled.update(itertools.dropwhile(request_id.__ne__, self._groups))
         self._is_to_cut = True
 
     def _cut(self) -> None:
