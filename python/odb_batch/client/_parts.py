@@ -161,7 +161,7 @@ class Parts:
     def _fail(self, error: Exception) -> None:
         """Takes the exception by which the part that is out was not answered."""
         self.error = error
-        LOG.error("a part of the batch was not answered", exc_info=error)
+        LOG.debug("a part of the batch was not answered", exc_info=error)
         in_place = TIMED_OUT if is_timeout(error) else BROKEN
         self._end(error.answer if isinstance(error, Refusal) else in_place)
 

@@ -8,7 +8,7 @@ from .._native.calls import Mode
 from ..documents.encoding import body_json
 from ..documents.requests import Request
 from ..errors.faults import Fault
-from ..http.messages import Answer
+from ..http.messages import Answer, Refusal
 from ..runs import Run
 
 #: What a request is answered: a status, or an answer.
@@ -152,14 +152,14 @@ class Scripted:
         location = {"Location": f"/Made('{request.id}')"} if request.method == "POST" else {}
         return Answer(scene, {"ETag": '"1"', **location})
 
-    def _refusal(self, status: int, code: str) -> Response:
-        headers = {**_JSON, **({"retry-after": self._retry_after} if status in _BUSY else {})}
-        return status, headers, json.dumps({"error": {"code": code, "message": code}}).encode()
+    def _refusal(self, status: int, code: str, **headers: str) -> Response:
+        retry = {"retry_after": self._retry_after} if status in _BUSY else {}
+        answer = Refusal(status, code, code, **retry, **headers).answer
+        return status, dict(answer.headers), json.dumps(answer.body).encode()
 
     def _reject(self, status: int, code: str) -> Response:
         """The refusal of a batch because of its id."""
-        status, headers, body = self._refusal(status, code)
-        return status, {**headers, _RESULT: "rejected"}, body
+        return self._refusal(status, code, repeatability_result="rejected")
 
 
 def _scenes(request_id: str, given: Union[Scene, list[Scene]]) -> list[Scene]:

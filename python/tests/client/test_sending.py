@@ -318,6 +318,7 @@ class TestErrorsOfParts:
         (b'{"responses":[{"id":"a","status":404},{"id":"b","status":200}]}', "F75"),
     ])  # fmt: skip
     def test_what_is_not_the_response(self, body, code, caplog):
+        caplog.set_level("DEBUG", "odb_batch")
         batch = gets("a")
         batch.get("B", after="a", id="b")
         results = batch.send(answering(200, body=body))
