@@ -77,7 +77,7 @@ func posts(t *testing.T, respond func(part int, ids []string) (int, string)) (st
 	var came []string
 	server := httptest.NewServer(http.HandlerFunc(func(w http.ResponseWriter, r *http.Request) {
 		text, _ := io.ReadAll(r.Body)
-		came = append(came, string(text))
+		came = append(came, strings.TrimSpace(r.Header.Get("Prefer")+" "+string(text)))
 		var batch struct {
 			Requests []struct{ ID, AtomicityGroup string }
 		}
@@ -141,7 +141,7 @@ func TestSendsInParts(t *testing.T) {
 	if err != nil || found(results) != "order 201, p 201, q 201, last 201" || len(header) != 1 {
 		t.Fatal(err, found(results))
 	}
-	if len(*came) != 3 || !strings.Contains((*came)[0], `9.990`) || strings.Contains((*came)[1]+(*came)[2], "$order") ||
+	if len(*came) != 3 || !strings.HasPrefix((*came)[2], "continue-on-error {") || !strings.Contains((*came)[0], `9.990`) || strings.Contains((*came)[1]+(*came)[2], "$order") ||
 		!strings.Contains((*came)[1], `"if-match":"\"1\""`) || !strings.Contains((*came)[2], `/odata/Orders(7)/Lines?x=1`) {
 		t.Error(*came)
 	}
@@ -189,7 +189,7 @@ func TestAServiceThatStops(t *testing.T) {
 		return 200, `{"responses":[{"id":"r0","status":200},{"id":"r1","status":404}]}`
 	})
 	results, err := odb.Send(context.Background(), nil, url, many(6), odb.SendOptions{Limit: 3, Mode: odb.Stop})
-	if err != nil || len(*came) != 1 || found(results) != "r0 200, r1 404, r2 424, r3 424, r4 424, r5 424" {
+	if err != nil || len(*came) != 1 || !strings.HasPrefix((*came)[0], "{") || found(results) != "r0 200, r1 404, r2 424, r3 424, r4 424, r5 424" {
 		t.Error(err, *came, found(results))
 	}
 	rest, err := results.Rest()
@@ -221,6 +221,23 @@ func TestAServiceThatIsBad(t *testing.T) {
 		if rest, err := results.Rest(); err != nil || strings.Count(string(rest), `"id"`) != it.rest {
 			t.Error(name, string(rest), err)
 		}
+	}
+}
+
+// An answer without end is read up to its bound.
+func TestAnAnswerWithoutEnd(t *testing.T) {
+	written := make(chan int, 1)
+	server := httptest.NewServer(http.HandlerFunc(func(w http.ResponseWriter, r *http.Request) {
+		count, err := 0, error(nil)
+		for n := 0; err == nil && count < 1<<28; count += n {
+			n, err = w.Write(make([]byte, 1<<16))
+		}
+		written <- count
+	}))
+	defer server.Close()
+	results, err := odb.Send(context.Background(), server.Client(), server.URL, many(1), odb.SendOptions{MaxSize: 1000})
+	if count := <-written; err == nil || found(results) != "r0 502" || count == 1<<28 {
+		t.Error(err, found(results), count)
 	}
 }
 

@@ -10,6 +10,7 @@ import (
 	"net"
 	"net/http"
 	"net/http/httptest"
+	"sort"
 	"strings"
 	"sync/atomic"
 	"testing"
@@ -129,6 +130,26 @@ func TestHandler(t *testing.T) {
 		if kind := found["r0"].Headers["content-type"]; kind != "text/plain; charset=utf-8" || found[""].Headers["applied"] != "continue-on-error" {
 			t.Error(kind, found[""])
 		}
+	}
+}
+
+func TestInheritedHeaders(t *testing.T) {
+	_, post := served(t, func(w http.ResponseWriter, r *http.Request) {
+		var names []string
+		for name := range r.Header {
+			names = append(names, name)
+		}
+		sort.Strings(names)
+		fmt.Fprint(w, names)
+	}, odb.HandlerOptions{})
+	headers := http.Header{"If-Match": {"x"}, "Content-Language": {"de"}, "Range": {"bytes=1-"}, "Idempotency-Key": {"1"}, "Traceparent": {"t"},
+		"X-Http-Method-Override": {"DELETE"}, "Accept": {"a/b"}, "Te": {"trailers"}, "Odata-Maxversion": {"4.0"}, "X-Own": {"1"}, "Accept-Language": {"de"}}
+	found := post(headers, "get x", `get y ,"headers":{"If-None-Match":"y","accept":"c/d"}`)
+	if found["r0"].Body != "[Accept-Language Odata-Maxversion Traceparent User-Agent X-Own]" {
+		t.Error(found["r0"].Body)
+	}
+	if found["r1"].Body != "[Accept Accept-Language If-None-Match Odata-Maxversion Traceparent User-Agent X-Own]" {
+		t.Error(found["r1"].Body)
 	}
 }
 

@@ -260,6 +260,27 @@ func TestStops(t *testing.T) {
 	}
 }
 
+// No more requests are out at once than the width says, but as many.
+func TestWidth(t *testing.T) {
+	for _, width := range []int{1, 3, 8} {
+		var out, most int32
+		_, err := odb.Perform(context.Background(), many(60), func(ctx context.Context, request *odb.Request) (odb.Answer, error) {
+			for now := atomic.AddInt32(&out, 1); ; {
+				before := atomic.LoadInt32(&most)
+				if now <= before || atomic.CompareAndSwapInt32(&most, before, now) {
+					break
+				}
+			}
+			time.Sleep(2 * time.Millisecond)
+			atomic.AddInt32(&out, -1)
+			return odb.Answer{Status: 204}, nil
+		}, silent(width, nil))
+		if err != nil || most != int32(width) {
+			t.Error(err, most, "not", width)
+		}
+	}
+}
+
 // Answers that are there at once, apart and in one group.
 func TestTenThousand(t *testing.T) {
 	for _, width := range []int{1, 8} {

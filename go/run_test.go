@@ -65,6 +65,11 @@ func TestFaultsHavePositions(t *testing.T) {
 	if found, err := odb.Faults(many(3)); len(found) != 0 || err != nil {
 		t.Error(found, err)
 	}
+	// The text and the list are longer than was thought.
+	batch = []byte(`{"requests":[{}` + strings.Repeat(",{}", 999) + "]}")
+	if found, err := odb.Faults(batch); len(found) != 3000 || err != nil || found[2999].Place != "/requests/999" {
+		t.Error(len(found), err)
+	}
 }
 
 func TestOptionsThatHaveNoValue(t *testing.T) {
