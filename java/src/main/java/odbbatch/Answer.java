@@ -9,10 +9,7 @@ public final class Answer {
     private final Map<String, String> headers = new TreeMap<>();
     private final byte[] body;
 
-    private Answer(int status, byte[] body) {
-        this.status = status;
-        this.body = body == null ? new byte[0] : body;
-    }
+    private Answer(int status, byte[] body) { this.status = status; this.body = body == null ? new byte[0] : body; }
 
     private void add(String name, String value) { headers.merge(name.toLowerCase(Locale.ROOT), value, (one, more) -> one + ", " + more); }
 

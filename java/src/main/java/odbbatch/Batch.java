@@ -30,14 +30,13 @@ public final class Batch {
     }
 
     private final Serializer serializer;
-    private final List<byte[]> elements = new ArrayList<>();
+    private final List<Map.Entry<String, byte[]>> elements = new ArrayList<>(); // of each request its id and its text
     private final Map<String, String> groups = new HashMap<>(); // by each id and group its group, or null
     private String open;
+    private int groupCount;
 
     /** A batch whose bodies are bytes or texts. */
-    public Batch() {
-        this(body -> { throw new IllegalArgumentException("a body is bytes or a text, or the batch needs a serializer"); });
-    }
+    public Batch() { this(body -> { throw new IllegalArgumentException("a body is bytes or a text, or the batch needs a serializer"); }); }
 
     /**
      * A batch whose other bodies a function writes.
@@ -78,9 +77,7 @@ public final class Batch {
         }
 
         /** Depends on a request of this batch, if a text is its name. */
-        private void refer(String text) {
-            if (text.startsWith("$") && groups.containsKey(text.substring(1))) { needs.add(text.substring(1)); }
-        }
+        private void refer(String text) { if (text.startsWith("$") && groups.containsKey(text.substring(1))) { needs.add(text.substring(1)); } }
 
         /**
          * Further requests and groups that it depends on.
@@ -88,10 +85,7 @@ public final class Batch {
          * @param names their names
          * @return this request
          */
-        public Adding after(Name... names) {
-            for (Name name : names) { needs.add(name.id); }
-            return this;
-        }
+        public Adding after(Name... names) { for (Name name : names) { needs.add(name.id); } return this; }
 
         /**
          * A header.
@@ -198,7 +192,7 @@ public final class Batch {
         it.needs.forEach(name -> needs.add(groups.get(name)));
         needs.remove(null);
         needs.remove(open);
-        elements.add(element(id, open, needs, it.method, it.url, it.headers, body));
+        elements.add(Map.entry(id, element(id, open, needs, it.method, it.url, it.headers, body)));
         groups.put(id, open);
         if (open != null) { groups.put(open, open); }
         return new Name(id);
@@ -228,10 +222,7 @@ public final class Batch {
         return Bodies.joined("{\"requests\":[", Bodies.joined(parts.toArray()), "]}");
     }
 
-    private String free(String prefix, int count) {
-        while (groups.containsKey(prefix + ++count)) { continue; }
-        return prefix + count;
-    }
+    private String free(String prefix, int count) { while (groups.containsKey(prefix + ++count)) { continue; } return prefix + count; }
 
     /**
      * Makes the requests that a function adds an atomicity group: all of them are performed, or none. If it throws, none is added.
@@ -242,15 +233,15 @@ public final class Batch {
     public Name group(Runnable add) {
         if (open != null) { throw new IllegalStateException("a group cannot be in another one"); }
         int begun = elements.size();
-        Set<String> before = new HashSet<>(groups.keySet());
-        open = free("g", 0);
-        Name group = new Name(open);
+        open = free("g", groupCount++);
         try {
             add.run();
-            return group;
+            return new Name(open);
         } catch (RuntimeException | Error error) {
-            elements.subList(begun, elements.size()).clear();
-            groups.keySet().retainAll(before);
+            List<Map.Entry<String, byte[]>> added = elements.subList(begun, elements.size());
+            added.forEach(it -> groups.remove(it.getKey()));
+            added.clear();
+            groups.remove(open);
             throw error;
         } finally {
             open = null;
@@ -262,7 +253,7 @@ public final class Batch {
      *
      * @return the document
      */
-    public byte[] document() { return document(elements); }
+    public byte[] document() { return document(elements.stream().map(Map.Entry::getValue).collect(Collectors.toList())); }
 
     /**
      * Checks the batch as it is.

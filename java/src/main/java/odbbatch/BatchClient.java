@@ -98,7 +98,8 @@ public final class BatchClient {
                 error = fault; // a request refers to a part that was answered without a Location
             }
             run.stop();
-            return new BatchResults(document, run.response(), mode, found, error);
+            byte[] response = run.response();
+            return new BatchResults(found, error, () -> withTags(Odb.rest(document, response, mode), found));
         }
     }
 
@@ -125,10 +126,8 @@ public final class BatchClient {
             Answer inPlace = failed instanceof FaultException ? Answer.of(502) : RefusalException.answerTo(failed);
             part.ids().forEach(id -> answers.put(id, inPlace));
         }
-        for (String id : part.ids()) {
-            found.put(id, answers.get(id));
-            report(run, id, answers.get(id));
-        }
+        found.putAll(answers);
+        part.ids().forEach(id -> report(run, id, answers.get(id)));
         return error;
     }
 

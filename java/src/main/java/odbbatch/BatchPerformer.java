@@ -60,10 +60,7 @@ public final class BatchPerformer {
     private ExecutorService pool;
     private BooleanSupplier isStopping = () -> false;
 
-    private BatchPerformer(byte[] batch, URI base) {
-        this.batch = batch;
-        this.base = base;
-    }
+    private BatchPerformer(byte[] batch, URI base) { this.batch = batch; this.base = base; }
 
     /**
      * The performance of a batch.
@@ -273,12 +270,7 @@ public final class BatchPerformer {
         /** Performs a unit whose first request has started. */
         private void unit(List<String> ids) {
             String first = ids.get(0);
-            Optional<String> group = references.of(first).group();
-            if (group.isPresent()) {
-                group(group.get(), ids);
-            } else {
-                report(first, sent(first));
-            }
+            references.of(first).group().ifPresentOrElse(group -> group(group, ids), () -> report(first, sent(first)));
         }
 
         /** Performs a group in its transaction. Its last request is reported after the commit: what needs the group starts then. */

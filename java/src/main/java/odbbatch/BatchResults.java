@@ -2,21 +2,18 @@ package odbbatch;
 
 import java.nio.charset.StandardCharsets;
 import java.util.*;
+import java.util.function.Supplier;
 
 /** What the requests of a batch were answered, in the order of the batch. */
 public final class BatchResults {
-    private final byte[] document;
-    private final byte[] response;
-    private final Mode mode;
     private final Map<String, Answer> found;
     private final Exception error;
+    private final Supplier<byte[]> rest;
 
-    BatchResults(byte[] document, byte[] response, Mode mode, Map<String, Answer> found, Exception error) {
-        this.document = document;
-        this.response = response;
-        this.mode = mode;
+    BatchResults(Map<String, Answer> found, Exception error, Supplier<byte[]> rest) {
         this.found = found;
         this.error = error;
+        this.rest = rest;
     }
 
     /**
@@ -75,5 +72,5 @@ public final class BatchResults {
      * @throws FaultException a request refers to one that was answered without a Location of use (F90)
      * @throws IllegalStateException a request refers to the ETag of one that was answered without one
      */
-    public byte[] rest() { return BatchClient.withTags(Odb.rest(document, response, mode), found); }
+    public byte[] rest() { return rest.get(); }
 }

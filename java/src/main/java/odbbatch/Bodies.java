@@ -15,8 +15,7 @@ import java.util.stream.Collectors;
  */
 final class Bodies {
     private static final Pattern CHARSET = Pattern.compile(";\\s*charset=\"?([\\w.:-]+)", Pattern.CASE_INSENSITIVE);
-
-    private Bodies() {}
+    private static final Pattern CONTROL = Pattern.compile("[\\x00-\\x1f]");
 
     private static String mediaType(Map<String, String> headers) {
         return headers.getOrDefault("content-type", "").split(";", 2)[0].trim().toLowerCase(Locale.ROOT);
@@ -53,15 +52,10 @@ final class Bodies {
     /** The text in a document of a body on the wire; empty if there is none. */
     static byte[] toJson(byte[] wire, Map<String, String> headers) {
         String kind = mediaType(headers);
-        if (wire.length == 0) {
-            return wire;
-        } else if (isJson(kind)) {
-            boolean isMarked = wire.length > 2 && wire[0] == (byte) 0xef && wire[1] == (byte) 0xbb && wire[2] == (byte) 0xbf;
-            return isMarked ? Arrays.copyOfRange(wire, 3, wire.length) : wire;
-        } else if (kind.startsWith("text/")) {
-            return asString(wire, headers);
-        }
-        return bytes('"' + Base64.getUrlEncoder().withoutPadding().encodeToString(wire) + '"');
+        if (wire.length > 0 && kind.startsWith("text/")) { return asString(wire, headers); }
+        if (wire.length > 0 && !isJson(kind)) { return bytes('"' + Base64.getUrlEncoder().withoutPadding().encodeToString(wire) + '"'); }
+        boolean isMarked = wire.length > 2 && wire[0] == (byte) 0xef && wire[1] == (byte) 0xbb && wire[2] == (byte) 0xbf;
+        return isMarked ? Arrays.copyOfRange(wire, 3, wire.length) : wire;
     }
 
     /** Bytes as a string of JSON, whatever they are: where they are not of their character set, each is a character. */
@@ -77,11 +71,8 @@ final class Bodies {
 
     /** A string of JSON. */
     static String quoted(String text) {
-        StringBuilder found = new StringBuilder("\"");
-        for (char it : text.toCharArray()) {
-            found.append(it < ' ' ? String.format("\\u%04x", (int) it) : it == '"' || it == '\\' ? "\\" + it : String.valueOf(it));
-        }
-        return found.append('"').toString();
+        String plain = text.replace("\\", "\\\\").replace("\"", "\\\"");
+        return '"' + CONTROL.matcher(plain).replaceAll(found -> "\\\\u00" + found.group().charAt(0) / 16 + Character.forDigit(found.group().charAt(0) % 16, 16)) + '"';
     }
 
     /** An object of strings. */
@@ -92,9 +83,7 @@ final class Bodies {
     /** Texts and bytes, one after another. */
     static byte[] joined(Object... parts) {
         ByteArrayOutputStream found = new ByteArrayOutputStream();
-        for (Object part : parts) {
-            found.writeBytes(part instanceof byte[] ? (byte[]) part : part.toString().getBytes(StandardCharsets.UTF_8));
-        }
+        for (Object part : parts) { found.writeBytes(part instanceof byte[] ? (byte[]) part : bytes(part.toString())); }
         return found.toByteArray();
     }
 

@@ -6,10 +6,7 @@ public final class FaultException extends OdbException {
     /** The fault, which keeps the document. */
     private final transient Fault fault;
 
-    FaultException(Fault fault) {
-        super(fault.code(), fault.name(), fault.place());
-        this.fault = fault;
-    }
+    FaultException(Fault fault) { super(fault.code(), fault.name(), fault.place()); this.fault = fault; }
 
     /**
      * The first fault of the document.

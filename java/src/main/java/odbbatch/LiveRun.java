@@ -27,10 +27,7 @@ public final class LiveRun implements AutoCloseable {
         private final byte[] document;
         private final List<String> ids;
 
-        private Part(byte[] document, List<String> ids) {
-            this.document = document;
-            this.ids = ids;
-        }
+        private Part(byte[] document, List<String> ids) { this.document = document; this.ids = ids; }
 
         /**
          * The batch to send.
@@ -212,9 +209,7 @@ public final class LiveRun implements AutoCloseable {
     public boolean isFinished() { return call(() -> odb_run_finished(handle.at)) == 1; }
 
     /** Lets nothing start any more: what is running is reported as before, and what has not started is answered 424. */
-    public void stop() {
-        call(() -> { odb_run_stop(handle.at); return null; });
-    }
+    public void stop() { call(() -> { odb_run_stop(handle.at); return null; }); }
 
     /**
      * The state of a request.

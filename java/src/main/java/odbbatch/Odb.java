@@ -100,11 +100,7 @@ public final class Odb {
         private final int at;
         private final byte[] document;
 
-        private Request(Written found, int at, byte[] document) {
-            this.found = found;
-            this.at = at;
-            this.document = document;
-        }
+        private Request(Written found, int at, byte[] document) { this.found = found; this.at = at; this.document = document; }
 
         /** The requests that a call has listed of a document. */
         static List<Request> all(Written found, byte[] document) {

@@ -8,11 +8,7 @@ public abstract class OdbException extends RuntimeException {
     /** The name. */
     private final String name;
 
-    OdbException(String code, String name, String where) {
-        super(code + " " + name + " " + where);
-        this.code = code;
-        this.name = name;
-    }
+    OdbException(String code, String name, String where) { super(code + " " + name + " " + where); this.code = code; this.name = name; }
 
     /**
      * The code of the fault or the cause.

@@ -18,34 +18,28 @@ final class OdbLibrary {
     /** Drawn once, and kept secret: nobody can choose names that make a call slow. */
     static final long SEED = new SecureRandom().nextLong();
 
+    /** As the loader asks for it. */
     private static final String NAME = "odb_batch";
-    private static final int MORE = 256; // how much longer than its documents a text is thought to be
-    private static final int SHORTEST = 32; // how short a request or a response may be in a document
+    /** How much longer than its documents a text is thought to be; and how short a request or a response may be in a document. */
+    private static final int MORE = 256, SHORTEST = 32;
 
     static {
-        Version.require();
+        if (Native.SIZE_T_SIZE != 8) { throw new UnsatisfiedLinkError("odb_batch needs a process of 64 bits"); }
+        // before all functions are bound at once: an older library is refused by its version, not by a name that it lacks
+        int found = loaded().getFunction("odb_version").invokeInt(new Object[0]) / 100;
+        if (found != 100 * MAJOR + MINOR) {
+            String versions = found / 100 + "." + found % 100 + ", and this package needs " + MAJOR + "." + MINOR;
+            throw new UnsatisfiedLinkError("the library of odb_batch has version " + versions);
+        }
         Native.register(OdbLibrary.class, NAME);
     }
 
-    private OdbLibrary() {}
-
-    /** Apart, since JNA binds all functions of a class at once: an older library is refused by its version, not by a name that it lacks. */
-    private static final class Version {
-        static native int odb_version();
-
-        static void require() {
-            if (Native.SIZE_T_SIZE != 8) { throw new UnsatisfiedLinkError("odb_batch needs a process of 64 bits"); }
-            try {
-                Native.register(Version.class, NAME);
-            } catch (UnsatisfiedLinkError error) {
-                String places = Platform.RESOURCE_PREFIX + "/ of the class path, in jna.library.path or where the loader looks";
-                throw new UnsatisfiedLinkError("the library of odb_batch is not in " + places);
-            }
-            int found = odb_version() / 100;
-            if (found != 100 * MAJOR + MINOR) {
-                String versions = found / 100 + "." + found % 100 + ", and this package needs " + MAJOR + "." + MINOR;
-                throw new UnsatisfiedLinkError("the library of odb_batch has version " + versions);
-            }
+    private static NativeLibrary loaded() {
+        try {
+            return NativeLibrary.getInstance(NAME, OdbLibrary.class.getClassLoader());
+        } catch (UnsatisfiedLinkError error) {
+            String places = Platform.RESOURCE_PREFIX + "/ of the class path, in jna.library.path or where the loader looks";
+            throw new UnsatisfiedLinkError("the library of odb_batch is not in " + places);
         }
     }
 

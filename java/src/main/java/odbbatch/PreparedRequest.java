@@ -73,9 +73,7 @@ public final class PreparedRequest {
         try {
             HttpRequest.Builder request = HttpRequest.newBuilder(URI.create(url)).method(of.method(),
                 body.length == 0 ? HttpRequest.BodyPublishers.noBody() : HttpRequest.BodyPublishers.ofByteArray(body));
-            headers.forEach((name, value) -> {
-                if (!Odb.names("of_connection").contains(name)) { request.setHeader(name, value); }
-            });
+            headers.forEach((name, value) -> { if (!Odb.names("of_connection").contains(name)) { request.setHeader(name, value); } });
             return request;
         } catch (IllegalArgumentException error) {
             throw new RefusalException(400, "BadRequest", error.getMessage());

@@ -28,10 +28,8 @@ final class References {
             throw new IllegalArgumentException("a base must be an absolute URL that ends with /, below such a root, not " + base);
         }
         given.forEach(it -> requests.put(it.id(), it));
-        for (Odb.Request it : given) {
-            it.reference().ifPresent(referred::add);
-            referred.addAll(tags(it.headers(), requests.keySet()).values());
-        }
+        given.forEach(it -> it.reference().ifPresent(referred::add));
+        given.forEach(it -> referred.addAll(tags(it.headers(), requests.keySet()).values()));
     }
 
     /** The conditions among headers that refer to requests with these ids, with these. */
@@ -47,9 +45,7 @@ final class References {
     Odb.Request of(String id) { return requests.get(id); }
 
     /** Notes what a request was answered, if others refer to it. */
-    void keep(String id, Answer answer) {
-        if (referred.contains(id)) { answers.put(id, Answer.of(answer.status(), answer.headers(), null)); }
-    }
+    void keep(String id, Answer answer) { if (referred.contains(id)) { answers.put(id, Answer.of(answer.status(), answer.headers(), null)); } }
 
     /** A request as it is sent; throws the refusal of one that cannot be. */
     PreparedRequest prepared(String id) {

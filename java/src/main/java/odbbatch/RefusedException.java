@@ -6,10 +6,7 @@ public final class RefusedException extends OdbException {
     /** The id. */
     private final String id;
 
-    private RefusedException(String code, String id) {
-        super(code, Odb.explain(code).split(" ", 3)[1], id);
-        this.id = id;
-    }
+    private RefusedException(String code, String id) { super(code, Odb.explain(code).split(" ", 3)[1], id); this.id = id; }
 
     /** Throws what a start or a report returns but that it is done: 11 is S1, and 21 is P1. */
     static void settle(int status, String id) {

@@ -41,10 +41,7 @@ public final class BatchFilter implements Filter {
      * @param path the path in the application, as /odata/$batch
      * @param transaction performs a group in a transaction of its thread; null if batches with groups are answered 501
      */
-    public BatchFilter(String path, BatchPerformer.Transaction transaction) {
-        this.path = path;
-        this.transaction = transaction;
-    }
+    public BatchFilter(String path, BatchPerformer.Transaction transaction) { this.path = path; this.transaction = transaction; }
 
     /**
      * How many requests a batch may have; one with more is answered 413.
@@ -115,7 +112,9 @@ public final class BatchFilter implements Filter {
             long end = System.nanoTime() + deadline.toNanos();
             byte[] found = BatchPerformer.of(batch, roots[0]).roots(roots).mode(policy.mode()).limit(limit).stop(() -> System.nanoTime() - end >= 0)
                 .perform(it -> dispatched(request, response, policy, room, it), transaction);
-            return Answer.of(200, policy.applied(), found);
+            Map<String, String> headers = new TreeMap<>(Map.of("content-type", "application/json"));
+            if (policy.mode() == Mode.CONTINUE) { headers.put("preference-applied", "continue-on-error"); }
+            return Answer.of(200, headers, found);
         } catch (FaultException error) {
             String message = error.name() + ": " + error.explanation().replaceAll("\\s+", " ");
             return new RefusalException(400, error.code(), message, error.fault().place(), Map.of()).answer();

@@ -42,11 +42,6 @@ final class HeaderPolicy {
     /** What an error does to the batch. */
     Mode mode() { return continues ? Mode.CONTINUE : Mode.STOP; }
 
-    /** The headers of the response to the batch. */
-    Map<String, String> applied() {
-        return continues ? Map.of("content-type", "application/json", "preference-applied", "continue-on-error") : Map.of("content-type", "application/json");
-    }
-
     /** Whether the batch asks to be performed once, however often it is sent. */
     boolean isRepeatable() { return outer.keySet().stream().anyMatch(it -> it.startsWith("repeatability-")); }
 

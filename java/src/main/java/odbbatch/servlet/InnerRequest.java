@@ -84,9 +84,7 @@ final class InnerRequest extends HttpServletRequestWrapper {
         }
     }
 
-    @Override public Object getAttribute(String name) {
-        return attributes.containsKey(name) ? attributes.get(name) : super.getAttribute(name);
-    }
+    @Override public Object getAttribute(String name) { return attributes.containsKey(name) ? attributes.get(name) : super.getAttribute(name); }
 
     @Override public void setAttribute(String name, Object value) { attributes.put(name, value); }
 

@@ -23,11 +23,7 @@ final class KeptResponse extends HttpServletResponseWrapper {
     private boolean isSent, isTooLong;
 
     /** Keeps a body of at most so many bytes. If one is longer that answers a read, who writes it gets an exception; else it is dropped. */
-    KeptResponse(HttpServletResponse outer, int room, boolean isRead) {
-        super(outer);
-        this.room = room;
-        this.isRead = isRead;
-    }
+    KeptResponse(HttpServletResponse outer, int room, boolean isRead) { super(outer); this.room = room; this.isRead = isRead; }
 
     /** What was written; throws the refusal of what is too long. */
     Answer answer() {
@@ -61,20 +57,11 @@ final class KeptResponse extends HttpServletResponseWrapper {
         return writer;
     }
 
-    @Override public void flushBuffer() {
-        if (writer != null) { writer.flush(); }
-    }
+    @Override public void flushBuffer() { if (writer != null) { writer.flush(); } }
 
-    @Override public void resetBuffer() {
-        flushBuffer();
-        body.reset();
-    }
+    @Override public void resetBuffer() { flushBuffer(); body.reset(); }
 
-    @Override public void reset() {
-        resetBuffer();
-        headers.clear();
-        setStatus(200);
-    }
+    @Override public void reset() { resetBuffer(); headers.clear(); setStatus(200); }
 
     @Override public boolean isCommitted() { return isSent; }
 
@@ -93,16 +80,9 @@ final class KeptResponse extends HttpServletResponseWrapper {
 
     @Override public void sendError(int status) { sendError(status, null); }
 
-    @Override public void sendError(int status, String message) {
-        reset();
-        setStatus(status);
-        isSent = true;
-    }
+    @Override public void sendError(int status, String message) { reset(); setStatus(status); isSent = true; }
 
-    @Override public void sendRedirect(String location) {
-        sendError(302);
-        setHeader("Location", location);
-    }
+    @Override public void sendRedirect(String location) { sendError(302); setHeader("Location", location); }
 
     @Override public void setHeader(String name, String value) { headers.compute(name, (key, old) -> value); }
 
