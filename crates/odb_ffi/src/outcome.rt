@@ -4,9 +4,9 @@ ghost use Rattle.std.specs.Prelude.{◌≡◌, ◌≢◌, ◌↔◌, [], None, S
 ghost use Rattle.serde_json.specs.View.{view};
 ghost use Rattle.odb_doc.specs.declared.fault.DocFault.TheVariants as faults;
 ghost use Rattle.odb_doc.specs.Headers.{IsHeaders};
-ghost use Rattle.odb_doc.specs.declared.recorded.outcome.Outcome.{Outcome};
 ghost use Rattle.odb_doc.specs.recorded.Parts.{HasParts};
 ghost use Rattle.odb_reply.specs.BodyTexts.{IsNoBody};
+ghost use Rattle.odb_reply.specs.declared.json_text.BodyFault.TheVariants as bodies;
 ghost use Rattle.odb_ffi.specs.Live.{HasNoHeaders, IsReported, IsReportedBody};
 ghost use Rattle.odb_ffi.specs.declared.outcome.NoOutcome.TheVariants as none;
 
@@ -25,6 +25,36 @@ pub enum NoOutcome {
     OutOfMemory,
 }
 
+impl From<DocFault> for NoOutcome {
+    ghost from_gives = { λ fault cause. (cause ≡ none.Refused) ↔ (fault ≢ faults.OutOfMemory) };
+
+    fn from(fault: DocFault) -> Self {
+        match fault {
+            DocFault::OutOfMemory => NoOutcome::OutOfMemory,
+            _ => NoOutcome::Refused,
+        }
+    }
+}
+
+impl From<BodyFault> for NoOutcome {
+    ghost from_gives = { λ fault cause. (cause ≡ none.Refused) ↔ (fault ≡ bodies.Refused) };
+
+    fn from(fault: BodyFault) -> Self {
+        match fault {
+            BodyFault::Refused => NoOutcome::Refused,
+            BodyFault::OutOfMemory => NoOutcome::OutOfMemory,
+        }
+    }
+}
+
+impl From<AllocError> for NoOutcome {
+    ghost from_gives = { λ _ cause. cause ≡ none.OutOfMemory };
+
+    fn from(_error: AllocError) -> Self {
+        NoOutcome::OutOfMemory
+    }
+}
+
 /// Returns the status as a number of 16 bits.
 fn status_of(status: u32) -> u16
     ensures { result ≡ min status 65535 }
@@ -33,39 +63,6 @@ fn status_of(status: u32) -> u16
         65_535
     } else {
         status as u16
-    }
-}
-
-/// Returns why there is no outcome by the fault of its headers.
-fn without(fault: DocFault) -> NoOutcome
-    ensures { (result ≡ none.Refused) ↔ (fault ≢ faults.OutOfMemory) }
-{
-    match fault {
-        DocFault::OutOfMemory => NoOutcome::OutOfMemory,
-        _ => NoOutcome::Refused,
-    }
-}
-
-/// Returns why there is no text by the fault of a body.
-fn without_text(fault: BodyFault) -> NoOutcome
-    ensures { (result ≡ none.Refused) ↔ (fault ≡ BodyFault.Refused) }
-{
-    match fault {
-        BodyFault::Refused => NoOutcome::Refused,
-        BodyFault::OutOfMemory => NoOutcome::OutOfMemory,
-    }
-}
-
-/// Returns the outcome that was made of parts. If there is none, the parts are not of the right form.
-fn made(found: Result<Option<Outcome>, AllocError>) -> Result<Outcome, NoOutcome>
-    ensures some { (outcome : Outcome) → found ≡ Ok (Some outcome) → result ≡ Ok outcome }
-    ensures refused { (result ≡ Err none.Refused) ↔ (found ≡ Ok None) }
-    ensures ok { IfOk result (λ outcome. found ≡ Ok (Some outcome)) }
-{
-    match found {
-        Ok(Some(outcome)) => Ok(outcome),
-        Ok(None) => Err(NoOutcome::Refused),
-        Err(_) => Err(NoOutcome::OutOfMemory),
     }
 }
 
@@ -85,7 +82,10 @@ fn outcome_with(alloc: Global, status: u16, headers: Value) -> Result<Outcome, N
     ensures some { IfOk result (HasParts status (Some (view headers)) None) }
     ensures refused { result ≡ Err none.Refused → ¬ IsHeaders (Some (view headers)) }
 {
-    made(Outcome::of_parts(alloc, status, Some(headers), None))
+    match Outcome::of_parts(alloc, status, Some(headers), None)? {
+        Some(outcome) => Ok(outcome),
+        None => Err(NoOutcome::Refused),
+    }
 }
 
 /// Returns the outcome with this status, with the headers in these bytes, which may be none, and with no
@@ -98,10 +98,8 @@ pub fn outcome_of(alloc: Global, status: u32, headers: &[u8]) -> Result<Outcome,
     if headers.is_empty() {
         return Ok(bare(alloc, status_of(status)));
     }
-    match parse(alloc, headers) {
-        Ok(value) => outcome_with(alloc, status_of(status), value),
-        Err(fault) => Err(without(fault)),
-    }
+    let value = parse(alloc, headers)?;
+    outcome_with(alloc, status_of(status), value)
 }
 
 /// Returns the text of the body in these bytes: `None` if there are none, or if they are the JSON null.
@@ -113,8 +111,5 @@ pub fn body_of(alloc: Global, bytes: &[u8]) -> Result<Option<JsonText>, NoOutcom
     if bytes.is_empty() {
         return Ok(None);
     }
-    match JsonText::read(alloc, bytes) {
-        Ok(text) => Ok(text),
-        Err(fault) => Err(without_text(fault)),
-    }
+    Ok(JsonText::read(alloc, bytes)?)
 }

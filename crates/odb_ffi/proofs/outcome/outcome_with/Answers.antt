@@ -1,5 +1,6 @@
+use Rattle.std.proofs.Common.{◌∙◌, Ok, ap}
 use Rattle.odb_ffi.proofs.OutcomeLemmas.{no-headers}
 use Rattle.odb_ffi.proofs.outcome.outcome_with.Goals as goal
 
-pub returns-clause-refused : goal.returns-clause-refused
-returns-clause-refused c = λ same. no-headers _ (c.of_parts.ensures.none (c.made.ensures.refused.0 same))
+pub returns-in-None-clause-refused : goal.returns-in-None-clause-refused
+returns-in-None-clause-refused c = λ same. no-headers _ (c.of_parts.ensures.none (c.in_ok-outcome.was ∙ ap Ok c.in-None.is))
