@@ -52,9 +52,8 @@ namespace OdbBatch.Client {
         /// <summary>Adds a message, as clients that are generated make it, without headers of the connection. Its URL is relative to the
         /// service.</summary>
         public async Task<Reference> AddAsync(HttpRequestMessage message, params Name[] after) {
-            var headers = Messages.Of(message.Headers, message.Content).Where(it => !Messages.OfConnection.Contains(it.Key.ToLowerInvariant()));
             byte[] body = message.Content == null ? null : await message.Content.ReadAsByteArrayAsync().ConfigureAwait(false);
-            return Add(message.Method.Method, message.RequestUri.OriginalString, body, after, headers);
+            return Add(message.Method.Method, message.RequestUri.OriginalString, body, after, Messages.Of(message.Headers, message.Content).Where(it => !Messages.OfConnection.Contains(it.Key.ToLowerInvariant())));
         }
 
         /// <summary>Adds a request.</summary>

@@ -114,9 +114,10 @@ namespace OdbBatch.Client {
         /// no request may have is none.</summary>
         private (string Place, string Tag) FoundIn(BatchRequest request, BatchAnswer answer) {
             var (place, tag) = References.FoundIn(answer);
-            if (place == null && request.Method != "POST")
-                place = (request.Reference == null ? request.Url : found[request.Reference].Place + request.Rest).Split('?', '#')[0].TrimEnd('/');
-            bool isOfUse = place != null && Odb.TryCheck("{\"requests\":[{\"id\":\"a\",\"method\":\"get\",\"url\":" + Json.Quoted(place) + "}]}", out var _, out var fault);
+            string own = (request.Reference == null ? request.Url : found[request.Reference].Place is string other ? other + request.Rest : null)?.Split('?', '#')[0];
+            if (string.IsNullOrEmpty(place)) place = request.Method == "POST" ? null : own;
+            else if (own != null && place[0] != '/' && !Uri.TryCreate(place, UriKind.Absolute, out Uri absolute)) place = own.Substring(0, own.LastIndexOf('/') + 1) + place;
+            bool isOfUse = (place = place?.Split('?', '#')[0].TrimEnd('/')) != null && Odb.TryCheck("{\"requests\":[{\"id\":\"a\",\"method\":\"get\",\"url\":" + Json.Quoted(place) + "}]}", out var _, out var fault);
             return (isOfUse ? place : null, tag);
         }
 

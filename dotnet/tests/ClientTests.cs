@@ -161,6 +161,18 @@ public class ClientTests {
         Assert.AreEqual(wanted.StartsWith("a201") ? null : "F75", (Sent(Chain, By(new Dictionary<string, string> { ["a"] = answer }), 5).Error as FaultException)?.Code);
     }
 
+    [TestCase("", "a201 b200 c424", null)] // nobody but the service knows where a is, and so b
+    [TestCase(",\"headers\":{\"Location\":\"C\"}", "a201 b200 c200", "A/C/x/y")] // relative to the URL of a
+    [TestCase(",\"headers\":{\"Location\":\"/C/\"}", "a201 b200 c200", "/C/x/y")]
+    [TestCase(",\"headers\":{\"Location\":\"http://host/C?d\"}", "a201 b200 c200", "http://host/C/x/y")]
+    [TestCase(",\"headers\":{\"Location\":\"\"}", "a201 b200 c424", null)]
+    public void Urls_of_what_was_created(string members, string wanted, string url) {
+        const string batch = "{\"requests\":[{\"id\":\"a\",\"method\":\"post\",\"url\":\"A/B?c=1\"},{\"id\":\"b\",\"method\":\"get\",\"url\":\"$a/x\",\"dependsOn\":[\"a\"]},{\"id\":\"c\",\"method\":\"get\",\"url\":\"$b/y\",\"dependsOn\":[\"b\"]}]}";
+        var service = By(new Dictionary<string, string> { ["a"] = "\"status\":201" + members });
+        Assert.AreEqual(wanted, Statuses(Sent(batch, service, 2)));
+        Assert.AreEqual(url, service.Posted.Count == 1 ? null : Odb.Requests(service.Posted[1])[0].Url);
+    }
+
     [Test]
     public void Nothing_is_sent_after_an_error_in_mode_stop() {
         foreach (int wanted in new[] { 1, 5 }) {
