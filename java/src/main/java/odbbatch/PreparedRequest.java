@@ -93,28 +93,29 @@ public final class PreparedRequest {
         return exchange(client, toHttpRequest(), timeout);
     }
 
-    /** Sends a request. What does not come in time is an HttpTimeoutException, and a body that is too long an IOException. */
+    /**
+     * Sends a request. What does not come in time is an HttpTimeoutException, and a body that is too long an IOException: the timeout of
+     * java.net.http ends with the headers, nothing bounds its bodies, and a thread that reads one from a stream cannot be interrupted.
+     */
     static Answer exchange(HttpClient client, HttpRequest.Builder request, Duration timeout) throws IOException, InterruptedException {
-        long end = System.nanoTime() + timeout.toNanos();
-        HttpResponse<InputStream> response = client.send(request.timeout(timeout).build(), HttpResponse.BodyHandlers.ofInputStream());
-        try (InputStream body = response.body()) {
-            CompletableFuture<Void> isLate = new CompletableFuture<Void>().orTimeout(end - System.nanoTime(), TimeUnit.NANOSECONDS);
-            isLate.exceptionally(error -> closed(body)); // which ends a read in this thread
-            byte[] found = body.readNBytes(Odb.MAX_BYTES + 1);
-            isLate.complete(null);
-            if (found.length > Odb.MAX_BYTES) { throw new IOException("the body of an answer has more than " + Odb.MAX_BYTES + " bytes"); }
-            return Answer.of(response.statusCode(), response.headers(), found);
-        } catch (IOException error) {
-            throw System.nanoTime() - end < 0 ? error : new HttpTimeoutException("no answer came in " + timeout.toMillis() + " ms");
+        ByteArrayOutputStream body = new ByteArrayOutputStream();
+        CompletableFuture<HttpResponse<Void>> sent = client.sendAsync(request.timeout(timeout).build(),
+            HttpResponse.BodyHandlers.ofByteArrayConsumer(part -> part.ifPresent(bytes -> add(body, bytes))));
+        try {
+            HttpResponse<Void> response = sent.get(timeout.toNanos(), TimeUnit.NANOSECONDS);
+            return Answer.of(response.statusCode(), response.headers(), body.toByteArray());
+        } catch (TimeoutException error) {
+            throw new HttpTimeoutException("no answer came in " + timeout.toMillis() + " ms");
+        } catch (ExecutionException error) {
+            throw error.getCause() instanceof IOException ? (IOException) error.getCause() : new IOException(error.getCause());
+        } finally {
+            sent.cancel(true);
         }
     }
 
-    private static Void closed(InputStream body) {
-        try {
-            body.close();
-        } catch (IOException error) {
-            return null; // it is closed
-        }
-        return null;
+    private static void add(ByteArrayOutputStream body, byte[] part) {
+        String message = "the body of an answer has more than " + Odb.MAX_BYTES + " bytes";
+        if (body.size() + part.length > Odb.MAX_BYTES) { throw new UncheckedIOException(new IOException(message)); }
+        body.writeBytes(part);
     }
 }

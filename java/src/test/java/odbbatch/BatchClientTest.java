@@ -223,21 +223,42 @@ class BatchClientTest {
 
     @Test
     void anInterruptEndsTheBatch() throws Exception {
-        serve((exchange, batch) -> Thread.sleep(20_000));
-        List<Object> found = Collections.synchronizedList(new ArrayList<>());
-        Thread thread = new Thread(() -> {
-            BatchResults results = client.limit(1).send(Texts.many(2, ""));
-            found.add(Thread.interrupted());
-            found.add(shown(results));
-        });
-        thread.start();
-        while (parts.isEmpty()) {
-            Thread.sleep(10);
+        for (boolean hasHead : new boolean[] {false, true}) {
+            parts.clear();
+            serve((exchange, batch) -> {
+                if (hasHead) {
+                    exchange.sendResponseHeaders(200, 0);
+                    exchange.getResponseBody().write('{');
+                    exchange.getResponseBody().flush();
+                }
+                Thread.sleep(20_000);
+            });
+            List<Object> found = Collections.synchronizedList(new ArrayList<>());
+            Thread thread = new Thread(() -> {
+                BatchResults results = client.limit(1).send(Texts.many(2, ""));
+                found.add(Thread.interrupted());
+                found.add(shown(results));
+            });
+            thread.start();
+            while (parts.isEmpty()) {
+                Thread.sleep(10);
+            }
+            Thread.sleep(200);
+            thread.interrupt();
+            thread.join(5_000);
+            assertFalse(thread.isAlive());
+            assertEquals(List.of(true, "{r0=504, r1=424}"), found);
+            server.removeContext("/odata/");
         }
-        thread.interrupt();
-        thread.join(5_000);
-        assertFalse(thread.isAlive());
-        assertEquals(List.of(true, "{r0=504, r1=424}"), found);
+    }
+
+    @Test
+    void aStatusThatIsNotFinalIsNone() {
+        serve((exchange, batch) -> reply(exchange, 200, bytes("{\"responses\":[{\"id\":\"r0\",\"status\":100}]}")));
+        BatchResults results = client.send(Texts.many(1, ""));
+        assertEquals("{r0=100}", shown(results));
+        assertEquals(1, Odb.check(results.rest()).requests());
+        assertEquals("{}", shown(client.send(Texts.many(0, ""))));
     }
 
     @Test

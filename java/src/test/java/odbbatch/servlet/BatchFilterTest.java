@@ -128,6 +128,10 @@ class BatchFilterTest {
                     for (int i = 0; i < 1000; i++) {
                         response.getOutputStream().write(part);
                     }
+                    seen.add(request.getMethod() + " has written all");
+                    break;
+                case "long":
+                    response.getOutputStream().write(new byte[60_000]);
                     break;
                 case "async":
                     request.startAsync();
@@ -309,9 +313,11 @@ class BatchFilterTest {
     @MethodSource("containers")
     void aBodyWithoutEndIsCutOff(String name) throws Exception {
         start(name, "", usual().maxBytes(100_000));
-        Map<String, Answer> found = answers(get("endless"), "{\"id\":\"ID\",\"method\":\"delete\",\"url\":\"endless\"}", get("echo"));
-        assertEquals("[507, 200, 200]", statuses(found));
+        String endless = "{\"id\":\"ID\",\"method\":\"delete\",\"url\":\"endless\"}";
+        Map<String, Answer> found = answers(get("endless"), endless, get("echo"), get("long"), get("long"));
+        assertEquals("[507, 200, 200, 200, 507]", statuses(found));
         assertEquals(0, found.get("r1").body().length);
+        assertTrue(seen.contains("DELETE has written all") && !seen.contains("GET has written all"), seen.toString());
     }
 
     @ParameterizedTest
