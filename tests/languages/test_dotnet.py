@@ -146,8 +146,8 @@ class BadService:
             with connection:
                 path = connection.recv(65536).split(b" ")[1].decode().strip("/")
                 getattr(self, path)(connection)
-        except OSError:
-            pass  # the client has gone
+        except (IndexError, OSError):
+            pass  # the client has gone, maybe before it has sent anything
 
     def hangs(self, connection):
         self._is_over.wait()
