@@ -15,7 +15,8 @@ import odbbatch.*;
  *
  * <p>Map it to that path alone, before all other filters, with {@code DispatcherType.REQUEST}. Map every filter that checks requests, as a
  * login, with {@code DispatcherType.FORWARD}, too: one that is mapped with REQUEST alone, the default, does not see the requests of a batch,
- * and lets all of them through. The API of servlets does not show how filters are mapped, so test it: send a URL that is forbidden in a batch.
+ * and lets all of them through. Security constraints of web.xml never see them, since they do not apply to what is forwarded. The API of
+ * servlets does not show how filters are mapped, so test it: send a URL that is forbidden in a batch.
  *
  * <pre>{@code
  * context.addFilter("batch", new BatchFilter("/odata/$batch", transaction)).addMappingForUrlPatterns(null, false, "/odata/$batch");
@@ -81,7 +82,8 @@ public final class BatchFilter implements Filter {
         Set<String> others = new TreeSet<>(config.getServletContext().getFilterRegistrations().keySet());
         others.remove(config.getFilterName());
         LOG.log(Level.INFO, "answers batches at " + path + ". Map this filter to that path alone, before all others, with DispatcherType.REQUEST,"
-            + " and each filter that checks requests with FORWARD, too, or it does not see those of batches. Other filters: " + others);
+            + " and each filter that checks requests with FORWARD, too, or it does not see those of batches, as constraints of web.xml never do."
+            + " Other filters: " + others);
     }
 
     @Override public void destroy() {}
