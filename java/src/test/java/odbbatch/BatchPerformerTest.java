@@ -281,6 +281,29 @@ class BatchPerformerTest {
         }
     }
 
+    /** Between two requests of a group fewer requests are running than units: no other unit may begin then. */
+    @Test
+    void asManyGroupsAtOnceAsTheWidth() throws Exception {
+        StringBuilder text = new StringBuilder();
+        for (int i = 0; i < 120; i++) {
+            text.append(i == 0 ? "" : ",").append("{\"id\":\"r" + i + "\",\"atomicityGroup\":\"g" + i / 3 + "\",\"method\":\"delete\",\"url\":\"A\"}");
+        }
+        byte[] batch = bytes("{\"requests\":[" + text + "]}");
+        for (int width : new int[] {1, 3, 8}) {
+            AtomicInteger now = new AtomicInteger(), most = new AtomicInteger();
+            byte[] response = BatchPerformer.of(batch, BASE).width(width).perform(request -> {
+                Thread.sleep(1);
+                return Answer.of(204);
+            }, (group, body) -> {
+                most.accumulateAndGet(now.incrementAndGet(), Math::max);
+                body.run();
+                now.decrementAndGet();
+            });
+            assertEquals(120, Odb.match(batch, response, Mode.CONTINUE, true).values().stream().filter(it -> it == 204).count());
+            assertEquals(width, most.get());
+        }
+    }
+
     @Test
     void aPoolMayBeFullOrShutDown() throws Exception {
         ExecutorService full = Executors.newFixedThreadPool(1);
