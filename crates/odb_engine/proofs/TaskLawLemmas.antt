@@ -1,7 +1,7 @@
 -- What a task may write is one text: of a batch and a second document, and of a line.
 use Rattle.std.proofs.Common.{◌≡◌, ◌∙◌, Bool, true, false, true≢false, List, [], ℕ, Option, None, Some, inl, inr, refl, sym, ap, subst}
 use Rattle.serde_json.specs.Data.{Data, Items, null, boolean, number, string, array, object, item, no_items}
-use Rattle.odb_doc.specs.Documents.{IsJson}
+use Rattle.odb_doc.specs.Documents.{IsDocument, IsJson}
 use Rattle.odb_doc.specs.declared.fault.Place.{Place}
 use Rattle.odb_doc.specs.declared.fault.Place.TheVariants as places
 use Rattle.odb_doc.specs.declared.recorded.outcome.Outcome.{Outcome}
@@ -10,6 +10,9 @@ use Rattle.odb_check.specs.LeastNameFault.{HasGoodNames}
 use Rattle.odb_sched.specs.declared.order.Order.{Order}
 use Rattle.odb_sched.specs.run.Choosing.{AllowsOrder}
 use Rattle.odb_sched.specs.run.State.{State}
+use Rattle.odb_spans.specs.Positions as spans
+use Rattle.odb_spans.specs.Spans.{bytes_of}
+use Rattle.odb_spans.specs.declared.span.Span.{Span}
 use Rattle.odb_send.specs.Parts.{IsBatchIn}
 use Rattle.odb_engine.specs.declared.form.Form.{Form}
 use Rattle.odb_engine.specs.declared.tasks.task.Task.{Task}
@@ -25,7 +28,7 @@ use Rattle.odb_engine.specs.Rests.{RestsValue}
 use Rattle.odb_engine.specs.Runs.{RunsValue}
 use Rattle.odb_engine.proofs.CanonLawLemmas.{canonical_one}
 use Rattle.odb_engine.proofs.CourseLemmas.{AreOneRecord, HasOrder, replays_value_one}
-use Rattle.odb_engine.proofs.LawLemmas.{AreFunctional, answers_in_one, document_one, value_one}
+use Rattle.odb_engine.proofs.LawLemmas.{AreFunctional, answers_in_one, document_in_one, document_one, value_in_one}
 use Rattle.odb_engine.proofs.ListLawLemmas.{written-one}
 use Rattle.odb_engine.proofs.MatchLawLemmas.{AreOneMatch, matches_value_one}
 use Rattle.odb_engine.proofs.RestLawLemmas.{AreOneRest, places_one, rests_value_one}
@@ -62,29 +65,41 @@ first-json true line first second bytes taken same =
     let parts = taken.parts in
     subst (IsJson bytes) (sym (first-one first second parts.batch parts.second parts.is)) (subst (λ b. IsJson b parts.batch) (sym taken.is) parts.first_text.reads)
 
--- one text is written of a line with two documents whose bytes are not taken, if one is of each batch and each second document
-module _ (law : AreFunctional) (P : List ℕ → Given → List Record → WritesIn) (form : Form) (one : (batch : List Record) → HasGoodNames batch → (second : Data) → IsOne (P [] (InHand second) batch form)) where
-  pair-value : (line : List ℕ) (value : Data) → IsOne (AnswersPair false P line value form)
-  pair-value line value a b s t (inl x) (inl y) = (x.ends ∙ sym y.ends, x.prints ∙ ap (fault_text form) (x.is.is ∙ sym y.is.is) ∙ sym y.prints)
-  pair-value line value a b s t (inl x) (inr y) = absurd (x.is.none y.first y.second y.pair)
-  pair-value line value a b s t (inr x) (inl y) = absurd (y.is.none x.first x.second x.pair)
-  pair-value line value a b s t (inr x) (inr y) =
+-- the first of the two documents in a line lies in one place
+abbrev pub IsOnePair : Type 0
+IsOnePair = (line : List ℕ) (d : Data) (first second other another : Span) → IsJson line d → spans.ArePartsOf line first second d → spans.ArePartsOf line other another d → first ≡ other
+
+same-taken : IsOnePair → (takes : Bool) (line : List ℕ) (value : Data) (a b : List ℕ) → IsJson line value → IsTakenOf takes line value a → IsTakenOf takes line value b → a ≡ b
+same-taken law false line value a b is x y = x ∙ sym y
+same-taken law true line value a b is x y = x.is ∙ ap (bytes_of line) (law line value x.first x.other y.first y.other is x.parts y.parts) ∙ sym y.is
+
+-- one text is written of a line with two documents, if one is of each batch and each second document
+module _ (law : AreFunctional) (pair : IsOnePair) (takes : Bool) (P : List ℕ → Given → List Record → WritesIn) (form : Form)
+    (one : (document : List ℕ) (batch : List Record) → HasGoodNames batch → (takes ≡ true → (d : Data) × IsBatchIn document d batch) → (second : Data) → IsOne (P document (InHand second) batch form)) where
+  pair-value : (line : List ℕ) (value : Data) → IsDocument line value → IsOne (AnswersPair takes P line value form)
+  pair-value line value is a b s t (inl x) (inl y) = (x.ends ∙ sym y.ends, x.prints ∙ ap (fault_text form) (x.is.is ∙ sym y.is.is) ∙ sym y.prints)
+  pair-value line value is a b s t (inl x) (inr y) = absurd (x.is.none y.first y.second y.pair)
+  pair-value line value is a b s t (inr x) (inl y) = absurd (y.is.none x.first x.second x.pair)
+  pair-value line value is a b s t (inr x) (inr y) =
       let same = sym x.pair ∙ y.pair in
       let first = first-one x.first x.second y.first y.second same in
       let second = second-one x.first x.second y.first y.second same in
-      let xs = subst (λ bytes. AnswersValue (P bytes (InHand x.second)) x.first form a s) x.taken x.so in
-      let ys = subst (λ bytes. AnswersValue (P bytes (InHand y.second)) y.first form b t) y.taken y.so in
-      value_one law (P [] (InHand y.second)) form (λ batch good. one batch good y.second) y.first a b s t
-      (subst (λ d. AnswersValue (P [] (InHand y.second)) d form a s) first (subst (λ d. AnswersValue (P [] (InHand d)) x.first form a s) second xs)) ys
+      let document = same-taken pair takes line value x.document y.document is.1 x.taken y.taken in
+      let xs = subst (λ bytes. AnswersValue (P bytes (InHand x.second)) x.first form a s) document x.so in
+      let taken = subst (λ v. IsTakenOf takes line v y.document) y.pair y.taken in
+      value_in_one law (P y.document (InHand y.second)) form y.first
+      (λ batch is good. one y.document batch good (λ has. (y.first, record { json = first-json takes line y.first y.second y.document taken has; is = is })) y.second) a b s t
+      (subst (λ d. AnswersValue (P y.document (InHand y.second)) d form a s) first (subst (λ d. AnswersValue (P y.document (InHand d)) x.first form a s) second xs)) y.so
 
-  pub pair-one : (line : List ℕ) → IsOne (OfPair false P line form)
-  pair-one line = document_one places.Batch (AnswersPair false P line) line form (pair-value line)
+  pub pair-one : (line : List ℕ) → IsOne (OfPair takes P line form)
+  pair-one line = document_in_one places.Batch (AnswersPair takes P line) line form (pair-value line)
 
 -- the laws that the tasks stand on
 pub record AreOneText : Type 0 where
   pub batch : AreFunctional
   pub matching : AreOneMatch
   pub rest : AreOneRest
+  pub pair : IsOnePair
   pub recorded : AreOneRecord
   pub order : (order : Order) (recorded : List (Option Outcome)) (first : State) → HasOrder order recorded first
   pub history : AreOneHistory
@@ -129,12 +144,9 @@ answers-one law task form given known bytes = answers_in_one law.batch (OfTask t
 pub documents-one : AreOneText → (task : Task) (form : Form) (given : Given) → IsKnown given → (bytes : List ℕ) → IsOne (OfDocuments task given bytes form)
 documents-one law task form given known bytes = written-one law.batch (lists_all task) (Answers (OfTask task bytes given) bytes) bytes form (answers-one law task form given known bytes)
 
--- of a line with two documents the bytes are not taken
-pub line-one : AreOneText → (task : Task) → (takes_second task ≡ true → takes_bytes task ≡ false) → (form : Form) (line : List ℕ) → IsOne (OfWholeLine task line form)
-line-one law task alone form line = written-one law.batch (lists_all task) (OfLine task line) line form (at (takes_second task) refl)
+pub line-one : AreOneText → (task : Task) (form : Form) (line : List ℕ) → IsOne (OfWholeLine task line form)
+line-one law task form line = written-one law.batch (lists_all task) (OfLine task line) line form (at (takes_second task))
   where
-    at : (two : Bool) → takes_second task ≡ two → IsOne (InLine two (takes_bytes task) (OfTask task) line form)
-    at false is = answers-one law task form (InMemory []) tt line
-    at true is =
-        subst (λ (takes : Bool). IsOne (InLine true takes (OfTask task) line form)) (sym (alone is))
-        (pair-one law.batch (OfTask task) form (λ batch good second. task-one law task [] form (InHand second) tt batch good (λ takes. absurd (true≢false (sym takes ∙ alone is)))) line)
+    at : (two : Bool) → IsOne (InLine two (takes_bytes task) (OfTask task) line form)
+    at false = answers-one law task form (InMemory []) tt line
+    at true = pair-one law.batch law.pair (takes_bytes task) (OfTask task) form (λ document batch good taken second. task-one law task document form (InHand second) tt batch good taken) line

@@ -66,18 +66,17 @@ pub fn one_document()
 
 /// Two texts that a task may write for the same bytes of a batch document and of a second document are equal,
 /// and so are the ends: for each task with its options, in each form, and also if one of the documents is
-/// refused. Likewise for a line of a log, with one document or with two, but for a rest of a line. So what a task writes is a
-/// function of the bytes and the form.
+/// refused. Likewise for a line of a log, with one document or with two. So what a task writes is a function of the bytes and
+/// the form.
 ///
 /// The relation `OfDocuments` is that of [`crate::answer_documents`], and `OfWholeLine` that of [`crate::answer_line`]. `left` is
-/// what the second reader has left. No law states that the batch in a line has its bytes in one place alone.
+/// what the second reader has left.
 pub fn one_text()
     ensures task { (task : Task) (form : Form) (bytes left : List ℕ)
         → IsOne (OfDocuments task (ByReader (Some left)) bytes form) }
     ensures memory { (task : Task) (form : Form) (bytes second : List ℕ)
         → IsOne (OfDocuments task (InMemory second) bytes form) }
-    ensures line { (task : Task) (form : Form) (line : List ℕ)
-        → (takes_second task ≡ true → takes_bytes task ≡ false) → IsOne (OfWholeLine task line form) }
+    ensures line { (task : Task) (form : Form) (line : List ℕ) → IsOne (OfWholeLine task line form) }
 {
     odb_doc::laws::one_batch();
     odb_doc::laws::one_fault();
@@ -85,6 +84,7 @@ pub fn one_text()
     odb_reply::laws::one_document();
     odb_reply::laws::one_match();
     odb_spans::laws::one_place();
+    odb_spans::laws::one_pair();
     odb_send::laws::one_rest();
     odb_reply::laws::one_status();
     odb_doc::laws::one_record();

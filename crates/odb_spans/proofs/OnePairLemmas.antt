@@ -1,5 +1,5 @@
 -- The first document of a pair has one place in its line.
-use Rattle.std.proofs.Common.{◌≡◌, ◌∙◌, ℕ, true, List, Some, refl, sym, ap, subst, arith}
+use Rattle.std.proofs.Common.{◌≡◌, ◌∙◌, ℕ, true, List, Some, refl, sym, ap, arith}
 use Rattle.json.specs.Json as json
 use Rattle.serde_json.specs.Data.{Data, array, boolean, no_members, null, object}
 use Rattle.serde_json.specs.Read.{of_items, of_json, of_members}
@@ -7,7 +7,6 @@ use Rattle.odb_doc.specs.Documents.{IsJson}
 use Rattle.odb_spans.specs.Parts.{append_items, append_members}
 use Rattle.odb_spans.specs.Positions.{ArePartsOf, pair}
 use Rattle.odb_spans.specs.declared.span.Span.{Span}
-use Rattle.odb_spans.proofs.AloneLemmas.{BeginsToken}
 use Rattle.odb_spans.proofs.DataLemmas.{item-read, maps-to}
 use Rattle.odb_spans.proofs.HoleLemmas.{Hole, here, in_item, in_member, fill}
 use Rattle.odb_spans.proofs.OneSpanLemmas.{HasHole, IsFilled, IsSolidSpan, begun, has-hole, one-span}

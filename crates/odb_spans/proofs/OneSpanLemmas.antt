@@ -1,8 +1,7 @@
 -- A span in whose place null and true are read is where one value of the document's tree lies, and no other span lies there.
-use Rattle.std.proofs.Common.{◌≡◌, ◌∙◌, ℕ, zero, suc, ◌+◌, ◌-◌, ◌<◌, ◌≤◌, Bool, true, false, cond, ◌==◌, List, [], ◌∷◌, ◌++◌, length, take, drop, get_or, codes, Option, Some, None, refl, sym, ap, ap₂, subst, arith, append_assoc, append-nil, length-append}
+use Rattle.std.proofs.Common.{◌≡◌, ◌∙◌, ℕ, zero, suc, ◌+◌, ◌-◌, ◌<◌, ◌≤◌, Bool, true, false, cond, ◌==◌, List, [], ◌∷◌, ◌++◌, length, take, drop, get_or, codes, refl, sym, ap, ap₂, arith, append_assoc, append-nil, length-append}
 use Rattle.std.proofs.lemmas.Bool.{true≢false, and_parts}
-use Rattle.std.proofs.lemmas.List.{append_cancel_left, drop-drop, drop_more, get_or-drop, get_or-take, length-drop, length-map, length-take, take-append-drop}
-use Rattle.std.specs.List.{AllZip}
+use Rattle.std.proofs.lemmas.List.{append_cancel_left, drop-drop, drop_more, get_or-drop, get_or-take, length-drop, length-take, take-append-drop}
 use Rattle.json.specs.Token.{Token, bad, boolean, null}
 use Rattle.json.specs.Word.{ends_word, is_operator, is_space, word}
 use Rattle.json.specs.Align.{is_blank, is_good}
@@ -11,17 +10,15 @@ use Rattle.json.specs.Json as json
 use Rattle.json.specs.Tree.{json_tokens}
 use Rattle.serde_json.specs.Data.{Data}
 use Rattle.odb_doc.specs.Documents.{IsJson}
-use Rattle.odb_doc.specs.Members.{elements_at}
-use Rattle.odb_spans.specs.Spans.{EachSpan, HasMemberAt, IsPlaceOfMember, IsSpanOf, bytes_of, member_of, members_of, replaced}
+use Rattle.odb_spans.specs.Spans.{bytes_of, replaced}
 use Rattle.odb_spans.specs.declared.span.Span.{Span}
 use Rattle.odb_spans.proofs.AloneLemmas.{BeginsToken, all-blank, colon-front, lex-value, no-colon, none-left, same-token, value-again}
 use Rattle.odb_spans.proofs.BracketLemmas.{begins}
 use Rattle.odb_spans.proofs.FillLemmas.{null-at, true-at}
 use Rattle.odb_spans.proofs.FrontLemmas.{SplitsAt, all_good, all_lexed, at-good, good-json, good-lexemes, good-rest, lex-null, lex-true, lexed-after, same-place, splits-at}
 use Rattle.odb_spans.proofs.HoleLemmas.{Hole, fill, before, after, HoleIn, find-json, same-tree, spells}
-use Rattle.odb_spans.proofs.LookedLemmas.{looks-other, looks-true}
 use Rattle.odb_spans.proofs.PartLemmas.{begins-with-token}
-use Rattle.odb_spans.proofs.PathLemmas.{IsMemberHole, IsTrueValue, SameHole, is-member-hole, looked, same-hole}
+use Rattle.odb_spans.proofs.PathLemmas.{SameHole}
 use Rattle.odb_spans.proofs.PlaceLemmas.{at-token}
 use Rattle.odb_spans.proofs.ReadLemmas.{IsTreeOf, tree-of}
 

@@ -28,6 +28,7 @@ returns c =
       batch = batch;
       matching = matching;
       rest = record { one_place = c.one_place.ensures; one_text = c.one_rest.ensures.text; one_fault = c.one_rest.ensures.fault; no_fault = c.one_rest.ensures.none };
+      pair = c.one_pair.ensures;
       recorded = record { one_fault = c.one_record.ensures.one; no_fault = c.one_record.ensures.none; one_reading = c.one_record.ensures.outcomes };
       order = λ order outcomes first. record { course = c.every_order.ensures.one_course order outcomes first; fault = c.every_order.ensures.one_fault order outcomes first; apart = c.every_order.ensures.fault_or_end order outcomes first };
       history = record { one_fault = c.one_history.ensures.one; no_fault = c.one_history.ensures.none; one_reading = c.one_history.ensures.events };
@@ -36,5 +37,5 @@ returns c =
     record {
       task = λ task form bytes left. documents-one law task form (ByReader (Some left)) tt bytes;
       memory = λ task form bytes second. documents-one law task form (InMemory second) tt bytes;
-      line = λ task form line alone. line-one law task alone form line;
+      line = λ task form line. line-one law task form line;
     }
