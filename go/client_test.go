@@ -205,12 +205,13 @@ func TestAServiceThatIsBad(t *testing.T) {
 		wanted string
 		rest   int
 	}{
-		"busy":      {503, "later", "r0 503, r1 503, r2 424", 3},
-		"login":     {401, "who?", "r0 401, r1 401, r2 424", 1},
-		"accepted":  {202, "", "r0 502, r1 502, r2 424", 3},
-		"no JSON":   {200, "{", "r0 502, r1 502, r2 424", 3},
-		"other ids": {200, `{"responses":[{"id":"x","status":200},{"id":"r1","status":200}]}`, "r0 502, r1 502, r2 424", 3},
-		"too long":  {200, all([]string{"r0", "r1"}, 200, `,"body":"`+strings.Repeat("x", 1000)+`"`), "r0 502, r1 502, r2 424", 3},
+		"busy":       {503, "later", "r0 503, r1 503, r2 424", 3},
+		"login":      {401, "who?", "r0 401, r1 401, r2 424", 1},
+		"accepted":   {202, "", "r0 502, r1 502, r2 424", 3},
+		"a redirect": {307, "", "r0 502, r1 502, r2 424", 3},
+		"no JSON":    {200, "{", "r0 502, r1 502, r2 424", 3},
+		"other ids":  {200, `{"responses":[{"id":"x","status":200},{"id":"r1","status":200}]}`, "r0 502, r1 502, r2 424", 3},
+		"too long":   {200, all([]string{"r0", "r1"}, 200, `,"body":"`+strings.Repeat("x", 1000)+`"`), "r0 502, r1 502, r2 424", 3},
 	} {
 		url, came := posts(t, func(part int, ids []string) (int, string) { return it.status, it.answer })
 		results, err := odb.Send(context.Background(), nil, url, many(3), odb.SendOptions{Limit: 2, MaxSize: 1000})

@@ -56,8 +56,6 @@ func (h *batchHandler) ServeHTTP(w http.ResponseWriter, outer *http.Request) {
 	var fault *Fault
 	if errors.As(err, &fault) {
 		err = &Refusal{Status: 400, Code: fault.Code, Message: fault.Name + ": " + fault.Explanation(), Target: fault.Place}
-	} else if errors.Is(err, context.Canceled) {
-		panic(http.ErrAbortHandler) // the client has gone
 	}
 	if err != nil {
 		answer = answerTo(err)

@@ -133,6 +133,18 @@ func TestHandler(t *testing.T) {
 	}
 }
 
+// A batch that is posted to another path than one that ends with $batch, and holds itself.
+func TestANestedBatch(t *testing.T) {
+	handler := odb.Handler(http.HandlerFunc(echo), odb.HandlerOptions{Path: "/odata/all"})
+	post := httptest.NewRequest("POST", "/odata/all", strings.NewReader(`{"requests":[{"id":"a","method":"post","url":"%61ll","body":{"requests":[]}}]}`))
+	post.Header.Set("Content-Type", "application/json")
+	got := httptest.NewRecorder()
+	handler.ServeHTTP(got, post)
+	if got.Code != 200 || !strings.Contains(got.Body.String(), "NestedBatch") {
+		t.Error(got.Code, got.Body)
+	}
+}
+
 func TestInheritedHeaders(t *testing.T) {
 	_, post := served(t, func(w http.ResponseWriter, r *http.Request) {
 		var names []string
@@ -200,6 +212,9 @@ func TestBehindAProxy(t *testing.T) {
 	}, odb.HandlerOptions{})
 	headers := http.Header{"X-Forwarded-Host": {"outside.example, inner"}}
 	found := post(headers, "post Books", `get $r0/Pages ,"dependsOn":["r0"]`, "get https://outside.example/odata/x", "get https://other.example/odata/x")
+	if wrong := post(http.Header{"X-Forwarded-Host": {"a b/c?d, ,"}}, "get x"); wrong["r0"].Status != 200 {
+		t.Error(wrong)
+	}
 	if found["r1"].Body != "/odata/Books(1)/Pages" || found["r2"].Body != "/odata/x" || found["r3"].Status != 404 {
 		t.Error(found)
 	}

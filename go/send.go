@@ -141,7 +141,7 @@ func Send(ctx context.Context, client *http.Client, url string, document []byte,
 		} else if err != nil || len(ids) == 0 {
 			return s.Results, err
 		}
-		if err = s.exchange(ctx, part, ids); err != nil {
+		if err = s.exchange(ctx, part); err != nil {
 			for _, id := range ids {
 				s.answers[id] = answerTo(err)
 			}
@@ -160,7 +160,7 @@ type sending struct {
 }
 
 // exchange posts a part, and notes what its requests were answered.
-func (s *sending) exchange(ctx context.Context, part []byte, ids []string) error {
+func (s *sending) exchange(ctx context.Context, part []byte) error {
 	post, err := http.NewRequestWithContext(ctx, "POST", s.url, bytes.NewReader(part))
 	if err != nil {
 		return err
@@ -183,8 +183,6 @@ func (s *sending) exchange(ctx context.Context, part []byte, ids []string) error
 	case answer.StatusCode >= 400:
 		return &Refusal{answer.StatusCode, "Refused", fmt.Sprintf("%.1000s", text), "", nil}
 	case err != nil:
-	case answer.StatusCode != 200:
-		err = fmt.Errorf("a batch was answered %d", answer.StatusCode)
 	case int64(len(text)) > s.MaxSize:
 		err = fmt.Errorf("the answer has more than %d bytes", s.MaxSize)
 	default:
@@ -194,36 +192,24 @@ func (s *sending) exchange(ctx context.Context, part []byte, ids []string) error
 		return &url.Error{Op: "Post", URL: s.url, Err: err} // which is answered 502, or 504
 	}
 	responses, err := Responses(text)
-	s.take(ids, responses)
+	for _, it := range responses { // in mode Stop a request may have none
+		s.take(it)
+	}
 	return err
 }
 
-// take notes what the requests of a part were answered: first those that have succeeded, since a service may have performed them before
-// an error that stops the run. In mode Stop a request may have no answer.
-func (s *sending) take(ids []string, responses []Response) {
-	found := map[string]Response{}
-	for _, it := range responses {
-		found[it.ID] = it
+// take notes what a request was answered, as bytes on the wire. One that may not start, since others have failed, is skipped by the run.
+func (s *sending) take(it Response) {
+	body, err := toWire(it.Body, it.Headers["content-type"])
+	if err != nil {
+		body = it.Body
 	}
-	for _, isFirst := range []bool{true, false} {
-		for _, id := range ids {
-			it, isAnswered := found[id]
-			body, err := toWire(it.Body, it.Headers["content-type"])
-			if err != nil {
-				body = it.Body
-			}
-			answer := Answer{it.Status, it.Headers, body}
-			if !isAnswered || answer.OK() != isFirst {
-				continue
-			}
-			s.answers[id] = answer
-			if place := s.place(id); place != "" {
-				s.places[id] = map[string]string{"location": place}
-			}
-			_ = s.run.StartUnit(id)
-			_ = s.run.Report(id, answer.Status, s.places[id], nil) // one that may not start is skipped by the run
-		}
+	s.answers[it.ID] = Answer{it.Status, it.Headers, body}
+	if place := s.place(it.ID); place != "" {
+		s.places[it.ID] = map[string]string{"location": place}
 	}
+	_ = s.run.StartUnit(it.ID)
+	_ = s.run.Report(it.ID, it.Status, s.places[it.ID], nil)
 }
 
 // place returns the URL of what a request has created or returned; it is empty if that is not known.
