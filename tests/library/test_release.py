@@ -270,6 +270,7 @@ def test_the_package_for_java(archive, tmp_path):
     with zipfile.ZipFile(jar) as package:
         names = package.namelist()
         assert f"Implementation-Version: {VERSION}\n" in package.read("META-INF/MANIFEST.MF").decode()
+        assert UNLICENSED in package.read("META-INF/maven/odbbatch/odb_batch/pom.xml").decode()
     filters = {f"odbbatch/{it}/BatchFilter" for it in ("servlet", "jakarta")}
     assert {"linux-x86-64/libodb_batch.so", *(f"{it}.class" for it in filters)} <= set(names)
     with zipfile.ZipFile(made(archive, f"odb_batch-{VERSION}-sources.jar")) as package:
