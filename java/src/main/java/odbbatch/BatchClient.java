@@ -134,14 +134,14 @@ public final class BatchClient {
     private Answer posted(byte[] document) throws IOException, InterruptedException {
         HttpRequest.Builder request = HttpRequest.newBuilder(url).POST(HttpRequest.BodyPublishers.ofByteArray(document));
         headers.forEach(request::setHeader);
-        if (mode == Mode.CONTINUE) { request.setHeader("prefer", "continue-on-error"); }
+        if (mode == Mode.CONTINUE) { request.header("prefer", "continue-on-error"); }
         return PreparedRequest.exchange(client, request, timeout);
     }
 
     /** Notes an answer, with what later parts refer to. What the run has skipped was not performed by the service either. */
     private static void report(LiveRun run, String id, Answer answer) {
         if (run.state(id) != LiveRun.State.RUNNING && run.tryStartUnit(id) != OdbLibrary.DONE) { return; }
-        String location = answer.headers().get("location");
+        String location = answer.headers().getOrDefault("location", answer.headers().get("odata-entityid"));
         run.report(id, answer.status() < 200 ? 502 : answer.status(), location == null ? null : Map.of("location", location), null);
     }
 

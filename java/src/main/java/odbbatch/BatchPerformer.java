@@ -215,8 +215,8 @@ public final class BatchPerformer {
                 for (;; changed.await()) {
                     List<String> unit = isOver ? null : begin();
                     if (unit != null) {
-                        busy.add(Thread.currentThread());
                         callHelp();
+                        busy.add(Thread.currentThread());
                         return unit;
                     } else if (isOver || busy.isEmpty()) {
                         changed.signal(); // another one that waits finds the same
@@ -243,7 +243,7 @@ public final class BatchPerformer {
             try {
                 threads.execute(this::help);
                 workers++;
-            } catch (RejectedExecutionException error) {
+            } catch (RejectedExecutionException | OutOfMemoryError error) { // as of a system with no more threads
                 LOG.log(Level.WARNING, "the pool takes no more units, so fewer threads perform them");
             }
         }

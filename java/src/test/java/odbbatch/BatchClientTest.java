@@ -36,6 +36,7 @@ class BatchClientTest {
     private final ExecutorService threads = Executors.newCachedThreadPool();
     private final List<List<String>> parts = Collections.synchronizedList(new ArrayList<>()); // what each has sent, by ids
     private final List<String> seen = Collections.synchronizedList(new ArrayList<>());
+    private volatile String received; // headers of the last part
     private HttpServer server;
     private BatchClient client;
 
@@ -63,6 +64,8 @@ class BatchClientTest {
             List<String> ids = new ArrayList<>();
             Odb.requests(batch).forEach(it -> ids.add(it.id()));
             parts.add(ids);
+            received = exchange.getRequestHeaders().getFirst("X-A") + " " + exchange.getRequestHeaders().get("Prefer") + " "
+                + exchange.getRequestHeaders().getFirst("Content-Type");
             try {
                 handler.handle(exchange, batch);
             } catch (Exception error) {
@@ -82,7 +85,7 @@ class BatchClientTest {
         AtomicInteger number = new AtomicInteger();
         serve((exchange, batch) -> reply(exchange, 200, BatchPerformer.of(batch, URI.create("http://localhost/odata/")).perform(request -> {
             seen.add(request.id() + " " + request.url() + " " + request.headers().getOrDefault("if-match", ""));
-            return request.method().equals("POST") ? Answer.of(201, Map.of("location", "/odata/E(" + request.id() + ")", "etag", "W/\"" + number.incrementAndGet() + "\""), null)
+            return request.method().equals("POST") ? Answer.of(201, Map.of(request.id().equals("o") ? "OData-EntityId" : "location", "/odata/E(" + request.id() + ")", "etag", "W/\"" + number.incrementAndGet() + "\""), null)
                 : request.url().endsWith("Busy") ? Answer.of(503) : request.url().endsWith("Wrong") ? Answer.of(404) : Answer.of(200, Map.of(), bytes("{\"x\":1.50}"));
         }, (group, body) -> body.run())));
     }
@@ -93,7 +96,8 @@ class BatchClientTest {
         Batch batch = new Batch();
         Batch.Name order = batch.post("Orders", "{}").add();
         Batch.Name list = batch.get(order + "/Lines").add();
-        BatchResults results = client.header("X-A", "7").send(batch);
+        BatchResults results = client.header("X-A", "7").header("Prefer", "return=minimal").send(batch);
+        assertEquals("7 [return=minimal, continue-on-error] application/json", received);
         assertEquals(List.of(List.of("1", "2")), parts);
         assertEquals("{\"x\":1.50}", text(results.require(list).body()));
         assertEquals("/odata/E(1)", results.get("1").headers().get("location"));

@@ -16,6 +16,7 @@ import java.util.ArrayList;
 import java.util.Collections;
 import java.util.List;
 import java.util.Map;
+import java.util.concurrent.AbstractExecutorService;
 import java.util.concurrent.CompletableFuture;
 import java.util.concurrent.ConcurrentHashMap;
 import java.util.concurrent.CountDownLatch;
@@ -319,6 +320,52 @@ class BatchPerformerTest {
         end.countDown();
         full.shutdown();
         assertTrue(full.awaitTermination(10, TimeUnit.SECONDS));
+    }
+
+    @Test
+    void aPoolMayFail() throws Exception {
+        byte[] batch = many(100, "");
+        BatchPerformer few = BatchPerformer.of(batch, BASE).width(8).pool(failing(new OutOfMemoryError("unable to create native thread")));
+        assertEquals(100, Odb.match(batch, few.perform(it -> Answer.of(204)), Mode.CONTINUE, true).size());
+        IllegalStateException broken = new IllegalStateException("broken");
+        BatchPerformer none = BatchPerformer.of(batch, BASE).width(8).pool(failing(broken));
+        assertEquals(broken, assertThrows(IllegalStateException.class, () -> none.perform(it -> Answer.of(204))));
+    }
+
+    /** A pool that throws. */
+    private static ExecutorService failing(Throwable error) {
+        return new AbstractExecutorService() {
+            @Override
+            public void execute(Runnable task) {
+                if (error instanceof Error) {
+                    throw (Error) error;
+                }
+                throw (RuntimeException) error;
+            }
+
+            @Override
+            public void shutdown() {}
+
+            @Override
+            public List<Runnable> shutdownNow() {
+                return List.of();
+            }
+
+            @Override
+            public boolean isShutdown() {
+                return false;
+            }
+
+            @Override
+            public boolean isTerminated() {
+                return false;
+            }
+
+            @Override
+            public boolean awaitTermination(long timeout, TimeUnit unit) {
+                return false;
+            }
+        };
     }
 
     private static boolean waited(CountDownLatch latch) {

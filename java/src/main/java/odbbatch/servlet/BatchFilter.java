@@ -77,13 +77,13 @@ public final class BatchFilter implements Filter {
      */
     public BatchFilter allow(String... names) { allowed.addAll(Set.of(names)); return this; }
 
-    /** Logs how the filter and the others have to be mapped. */
+    /** Logs how the filter and the others have to be mapped. Without the library the application does not start. */
     @Override public void init(FilterConfig config) {
         Set<String> others = new TreeSet<>(config.getServletContext().getFilterRegistrations().keySet());
         others.remove(config.getFilterName());
         LOG.log(Level.INFO, "answers batches at " + path + ". Map this filter to that path alone, before all others, with DispatcherType.REQUEST,"
             + " and each filter that checks requests with FORWARD, too, or it does not see those of batches, as constraints of web.xml never do."
-            + " Other filters: " + others);
+            + " Other filters: " + others + ". Library: " + Odb.version());
     }
 
     @Override public void destroy() {}
