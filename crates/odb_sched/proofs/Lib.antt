@@ -26,6 +26,9 @@ pub mod LiveWidthLemmas
 pub mod LivePhaseLemmas
 pub mod LivePromiseLemmas
 pub mod NameLemmas
+pub mod PossibleLiveLemmas
+pub mod LiveReachableLemmas
+pub mod LiveWitnessLemmas
 pub mod ListLemmas
 pub mod CountLemmas
 pub mod PropagateLemmas

@@ -42,7 +42,7 @@ phases_running plan before after u from to span each members earlier later =
     at j within (inr begun) (inr late) = later j late ∙ sym (other_stays plan before u j within (λ here. let inside = (span.exact j within).0 here in omega (arith, inside.1, late)))
 
 -- what answers alike for a running request and one that has not started answers as before
-as_running : {X : Type 0} (plan : PlanGraph) (phases : List Phase) (u : ℕ) (value : Phase → X) → length phases ≡ length plan.units → has_begun_in plan phases u ≡ false → value Running ≡ value Unstarted
+pub as_running : {X : Type 0} (plan : PlanGraph) (phases : List Phase) (u : ℕ) (value : Phase → X) → length phases ≡ length plan.units → has_begun_in plan phases u ≡ false → value Running ≡ value Unstarted
     → (j : ℕ) → value (get_or (running_members plan phases u) j Unstarted) ≡ value (get_or phases j Unstarted)
 as_running plan phases u value each fresh same j = elim (cases_lt j (length plan.units)) [
   | inl within ↦ elim (cases_eq (unit_of plan j) u) [

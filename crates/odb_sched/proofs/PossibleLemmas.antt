@@ -71,7 +71,7 @@ undone_is : (phase : Phase) (whole : Bool) → has_succeeded phase ≡ true → 
 undone_is (Reported outcome) whole good poor = rw (good, poor) refl
 undone_is phase whole good poor = absurd (cc)
 
-unstarted_is : (phase : Phase) (whole : Bool) → not (is_unstarted phase) ≡ false → status_of (answer_of phase whole) ≡ 424
+pub unstarted_is : (phase : Phase) (whole : Bool) → not (is_unstarted phase) ≡ false → status_of (answer_of phase whole) ≡ 424
 unstarted_is Unstarted whole e = refl
 unstarted_is phase whole e = absurd (cc)
 
@@ -79,7 +79,7 @@ begun_is : (phase : Phase) → has_succeeded phase ≡ true → not (is_unstarte
 begun_is (Reported outcome) e = refl
 begun_is phase e = absurd (cc)
 
-success-from : (state : State) (i : ℕ) → i < size state → unit_succeeded state (unit_of state.plan_graph i) ≡ true → is_success (status_of (answer state i)) ≡ true
+pub success-from : (state : State) (i : ℕ) → i < size state → unit_succeeded state (unit_of state.plan_graph i) ≡ true → is_success (status_of (answer state i)) ≡ true
 success-from state i within whole = success_is (answer state i) ∙ answered-from state i within whole
 
 -- the statuses of the answers
@@ -87,10 +87,10 @@ abbrev pub answered : State → ℕ → ℕ
 answered state i = status_of (answer state i)
 
 -- the requests that have started
-abbrev begun : State → ℕ → Bool
+abbrev pub begun : State → ℕ → Bool
 begun state i = not (is_unstarted (phase_at state i))
 
-can_have_succeeded : (state : State) (i : ℕ) (need : Need) → IsReached state → i < size state → Contains (needs_of state.plan_graph i) need → ((other : Need) → Contains (needs_of state.plan_graph i) other → is_satisfied state other ≡ true)
+pub can_have_succeeded : (state : State) (i : ℕ) (need : Need) → IsReached state → i < size state → Contains (needs_of state.plan_graph i) need → ((other : Need) → Contains (needs_of state.plan_graph i) other → is_satisfied state other ≡ true)
     → CanHaveSucceeded state.plan_graph (answered state) (begun state) i need
 can_have_succeeded state i (One r) reached within has satisfied =
     let earlier : r < i = reached.laws.earlier i (One r) within has in

@@ -51,12 +51,12 @@ further first Holds events event run within may holds = record { events = events
 -- ---- before anything but successes is reported
 
 -- what becomes of a request at first
-abbrev early : Phase → Phase
+abbrev pub early : Phase → Phase
 early Unstarted = Unstarted
 early Running = Running
 early (Reported outcome) = if is_success outcome.status then Reported outcome else Running
 
-early-succeeded : (phase : Phase) → has_succeeded phase ≡ true → early phase ≡ phase
+pub early-succeeded : (phase : Phase) → has_succeeded phase ≡ true → early phase ≡ phase
 early-succeeded (Reported outcome) good = rw good refl
 early-succeeded phase good = absurd (cc)
 
@@ -75,7 +75,7 @@ early-sound (Reported outcome) = elim (cases_Bool (is_success outcome.status)) [
 ]
 
 -- the requests below k have come so far, and no other has started
-record IsEarly (n : ℕ) (ends : ℕ → Phase) (k : ℕ) (state : State) : Type 0 where
+pub record IsEarly (n : ℕ) (ends : ℕ → Phase) (k : ℕ) (state : State) : Type 0 where
   pub reached : IsReached state
   pub going : state.closed ≡ false
   pub wide : state.policy.width ≡ 10000
@@ -84,24 +84,24 @@ record IsEarly (n : ℕ) (ends : ℕ → Phase) (k : ℕ) (state : State) : Type
   pub below : (i : ℕ) → i < k → phase_at state i ≡ early (ends i)
   pub beyond : (i : ℕ) → k ≤ i → phase_at state i ≡ Unstarted
 
-sound_at : (n : ℕ) (ends : ℕ → Phase) (k : ℕ) (state : State) (i : ℕ) → IsEarly n ends k state → (has_failed (phase_at state i) ≡ false) × (has_erred (phase_at state i) ≡ false)
+pub sound_at : (n : ℕ) (ends : ℕ → Phase) (k : ℕ) (state : State) (i : ℕ) → IsEarly n ends k state → (has_failed (phase_at state i) ≡ false) × (has_erred (phase_at state i) ≡ false)
 sound_at n ends k state i early_in = elim (cases_lt i k) [
   | inl before ↦ rw (early_in.below i before) (early-sound (ends i))
   | inr later ↦ rw (early_in.beyond i later) (refl, refl)
 ]
 
-none_erred : (n : ℕ) (ends : ℕ → Phase) (k : ℕ) (state : State) → IsEarly n ends k state → list_any has_erred state.phases ≡ false
-none_erred n ends k state early_in = false_from_ne_true _ (λ e.
+pub none_erred : (state : State) → ((i : ℕ) → has_erred (phase_at state i) ≡ false) → list_any has_erred state.phases ≡ false
+none_erred state sound = false_from_ne_true _ (λ e.
     let (phase, (i, within, at), erred) = list_any-some has_erred state.phases e in
-    both_ways _ (sound_at n ends k state i early_in).1 (ap has_erred (get_or_default state.phases i Unstarted phase within ∙ at) ∙ erred))
+    both_ways _ (sound i) (ap has_erred (get_or_default state.phases i Unstarted phase within ∙ at) ∙ erred))
 
 no_bad : (plan : PlanGraph) (bad : ℕ → Bool) (u : ℕ) → ((i : ℕ) → bad i ≡ false) → Fails plan bad u → ⊥
 no_bad plan bad _ none (own i within is_bad) = both_ways _ (none i) is_bad
 no_bad plan bad _ none (propagated i need within has other failing) = no_bad plan bad (unit_needed plan need) none failing
 
-none_failed : (n : ℕ) (ends : ℕ → Phase) (k : ℕ) (state : State) (u : ℕ) → IsEarly n ends k state → unit_failed state u ≡ false
-none_failed n ends k state u early_in = false_from_ne_true _ (λ e.
-    no_bad state.plan_graph (λ i. has_failed (phase_at state i)) u (λ i. (sound_at n ends k state i early_in).0)
+pub none_failed : (state : State) (u : ℕ) → ((i : ℕ) → has_failed (phase_at state i) ≡ false) → unit_failed state u ≡ false
+none_failed state u sound = false_from_ne_true _ (λ e.
+    no_bad state.plan_graph (λ i. has_failed (phase_at state i)) u sound
     (Fails-from_fails state.plan_graph (λ i. has_failed (phase_at state i)) u e))
 
 succeeded_at : (n : ℕ) (ends : ℕ → Phase) (k : ℕ) (state : State) (r : ℕ) → IsEarly n ends k state → r < k → has_succeeded (ends r) ≡ true → has_succeeded (phase_at state r) ≡ true
@@ -128,8 +128,8 @@ may_start_at n ends k state early_in within begun =
     let room : count_by is_running state.phases < state.policy.width + spare_in state.awaited = omega (arith, fewer, each, few, wide) in
     may_start-from state k (record {
       fresh = ap is_unstarted fresh;
-      unstopped = or_from _ _ early_in.going (and_right (stops state.policy.mode) _ (none_erred n ends k state early_in));
-      sound = none_failed n ends k state (unit_of state.plan_graph k) early_in;
+      unstopped = or_from _ _ early_in.going (and_right (stops state.policy.mode) _ (none_erred state (λ i. (sound_at n ends k state i early_in).1)));
+      sound = none_failed state (unit_of state.plan_graph k) (λ i. (sound_at n ends k state i early_in).0);
       satisfied = list_all-from (is_satisfied state) (needs_of state.plan_graph k) (λ need has. satisfied_at n ends k state need early_in within has (early_in.can.needs k need within begun has));
       room = room;
     })
@@ -221,17 +221,21 @@ next_early first n ends k below reach = by_phase (ends k) refl
     by_phase Running is = absurd (both_ways _ (early_in.can.over k) (ap is_running is))
     by_phase (Reported outcome) is = by_success outcome (is_success outcome.status) refl is
 
-all_early : (first : State) (n : ℕ) (ends : ℕ → Phase) (k : ℕ) → k ≤ n → IsEarly n ends 0 first → Reaches first (IsEarly n ends k)
+pub all_early : (first : State) (n : ℕ) (ends : ℕ → Phase) (k : ℕ) → k ≤ n → IsEarly n ends 0 first → Reaches first (IsEarly n ends k)
 all_early first n ends zero below at = record { events = []; run = tt; holds = at }
 all_early first n ends (suc k) below at = next_early first n ends k (omega (arith, below)) (all_early first n ends k (omega (arith, below)) at)
 
 -- ---- the other reports
 
+-- what was reported in the end is a status
+abbrev pub HaveStatuses : ℕ → (ℕ → Phase) → Type 0
+HaveStatuses n ends = (i : ℕ) (outcome : Outcome) → i < n → outcome_of (ends i) ≡ Some outcome → IsTrue (is_status outcome.status)
+
 -- the requests below k have come to their ends
-record IsLate (n : ℕ) (ends : ℕ → Phase) (k : ℕ) (state : State) : Type 0 where
+pub record IsLate (n : ℕ) (ends : ℕ → Phase) (k : ℕ) (state : State) : Type 0 where
   pub reached : IsReached state
   pub sized : size state ≡ n
-  pub can : IsEnd state.plan_graph ends
+  pub sound : HaveStatuses n ends
   pub below : (i : ℕ) → i < k → phase_at state i ≡ ends i
   pub beyond : (i : ℕ) → k ≤ i → i < n → phase_at state i ≡ early (ends i)
 
@@ -240,7 +244,7 @@ already : (n : ℕ) (ends : ℕ → Phase) (k : ℕ) (state : State) → IsLate 
 already n ends k state late inside over = record {
   reached = late.reached;
   sized = late.sized;
-  can = late.can;
+  sound = late.sound;
   below = λ i before. elim (cases_eq i k) [
     | inl same ↦ rw same (late.beyond k (le_refl k) inside ∙ over)
     | inr other ↦ late.below i (omega (arith, before, other))
@@ -254,7 +258,7 @@ reports_late n ends k outcome state late within may is =
     record {
       reached = reached_after state (Report k outcome) late.reached within may;
       sized = late.sized;
-      can = late.can;
+      sound = late.sound;
       below = λ i before. elim (cases_eq i k) [
         | inl same ↦ rw same (report.after_is ∙ sym is)
         | inr other ↦ report.others i other ∙ late.below i (omega (arith, before, other))
@@ -280,7 +284,7 @@ next_late first n ends k inside reach = by_phase (ends k) refl
     by_success : (outcome : Outcome) (good : Bool) → is_success outcome.status ≡ good → ends k ≡ Reported outcome → Reaches first (IsLate n ends (suc k))
     by_success outcome true good is = kept (rw (is, good) refl)
     by_success outcome false poor is =
-        let sound : is_status outcome.status ≡ true = late.can.statuses k outcome within (ap outcome_of is) in
+        let sound : is_status outcome.status ≡ true = late.sound k outcome inside (ap outcome_of is) in
         let runs : phase_at state k ≡ Running = late.beyond k (le_refl k) inside ∙ rw (is, poor) refl in
         let may : may_come state (Report k outcome) ≡ true = and_from _ _ (ap is_running runs) sound in
         further first (IsLate n ends (suc k)) reach.events (Report k outcome) reach.run within may (reports_late n ends k outcome state late within may is)
@@ -290,12 +294,12 @@ next_late first n ends k inside reach = by_phase (ends k) refl
     by_phase Running is = kept (rw is refl)
     by_phase (Reported outcome) is = by_success outcome (is_success outcome.status) refl is
 
-all_late : (first : State) (n : ℕ) (ends : ℕ → Phase) (k : ℕ) → k ≤ n → Reaches first (IsLate n ends 0) → Reaches first (IsLate n ends k)
+pub all_late : (first : State) (n : ℕ) (ends : ℕ → Phase) (k : ℕ) → k ≤ n → Reaches first (IsLate n ends 0) → Reaches first (IsLate n ends k)
 all_late first n ends zero below at = at
 all_late first n ends (suc k) below at = next_late first n ends k (omega (arith, below)) (all_late first n ends k (omega (arith, below)) at)
 
 late-from : (n : ℕ) (ends : ℕ → Phase) (state : State) → IsEarly n ends n state → IsLate n ends 0 state
-late-from n ends state at = record { reached = at.reached; sized = at.sized; can = at.can; below = λ i before. absurd (omega (arith, before)); beyond = λ i later within. at.below i within }
+late-from n ends state at = record { reached = at.reached; sized = at.sized; sound = λ i outcome within. at.can.statuses i outcome (let sized : size state ≡ n = at.sized in omega (arith, sized, within)); below = λ i before. absurd (omega (arith, before)); beyond = λ i later within. at.below i within }
 
 -- a state in which the requests have come to these ends
 abbrev pub HasEnds : ℕ → (ℕ → Phase) → State → Type 0

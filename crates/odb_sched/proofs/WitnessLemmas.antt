@@ -29,12 +29,12 @@ use Rattle.odb_sched.proofs.ReachableLemmas.{HasIn, IsEnd, Reaches, HasEnds, rea
 use Rattle.odb_sched.proofs.RunLemmas.{reached_initial, plan_graph-after_all}
 
 -- an outcome of a status alone
-abbrev bare : ℕ → Outcome
+abbrev pub bare : ℕ → Outcome
 bare status = record { status = status; headers = []; body = None }
 
 -- how a request ends, by whether it is answered 424, whether a member of its unit is answered a failure of its own, whether it
 -- can have started, whether what it needs is answered 200 to 299, and by its status
-abbrev end_by : Bool → Bool → Bool → Bool → ℕ → Phase
+abbrev pub end_by : Bool → Bool → Bool → Bool → ℕ → Phase
 end_by false divided started met status = Reported (bare status)
 end_by true true true met status = Reported (bare 200)
 end_by true true false met status = Unstarted
@@ -67,7 +67,7 @@ one_fails test (x ∷ xs) e = elim (cases_Bool (test x)) [
 
 module _ (plan : PlanGraph) (statuses : ℕ → ℕ) (laws : IsPlan plan) (possible : IsPossible plan statuses) where
   -- what is needed is answered 200 to 299
-  abbrev is_met : Need → Bool
+  abbrev pub is_met : Need → Bool
   is_met (One r) = is_success (statuses r)
   is_met (Group u) = all_below (length plan.units) (λ j. not (unit_of plan j == u) || is_success (statuses j))
 
@@ -75,16 +75,16 @@ module _ (plan : PlanGraph) (statuses : ℕ → ℕ) (laws : IsPlan plan) (possi
   abbrev is_own_failure : ℕ → ℕ → Bool
   is_own_failure u j = (unit_of plan j == u) && (not (is_success (statuses j)) && not (statuses j == 424))
 
-  abbrev is_divided : ℕ → Bool
+  abbrev pub is_divided : ℕ → Bool
   is_divided u = any_below (length plan.units) (is_own_failure u)
 
-  abbrev end_of : ℕ → Phase
+  abbrev pub end_of : ℕ → Phase
   end_of i = end_by (statuses i == 424) (is_divided (unit_of plan i)) (possible.started i) (list_all is_met (needs_of plan i)) (statuses i)
 
   divided-from : (u j : ℕ) → j < length plan.units → unit_of plan j ≡ u → is_success (statuses j) ≡ false → statuses j ≢ 424 → is_divided u ≡ true
   divided-from u j within here poor other = (any_below-Decides (length plan.units) (is_own_failure u)).1 (j, within, and_from _ _ (eq-eqb _ _ here) (and_from _ _ (not_from_false _ poor) (not_from_false _ (ne_eqb _ _ other))))
 
-  divided-at : (u : ℕ) → is_divided u ≡ true → (j : ℕ) × (j < length plan.units) × (unit_of plan j ≡ u) × (is_success (statuses j) ≡ false) × (statuses j ≢ 424)
+  pub divided-at : (u : ℕ) → is_divided u ≡ true → (j : ℕ) × (j < length plan.units) × (unit_of plan j ≡ u) × (is_success (statuses j) ≡ false) × (statuses j ≢ 424)
   divided-at u divided =
       let (j, within, e) = (any_below-Decides (length plan.units) (is_own_failure u)).0 divided in
       let (here, failed) = and_parts (unit_of plan j == u) (not (is_success (statuses j)) && not (statuses j == 424)) e in
@@ -102,16 +102,16 @@ module _ (plan : PlanGraph) (statuses : ℕ → ℕ) (laws : IsPlan plan) (possi
   never_at : (i : ℕ) → statuses i ≡ 424 → is_divided (unit_of plan i) ≡ true → possible.started i ≡ false → end_of i ≡ Unstarted
   never_at i same divided idle = rw (eq-eqb (statuses i) 424 same, divided, idle) refl
 
-  failed_at : (i : ℕ) → statuses i ≡ 424 → is_divided (unit_of plan i) ≡ false → list_all is_met (needs_of plan i) ≡ true → end_of i ≡ Reported (bare 424)
+  pub failed_at : (i : ℕ) → statuses i ≡ 424 → is_divided (unit_of plan i) ≡ false → list_all is_met (needs_of plan i) ≡ true → end_of i ≡ Reported (bare 424)
   failed_at i same whole met = rw (eq-eqb (statuses i) 424 same, whole, met) refl
 
-  unmet_at : (i : ℕ) → statuses i ≡ 424 → is_divided (unit_of plan i) ≡ false → list_all is_met (needs_of plan i) ≡ false → end_of i ≡ Unstarted
+  pub unmet_at : (i : ℕ) → statuses i ≡ 424 → is_divided (unit_of plan i) ≡ false → list_all is_met (needs_of plan i) ≡ false → end_of i ≡ Unstarted
   unmet_at i same whole unmet = rw (eq-eqb (statuses i) 424 same, whole, unmet) refl
 
   not_undone : (i : ℕ) → is_success (statuses i) ≡ true → statuses i ≢ 424
   not_undone i good same = both_ways (is_success (statuses i)) (ap is_success same) good
 
-  good_at : (i : ℕ) → is_success (statuses i) ≡ true → has_succeeded (end_of i) ≡ true
+  pub good_at : (i : ℕ) → is_success (statuses i) ≡ true → has_succeeded (end_of i) ≡ true
   good_at i good = ap has_succeeded (itself i (not_undone i good)) ∙ good
 
   -- ---- what has started has what it needs
@@ -157,7 +157,7 @@ module _ (plan : PlanGraph) (statuses : ℕ → ℕ) (laws : IsPlan plan) (possi
     ]
   ]
 
-  is_end : IsEnd plan end_of
+  pub is_end : IsEnd plan end_of
   is_end = record {
     over = λ i. over_by (statuses i == 424) (is_divided (unit_of plan i)) (possible.started i) (list_all is_met (needs_of plan i)) (statuses i);
     statuses = λ i outcome within e. status_by (statuses i == 424) (is_divided (unit_of plan i)) (possible.started i) (list_all is_met (needs_of plan i)) (statuses i) outcome (possible.final i within) e;
@@ -167,7 +167,7 @@ module _ (plan : PlanGraph) (statuses : ℕ → ℕ) (laws : IsPlan plan) (possi
   -- ---- a unit that is not answered 200 to 299 fails
 
   -- the request ends with a failure
-  abbrev is_bad : ℕ → Bool
+  abbrev pub is_bad : ℕ → Bool
   is_bad i = has_failed (end_of i)
 
   -- the first member of a unit
@@ -188,7 +188,7 @@ module _ (plan : PlanGraph) (statuses : ℕ → ℕ) (laws : IsPlan plan) (possi
     )
   ]
 
-  fails_at : (fuel i : ℕ) → i < length plan.units → unit_of plan i < fuel → is_success (statuses i) ≡ false → Fails plan is_bad (unit_of plan i)
+  pub fails_at : (fuel i : ℕ) → i < length plan.units → unit_of plan i < fuel → is_success (statuses i) ≡ false → Fails plan is_bad (unit_of plan i)
   fails_at zero i within short poor = absurd (omega (arith, short))
   fails_at (suc fuel) i within short poor = elim (cases_Bool (is_divided (unit_of plan i))) [
     | inl divided ↦ by_member (divided-at (unit_of plan i) divided)
@@ -231,14 +231,14 @@ module _ (plan : PlanGraph) (statuses : ℕ → ℕ) (laws : IsPlan plan) (possi
   -- ---- the answers, and the end of the run
 
   -- a request has come to an end, or is not answered 200 to 299
-  over_or_failed : (i : ℕ) → (is_reported (end_of i) ≡ true) ⊎ (is_success (statuses i) ≡ false)
+  pub over_or_failed : (i : ℕ) → (is_reported (end_of i) ≡ true) ⊎ (is_success (statuses i) ≡ false)
   over_or_failed i = elim (cases_eq (statuses i) 424) [
     | inl same ↦ inr (ap is_success same)
     | inr other ↦ inl (ap is_reported (itself i other))
   ]
 
   module _ (phases : List Phase) (at_ends : (i : ℕ) → i < length plan.units → get_or phases i Unstarted ≡ end_of i) where
-    answer_at : (i : ℕ) → i < length plan.units → status_of (answer_of (get_or phases i Unstarted) (succeeded_in plan phases (unit_of plan i))) ≡ statuses i
+    pub answer_at : (i : ℕ) → i < length plan.units → status_of (answer_of (get_or phases i Unstarted) (succeeded_in plan phases (unit_of plan i))) ≡ statuses i
     answer_at i within = rw (at_ends i within) (by_status (cases_eq (statuses i) 424) (cases_Bool (is_success (statuses i))))
       where
         whole : is_success (statuses i) ≡ true → succeeded_in plan phases (unit_of plan i) ≡ true
@@ -297,6 +297,18 @@ has_run source mode statuses laws possible =
     let (finished, answered) = ends_with (state_after source policy reach.events) (plan_graph source) statuses laws possible (plan_graph-after_all (initial source policy) reach.events) reach.holds in
     record { policy = policy; mode_is = refl; events = reach.events; run = reach.run; finished = finished; answered = answered }
 
+-- what can have reported a success can by statuses that are alike
+pub can_have_as : (plan : PlanGraph) (statuses others : ℕ → ℕ) (started : ℕ → Bool) (i : ℕ) (need : Need) → IsPlan plan → ((j : ℕ) → j < length plan.units → statuses j ≡ others j) → i < length plan.units → Contains (needs_of plan i) need
+    → CanHaveSucceeded plan statuses started i need → CanHaveSucceeded plan others started i need
+can_have_as plan statuses others started i (One r) laws same within has can =
+    let earlier : r < i = laws.earlier i (One r) within has in
+    let inside : r < length plan.units = omega (arith, earlier, within) in
+    elim can [
+      | inl good ↦ inl (ap is_success (sym (same r inside)) ∙ good)
+      | inr (here, begun, undone) ↦ inr (here, begun, sym (same r inside) ∙ undone)
+    ]
+can_have_as plan statuses others started i (Group u) laws same within has good = λ j inside here. ap is_success (sym (same j inside)) ∙ good j inside here
+
 -- statuses that are alike are possible alike
 possible_as : (plan : PlanGraph) (statuses others : ℕ → ℕ) → IsPlan plan → ((i : ℕ) → i < length plan.units → statuses i ≡ others i) → IsPossible plan statuses → IsPossible plan others
 possible_as plan statuses others laws same possible = record {
@@ -304,18 +316,8 @@ possible_as plan statuses others laws same possible = record {
   all_or_none = λ i j within inside here good. ap is_success (sym (same j inside)) ∙ possible.all_or_none i j within inside here (ap is_success (same i within) ∙ good);
   started = possible.started;
   others = λ i within idle. sym (same i within) ∙ possible.others i within idle;
-  can_have = λ i need within started has. by_need i need within has (possible.can_have i need within started has);
+  can_have = λ i need within started has. can_have_as plan statuses others possible.started i need laws same within has (possible.can_have i need within started has);
 }
-  where
-    by_need : (i : ℕ) (need : Need) → i < length plan.units → Contains (needs_of plan i) need → CanHaveSucceeded plan statuses possible.started i need → CanHaveSucceeded plan others possible.started i need
-    by_need i (One r) within has can =
-        let earlier : r < i = laws.earlier i (One r) within has in
-        let inside : r < length plan.units = omega (arith, earlier, within) in
-        elim can [
-          | inl good ↦ inl (ap is_success (sym (same r inside)) ∙ good)
-          | inr (here, begun, undone) ↦ inr (here, begun, sym (same r inside) ∙ undone)
-        ]
-    by_need i (Group u) within has good = λ j inside here. ap is_success (sym (same j inside)) ∙ good j inside here
 
 -- the statuses of a finished run are possible
 pub possible-from_run : (source : Plan) (mode : Mode) (statuses : ℕ → ℕ) → IsPlan (plan_graph source) → HasRun source mode statuses → IsPossible (plan_graph source) statuses

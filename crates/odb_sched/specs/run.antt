@@ -11,6 +11,7 @@ pub mod Laws
 pub mod Possible
 pub mod Whole
 pub mod LiveEvents
+pub mod PossibleLive
 pub mod LiveLaws
 pub mod Choosing
 pub mod Resolving

@@ -31,7 +31,7 @@ ghost use Rattle.odb_sched.specs.run.Answers.{HasStatuses};
 
 mod live;
 
-pub use live::every_live_run;
+pub use live::{every_live_run, every_possible_live};
 use odb_check::Plan;
 use odb_check::laws::every_plan;
 

@@ -1,16 +1,19 @@
 //! What is true of every live run: of starts and reports, units that are sent as one, and a stop, whatever is
 //! started and reported.
 
-ghost use Rattle.std.specs.Prelude.{◌≡◌, ◌++◌, List, map};
+ghost use Rattle.std.specs.Prelude.{◌≡◌, ◌↔◌, ◌++◌, ℕ, List, map};
 ghost use Rattle.odb_doc.specs.batch.Records.{Record};
-ghost use Rattle.odb_check.specs.PlanGraph.{HasNamesAsNeeds, IsPlan};
+ghost use Rattle.odb_check.specs.PlanGraph.{HasNamesAsNeeds, IsPlan, PlanGraph};
 ghost use Rattle.odb_check.specs.Plans.{batch_plan_graph};
+ghost use Rattle.odb_sched.specs.declared.policy.Mode.{Mode};
 ghost use Rattle.odb_sched.specs.declared.policy.Policy.{Policy};
 ghost use Rattle.odb_sched.specs.declared.event.Event.{Event};
 ghost use Rattle.odb_sched.specs.run.Runs.{IsRunFrom, after_all};
 ghost use Rattle.odb_sched.specs.run.State.{first_state, without_requests};
 ghost use Rattle.odb_sched.specs.run.LiveEvents.{LiveEvent, Single, IsLiveRun, IsLiveRunFrom, after_all_live, live_state};
 ghost use Rattle.odb_sched.specs.run.LiveLaws.{KeepsPromises};
+ghost use Rattle.odb_sched.specs.run.Possible.{IsPossible};
+ghost use Rattle.odb_sched.specs.run.PossibleLive.{HasLiveRun, IsPossibleLive};
 
 use odb_check::laws::every_batch;
 
@@ -35,6 +38,18 @@ pub fn every_live_run()
         → IsLiveRun requests policy (map Single events)
         × (live_state requests policy (map Single events)
         ≡ without_requests (after_all (first_state requests policy) events)) }
+{
+    every_batch();
+}
+
+/// Statuses are possible for live runs if and only if they are those of the answers of some finished live run, in either
+/// mode. What is possible for requests that start one by one is possible for live runs.
+pub fn every_possible_live()
+    ensures runs { (requests : List Record) (mode : Mode) (statuses : ℕ → ℕ)
+        → IsPlan (batch_plan_graph requests)
+        → IsPossibleLive (batch_plan_graph requests) statuses ↔ HasLiveRun requests mode statuses }
+    ensures alone { (plan : PlanGraph) (statuses : ℕ → ℕ)
+        → IsPossible plan statuses → IsPossibleLive plan statuses }
 {
     every_batch();
 }
