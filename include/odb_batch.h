@@ -154,8 +154,9 @@ uint32_t odb_replay_as(const uint8_t *batch, size_t batch_size, const uint8_t *o
 /* Matches the response document of a service against a batch. The result is the line `ok N responses`, and a line per request
  * with its id and status. In the mode ODB_STOP, if a response has a status from 400 to
  * 599, each request without a response is read as answered 424; in ODB_CONTINUE each has to have one. If `strict` is 1,
- * some finished run has to answer these statuses (F76 to F78). `mode` is one of these two, `strict` is 0 or 1, and `form` is
- * ODB_LINES or ODB_JSON: else returns ODB_WRONG_OPTION. Otherwise returns what `odb_check_as` does. */
+ * some finished run has to answer these statuses (F76 to F78); if it is 2, a run that may also send a group as one, as
+ * `odb_run_start_unit` does. `mode` is one of these two, `strict` is 0, 1 or 2, and `form` is ODB_LINES or ODB_JSON: else
+ * returns ODB_WRONG_OPTION. Otherwise returns what `odb_check_as` does. */
 uint32_t odb_match_with(const uint8_t *batch, size_t batch_size, const uint8_t *responses, size_t responses_size,
                         uint32_t mode, uint32_t strict, uint32_t form,
                         uint8_t *text, size_t text_size, size_t *text_length, uint64_t seed);

@@ -46,8 +46,11 @@ export interface RestOptions {
 
 /** Options of a match. */
 export interface MatchOptions extends RestOptions {
-  /** Whether some finished run has to answer the statuses of the responses, too (F76 to F78). */
-  strict?: boolean
+  /**
+   * Whether some finished run has to answer the statuses of the responses, too (F76 to F78); with `units` a group may
+   * also start as one in it, as in a service that performs it in a transaction.
+   */
+  strict?: boolean | 'units'
 }
 
 /** Options of a run. */

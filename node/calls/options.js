@@ -29,8 +29,12 @@ function optionNumbers(options) {
   if (!Number.isInteger(width) || width < 1 || width > MAX_WIDTH) {
     throw new RangeError(`width must be a whole number from 1 to ${MAX_WIDTH}, not ${String(width)}`)
   }
-  const flags = [trace, strict].map((flag) => (flag ? 1 : 0))
-  return [valueNumber(MODES, 'mode', mode), width, orderNumber(order), ...flags, valueNumber(FORMS, 'form', form)]
+  return [valueNumber(MODES, 'mode', mode), width, orderNumber(order), trace ? 1 : 0, strictNumber(strict), valueNumber(FORMS, 'form', form)]
+}
+
+/** The number of how strict a match is. */
+function strictNumber(strict) {
+  return typeof strict === 'string' ? 2 + valueNumber(['units'], 'strict', strict) : Number(Boolean(strict))
 }
 
 /** The number of an order. */

@@ -68,3 +68,14 @@ test('asks for a run if it is strict', () => {
   assert.deepEqual([...left], [['book', 404], ['list', 424]])
   assert.throws(() => rest(two, unstarted, { strict: true }), TypeError)
 })
+
+test('asks for a run by units', () => {
+  const grouped = { atomicityGroup: 'g' }
+  const first = { id: 'a', ...grouped, method: 'post', url: 'Loans' }
+  const pair = { requests: [first, { id: 'b', ...grouped, method: 'patch', url: '$a', dependsOn: ['a'] }] }
+  const failed = { responses: [{ id: 'a', ...grouped, status: 409 }, { id: 'b', ...grouped, status: 500 }] }
+  assert.throws(() => match(pair, failed, { strict: true }), { name: 'Fault', message: 'F78 NotStarted /requests/1' })
+  assert.deepEqual([...match(pair, failed, { strict: 'units' })], [['a', 409], ['b', 500]])
+  assert.equal(output('match', pair, failed, { strict: 'units' }).accepted, true)
+  assert.throws(() => match(pair, failed, { strict: 'unit' }), RangeError)
+})

@@ -15,6 +15,7 @@ const lines: number[] = faults(batch).map(({ line, column, offset }: Fault) => (
 const planned: PlannedRequest[] = plan(batch)
 const statuses: Map<string, number> = match(batch, run(batch, events, { mode: 'stop', width: 2 }))
 const stopped: Map<string, number> = match(batch, '', { mode: 'stop', strict: true })
+const byUnits: Map<string, number> = match(batch, '', { strict: 'units' })
 const left: Uint8Array = rest(batch, '', { mode: 'stop' })
 const sent: Request[] = [...requests(batch), new Run(batch).request('a')]
 const lengths: number[] = sent.map(({ body, rest, reference }) => (body?.length ?? 0) + rest.length + (reference ?? '').length)

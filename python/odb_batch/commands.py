@@ -14,6 +14,7 @@ from .values import Value
 
 Order = Literal["first", "last", "wide"]
 Form = Literal["lines", "json"]
+Strict = Union[bool, Literal["units"]]
 Command = Literal["check", "plan", "canon", "match", "run", "replay", "rest"]
 ORDERS: tuple[str, ...] = get_args(Order)
 FORMS: tuple[str, ...] = get_args(Form)
@@ -185,7 +186,12 @@ def canon(batch: Document) -> bytes:
     return _text("canon", batch)[:-1]
 
 
-def match(batch: Document, responses: Document, *, mode: Mode = "continue", strict: bool = False) -> dict[str, int]:
+def _strict_number(strict: Strict) -> int:
+    """Returns the number of how strict a match is."""
+    return 2 + option_number(("units",), "strict", strict) if isinstance(strict, str) else int(bool(strict))
+
+
+def match(batch: Document, responses: Document, *, mode: Mode = "continue", strict: Strict = False) -> dict[str, int]:
     """Matches the response document of a service against a batch.
 
     Args:
@@ -194,17 +200,18 @@ def match(batch: Document, responses: Document, *, mode: Mode = "continue", stri
         mode: ``"continue"``, or ``"stop"`` for a service that stops at its first error: if a response has a
             status from 400 to 599, each request without a response is read as answered 424.
         strict: Whether some finished run has to answer the statuses, too (F76 to F78): each is from 200 to 599; of
-            a group all are from 200 to 299 or none is; and any but 424 is of a request that can have started.
+            a group all are from 200 to 299 or none is; and any but 424 is of a request that can have started. With
+            ``"units"`` a group may also start as one, as in a service that performs it in a transaction.
 
     Returns:
         The status of the response to each request, by its id, in the order of the batch.
 
     Raises:
         Fault: A document is refused, or the responses do not fit the batch.
-        ValueError: The mode is not one of its values.
+        ValueError: The mode or ``strict`` is not one of its values.
         MemoryError: An allocation failed.
     """
-    options = (mode_number(mode), int(bool(strict)))
+    options = (mode_number(mode), _strict_number(strict))
     lines = _text("match", batch, responses, options=options).decode().splitlines()[1:]
     return {request_id: int(status) for request_id, status in (line.split(" ") for line in lines)}
 
@@ -309,7 +316,7 @@ def output(
     mode: Mode = "continue",
     width: int = MAX_WIDTH,
     trace: bool = False,
-    strict: bool = False,
+    strict: Strict = False,
 ) -> Output:
     """Returns the text that a command prints, to be passed on: a fault is a text, too, and is not raised.
 
@@ -334,7 +341,7 @@ def output(
     if command in _OF_MODE:
         numbers = (mode_number(mode),)
     if command == "match":
-        numbers = (*numbers, int(bool(strict)))
+        numbers = (*numbers, _strict_number(strict))
     if command == "replay":
         numbers = (*numbers, option_number(ORDERS, "order", order), int(bool(trace)))
     given = (document_bytes(batch),) if second is None else (document_bytes(batch), events_bytes(second))

@@ -90,6 +90,20 @@ def test_asks_for_all_or_none_of_a_group_if_it_is_strict():
     assert raised.value.code == "F77"
 
 
+def test_asks_for_a_run_by_units():
+    pair = [{"id": "a", "atomicityGroup": "g", "method": "post", "url": "Loans"}]
+    pair += [{"id": "b", "atomicityGroup": "g", "method": "patch", "url": "$a", "dependsOn": ["a"]}]
+    failed = {"responses": [{"id": id, "atomicityGroup": "g", "status": status} for id, status in (("a", 409), ("b", 500))]}
+    with pytest.raises(Fault) as raised:
+        match({"requests": pair}, failed, strict=True)
+    assert str(raised.value) == "F78 NotStarted /requests/1"
+    assert match({"requests": pair}, failed, strict="units") == {"a": 409, "b": 500}
+    assert output("match", {"requests": pair}, failed, strict="units").accepted
+    for call in (match, lambda *given, **options: output("match", *given, **options)):
+        with pytest.raises(ValueError, match="strict must be one of 'units', not 'unit'"):
+            call({"requests": pair}, failed, strict="unit")
+
+
 def test_accepts_what_a_run_answers_if_it_is_strict():
     left = responses(book=404)
     assert match(BATCH, left, mode="stop", strict=True) == {"book": 404, "loan": 424, "list": 424}

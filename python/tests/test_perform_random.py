@@ -77,8 +77,8 @@ def in_tasks(batch, service, mode, width):
 
 
 def judge(batch, service, response, width):
-    """What holds of every run: it fits the batch, sends nothing twice, keeps to the width, and groups are whole."""
-    statuses = match(batch, response)
+    """What holds of every run: some run answers its statuses, it sends nothing twice, keeps to the width, and groups are whole."""
+    statuses = match(batch, response, strict=True)
     assert len(set(service.sent)) == len(service.sent) and service.most <= width
     for it in batch["requests"]:
         is_success = 200 <= statuses[it["id"]] <= 299

@@ -42,6 +42,7 @@ some: Tuple[PlannedRequest, ...] = planned[0:2]
 place: int = planned.index(first)
 statuses: Dict[str, int] = match(batch, memoryview(run(batch, [Start("a"), Report("a", 200)], mode=mode, width=1)))
 stopped: Dict[str, int] = match(batch, "", mode=mode, strict=True)
+by_units: Dict[str, int] = match(batch, "", strict="units")
 left: bytes = rest(batch, "", mode=mode)
 undone: Tuple[str, ...] = replay(batch, {"outcomes": []}, order="wide", mode="continue", trace=True).undone
 printed: Output = output("run", batch, "", form="lines")

@@ -4,7 +4,7 @@ import json
 
 import pytest
 
-from odb_batch import Fault, check
+from odb_batch import Fault, check, match
 from support.servers import JSON
 
 
@@ -72,6 +72,20 @@ def test_a_group_is_forwarded_as_a_batch(upstream, front, headers):
          "body": 2},
         {"id": "r3", "atomicityGroup": "g", "method": "get", "url": "Orders('a:b')"},
     ]}  # fmt: skip
+
+
+def test_what_a_group_is_answered_is_answered_by_a_run_by_units(upstream, front):
+    service = upstream(batching({"id": "r1", "status": 409}, {"id": "r2", "status": 500}))
+    members = group({"url": "Orders"}, {"url": "Lines", "dependsOn": ["r1"]})
+    requests = [{"method": "get", "url": "Books"}, *members, {"method": "get", "url": "Books", "dependsOn": ["g"]}]
+    it = front("--upstream", service.url + "/odata/", "--groups", "forward")
+    found = it.batch(*requests)
+    assert [it["status"] for it in found.values()] == [200, 409, 500, 424]
+    batch = {"requests": [{"id": f"r{i}", **request} for i, request in enumerate(requests)]}
+    answered = {"responses": list(found.values())}
+    with pytest.raises(Fault, match="F78 NotStarted /requests/2"):
+        match(batch, answered, strict=True)
+    assert match(batch, answered, strict="units") == {"r0": 200, "r1": 409, "r2": 500, "r3": 424}
 
 
 def test_a_group_of_two_services_is_not_sent(upstream, front):

@@ -249,7 +249,7 @@ static const struct trial trials[] = {
      "ok 2 responses\na 404\nb 409\n"},
     {"a strict match of a service that stops", match_with, BATCH, LEFT_OUT, ODB_STOP, 0, 0, 1, ODB_JSON, ODB_DONE,
      "{\"responses\":[{\"id\":\"a\",\"status\":500},{\"id\":\"b\",\"status\":424}]}\n"},
-    {"a match neither strict nor not", match_with, BATCH, RESPONSES, ODB_CONTINUE, 0, 0, 2, ODB_LINES, ODB_WRONG_OPTION, ""},
+    {"a match neither strict nor not", match_with, BATCH, RESPONSES, ODB_CONTINUE, 0, 0, 3, ODB_LINES, ODB_WRONG_OPTION, ""},
     {"a match of nothing in a mode", match_with, BATCH, NULL, ODB_STOP, 0, 0, 0, ODB_LINES, ODB_REFUSED,
      "fault F02 NotJson responses\n"},
     {"a match in no mode", match_with, BATCH, RESPONSES, 2, 0, 0, 0, ODB_LINES, ODB_WRONG_OPTION, ""},

@@ -8,6 +8,7 @@ from .worked import CALLS
 RUNS = 400  # live runs, too
 COMMANDS = ["check", "plan", "canon", "match", "run", "replay", "rest"]
 ORDERS = ["first", "last", "wide"]
+STRICT = [False, True, "units"]
 
 
 def call_bytes(call):
@@ -17,7 +18,8 @@ def call_bytes(call):
     if not isinstance(width, int) or order not in ORDERS:
         return b""
     first, second = [*call.documents, b""][:2]
-    flags = [options.get("mode") == "stop", width, ORDERS.index(order), options.get("trace", False), options.get("strict", False)]
+    strict = STRICT.index(options.get("strict", False))
+    flags = [options.get("mode") == "stop", width, ORDERS.index(order), options.get("trace", False), strict]
     return struct.pack("<8I", COMMANDS.index(call.command), *flags, len(first), len(second)) + first + second
 
 

@@ -20,14 +20,14 @@ ALONE = ("check", "plan", "canon")
 ORDERS = ("first", "last", "wide")
 VALUES = {
     "all": chance(60), "json": chance(30), "quiet": chance(10), "full": chance(40), "dot": chance(40),
-    "trace": chance(60), "stop": chance(30), "strict": chance(60), "width": of(*5 * [None], 1, 1, 2, 3, 10_000),
+    "trace": chance(60), "stop": chance(30), "strict": chance(60), "units": chance(50), "width": of(*5 * [None], 1, 1, 2, 3, 10_000),
     "order": of(None, *ORDERS), "where": chance(30),
 }  # fmt: skip
 OPTIONS = {
     **dict.fromkeys(OF_BATCHES, ("json", "where", "quiet")),
     "check": ("all", "json", "where", "quiet"),
     "plan": ("json", "where", "quiet", "full", "dot"),
-    "match": ("json", "where", "quiet", "stop", "strict"),
+    "match": ("json", "where", "quiet", "stop", "strict", "units"),
     "replay": ("json", "where", "quiet", "stop", "width", "trace", "order"),
     "run": ("json", "where", "quiet", "stop", "width"),
     "rest": ("json", "where", "quiet", "stop"),
@@ -105,6 +105,8 @@ def options_of(draw, *names):
     drawn = {name: draw(VALUES[name]) for name in names}
     if drawn.get("dot"):
         del drawn["json"], drawn["full"], drawn["where"]
+    if not drawn.get("strict"):
+        drawn.pop("units", None)
     return {name: value for name, value in drawn.items() if value}
 
 

@@ -270,10 +270,13 @@ def read_responses(data):
     return value["responses"]
 
 
+def needed_by(batch, i):
+    return [j for name in rules.needs(batch, i) for j in rules.needed_positions(batch, name)]
+
+
 def is_unsound(batch, statuses, i):
     """Whether a request succeeded though something that it needs did not."""
-    needed = [j for name in rules.needs(batch, i) for j in rules.needed_positions(batch, name)]
-    return is_success(statuses[i]) and not all(is_success(statuses[j]) for j in needed)
+    return is_success(statuses[i]) and not all(is_success(statuses[j]) for j in needed_by(batch, i))
 
 
 def completed(batch, responses):
@@ -295,25 +298,32 @@ def is_partial(batch, statuses, i):
     return is_success(statuses[i]) and not all(is_success(statuses[j]) for j in unit_of(batch, i))
 
 
-def can_have_started(batch, statuses):
+def can_have_been_sent(batch, statuses, i):
+    """Whether the unit of a request can have started as one: what its members need of other units succeeded."""
+    members = unit_of(batch, i)
+    return all(j in members or is_success(statuses[j]) for k in members for j in needed_by(batch, k))
+
+
+def can_have_started(batch, statuses, units):
     """For each request whether it can have started: what it needs succeeded, or succeeded and was undone with it."""
     started = []
     for i in range(len(batch)):
-        needed = [j for name in rules.needs(batch, i) for j in rules.needed_positions(batch, name)]
+        needed = needed_by(batch, i)
         undone = [j for j in needed if j in unit_of(batch, i) and started[j] and statuses[j] == 424]
-        started.append(all(is_success(statuses[j]) or j in undone for j in needed))
+        alone = all(is_success(statuses[j]) or j in undone for j in needed)
+        started.append(alone or (units and can_have_been_sent(batch, statuses, i)))
     return started
 
 
-def impossible(batch, statuses):
-    """Refuses statuses that no finished run answers."""
-    started = can_have_started(batch, statuses)
+def impossible(batch, statuses, units):
+    """Refuses statuses that no finished run answers, or none that may also send units as one."""
+    started = can_have_started(batch, statuses, units)
     for i, status in enumerate(statuses):
         faults = {"F76": not 200 <= status <= 599, "F77": is_partial(batch, statuses, i)}
         first_fault({**faults, "F78": status != 424 and not started[i]}, f"/requests/{i}")
 
 
-def match(batch, responses, stop=False, strict=False):
+def match(batch, responses, stop=False, strict=False, units=False):
     """The responses that fit, each an id and a status, in the order of the requests."""
     by_id = {}
     for k, it in enumerate(completed(batch, responses) if stop else responses):
@@ -327,7 +337,7 @@ def match(batch, responses, stop=False, strict=False):
         differs = found[i].get("atomicityGroup") != request.group
         first_fault({"F74": differs, "F75": is_unsound(batch, statuses, i)}, f"/requests/{i}")
     if strict:
-        impossible(batch, statuses)
+        impossible(batch, statuses, units)
     return [{"id": it["id"], "status": it["status"]} for it in found]
 
 

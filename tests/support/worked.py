@@ -12,7 +12,10 @@ from .program import ROOT
 # The commands that are calls, and how many documents each takes.
 DOCUMENTS = {"check": 1, "plan": 1, "canon": 1, "match": 2, "run": 2, "replay": 2, "rest": 2}
 OPTIONS = {"--order": "order", "--width": "width"}
-FLAGS = {"--stop": ("mode", "stop"), "--trace": ("trace", True), "--strict": ("strict", True), "--json": ("form", "json")}
+FLAGS = {
+    "--stop": ("mode", "stop"), "--trace": ("trace", True), "--json": ("form", "json"),
+    "--strict": ("strict", True), "--units": ("strict", "units"),
+}  # fmt: skip
 
 
 def options_of(words):

@@ -9,6 +9,8 @@ use Rattle.odb_cli.specs.declared.command_line.CommandLine.{CommandLine}
 use Rattle.odb_cli.specs.declared.command_line.CommandLine.TheVariants.{Answer, Print}
 use Rattle.odb_cli.specs.declared.command_line.Job.{Job}
 use Rattle.odb_cli.specs.declared.command_line.LogOptions.{LogOptions}
+use Rattle.odb_reply.specs.declared.strictness.Strictness.{Strictness}
+use Rattle.odb_reply.specs.declared.strictness.Strictness.TheVariants.{Requests, Units}
 use Rattle.odb_engine.specs.declared.form.Form.{Form}
 use Rattle.odb_engine.specs.declared.form.Form.TheVariants as forms
 use Rattle.odb_engine.specs.declared.tasks.task.Task.{Task}
@@ -33,6 +35,12 @@ word_after args name = first_value (found_of args) name
 abbrev pub AsksMode : ArgMatches → Mode → Type 0
 AsksMode args Continue = TellsFlag args (codes "stop") false
 AsksMode args Stop = TellsFlag args (codes "stop") true
+
+-- --strict and --units
+abbrev pub AsksStrictness : ArgMatches → Option Strictness → Type 0
+AsksStrictness args None = TellsFlag args (codes "strict") false
+AsksStrictness args (Some Requests) = TellsFlag args (codes "strict") true × TellsFlag args (codes "units") false
+AsksStrictness args (Some Units) = TellsFlag args (codes "strict") true × TellsFlag args (codes "units") true
 
 -- --order and its word, if it was given
 abbrev pub AsksOrder : Option (List ℕ) → Order → Type 0
@@ -78,7 +86,7 @@ AsksTask args name (tasks.Plan full) = (name ≡ codes "plan") × TellsFlag args
 AsksTask args name tasks.Draw = (name ≡ codes "plan") × TellsFlag args (codes "dot") true
 AsksTask args name tasks.Canon = name ≡ codes "canon"
 AsksTask args name (tasks.Match mode strict) = (name ≡ codes "match") × AsksMode args mode
-    × TellsFlag args (codes "strict") strict
+    × AsksStrictness args strict
 AsksTask args name (tasks.Rest mode) = (name ≡ codes "rest") × AsksMode args mode
 AsksTask args name (tasks.Replay policy order traced) = (name ≡ codes "replay") × AsksPolicy args policy
     × AsksOrder (word_after args (codes "order")) order × TellsFlag args (codes "trace") traced

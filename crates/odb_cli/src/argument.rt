@@ -21,8 +21,8 @@ pub enum Kind {
     ShortFlag(char),
     /// An option without a value, which may not be given with these.
     FlagWithout(&'static [&'static str]),
-    /// An option without a value, which has to be given with --lines.
-    FlagOfLines,
+    /// An option without a value, which has to be given with this one.
+    FlagOf(&'static str),
     /// An option with a value, which help calls by this name.
     Value(&'static str),
     /// An option with a value, which help calls by this name and which is one of these words.
@@ -42,7 +42,7 @@ impl Argument {
     /// Tests whether it is an option.
     pub fn is_option(&self) -> bool {
         match self.kind {
-            Kind::Flag | Kind::ShortFlag(_) | Kind::FlagWithout(_) | Kind::FlagOfLines => true,
+            Kind::Flag | Kind::ShortFlag(_) | Kind::FlagWithout(_) | Kind::FlagOf(_) => true,
             _ => self.value().is_some(),
         }
     }

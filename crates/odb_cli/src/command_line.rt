@@ -1,13 +1,14 @@
 //! What the arguments ask for.
 
 ghost use Rattle.std.specs.Prelude.{◌≡◌, ℕ, None, codes, Contains, IfErr, IfOk, IfSome};
-ghost use Rattle.odb_cli.specs.Options.{Asks, AsksForm, AsksJob, AsksLog, AsksMode, AsksOrder, AsksPolicy, AsksTask};
+ghost use Rattle.odb_cli.specs.Options.{Asks, AsksForm, AsksJob, AsksLog, AsksMode, AsksOrder, AsksPolicy, AsksStrictness, AsksTask};
 ghost use Rattle.odb_cli.specs.Options.{IsRefused, IsWidth, TellsFlag, task_names, word_after};
 
 use crate::names;
 use crate::parser::program;
 use clap::{ArgMatches, Error};
 use odb_engine::{Form, Task};
+use odb_reply::Strictness;
 use odb_sched::{MAX_WIDTH, Mode, Order, Policy};
 use std::alloc::{AllocError, Global};
 
@@ -130,6 +131,19 @@ fn mode_of(args: &ArgMatches<'_>) -> Mode
     }
 }
 
+/// Returns which runs have to answer the statuses of a match, if that is asked.
+fn strictness_of(args: &ArgMatches<'_>) -> Option<Strictness>
+    ensures { AsksStrictness args.now result }
+{
+    if !flag(args, names::STRICT) {
+        None
+    } else if flag(args, names::UNITS) {
+        Some(Strictness::Units)
+    } else {
+        Some(Strictness::Requests)
+    }
+}
+
 /// Returns the policy that the options of a run ask for.
 fn policy_of(args: &ArgMatches<'_>) -> Result<Policy, BadArguments>
     ensures ok { IfOk result (AsksPolicy args.now) }
@@ -173,7 +187,7 @@ fn task_of(name: &str, args: &ArgMatches<'_>) -> Result<Option<Task>, BadArgumen
         names::CANON => Task::Canon,
         names::MATCH => Task::Match {
             mode: mode_of(args),
-            strict: flag(args, names::STRICT),
+            strict: strictness_of(args),
         },
         names::REST => Task::Rest {
             mode: mode_of(args),

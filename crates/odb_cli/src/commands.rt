@@ -125,6 +125,12 @@ const STRICT: Argument = Argument {
     help: "Ask also that some finished run answers these statuses: F76 to F78",
 };
 
+const UNITS: Argument = Argument {
+    id: names::UNITS,
+    kind: Kind::FlagOf(names::STRICT),
+    help: "The run may also send a group as one, so that its requests start together",
+};
+
 const WIDTH: Argument = Argument {
     id: names::WIDTH,
     kind: Kind::Value("N"),
@@ -150,13 +156,13 @@ const PAIRS: Argument = Argument {
 
 const FLUSH: Argument = Argument {
     id: names::FLUSH,
-    kind: Kind::FlagOfLines,
+    kind: Kind::FlagOf(names::LINES),
     help: "Write each line at once",
 };
 
 const NUMBER: Argument = Argument {
     id: names::NUMBER,
-    kind: Kind::FlagOfLines,
+    kind: Kind::FlagOf(names::LINES),
     help: "Print the number of its line with each fault, counted from 1",
 };
 
@@ -242,7 +248,7 @@ const MATCH: Row = Row {
         Exit status: 0 for responses that fit, 1 for a fault of a document or responses that do not fit, \
         2 for wrong arguments, 3 if a file or the output fails, 4 if out of memory",
     arguments: &[
-        BATCH, RESPONSES, LEFT_OUT, STRICT, JSON, PAIRS, FLUSH, NUMBER, WHERE, QUIET,
+        BATCH, RESPONSES, LEFT_OUT, STRICT, UNITS, JSON, PAIRS, FLUSH, NUMBER, WHERE, QUIET,
     ],
 };
 

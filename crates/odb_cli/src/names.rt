@@ -52,6 +52,8 @@ pub const STOP: &str = "stop";
 
 pub const STRICT: &str = "strict";
 
+pub const UNITS: &str = "units";
+
 pub const WIDTH: &str = "width";
 
 pub const TRACE: &str = "trace";

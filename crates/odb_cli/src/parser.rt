@@ -19,7 +19,7 @@ fn arg_of<'a>(alloc: Global, argument: &Argument) -> Result<Arg<'a>, AllocError>
         Kind::Flag => Ok(flag(arg, argument.id)),
         Kind::ShortFlag(name) => Ok(flag(arg, argument.id).short(name)),
         Kind::FlagWithout(others) => flag(arg, argument.id).conflicts_with_all(others),
-        Kind::FlagOfLines => flag(arg, argument.id).requires_arg(LINES),
+        Kind::FlagOf(other) => flag(arg, argument.id).requires_arg(other),
         Kind::Value(name) => Ok(arg.long(argument.id).value_name(name)),
         Kind::Choice(name, words) => {
             Ok(arg.long(argument.id).value_name(name).value_parser(words))

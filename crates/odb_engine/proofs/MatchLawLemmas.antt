@@ -1,5 +1,5 @@
 -- What a match writes of a batch and the bytes of a response document is one text.
-use Rattle.std.proofs.Common.{◌≡◌, ◌∙◌, ℕ, Bool, true, false, true≢false, List, IsSome, is_some, inl, inr, sym, ap, subst}
+use Rattle.std.proofs.Common.{◌≡◌, ◌∙◌, ℕ, List, Option, Some, IsSome, is_some, inl, inr, sym, ap, subst}
 use Rattle.std.proofs.lemmas.Option.{same_Some}
 use Rattle.std.specs.List.{AllZip}
 use Rattle.serde_json.specs.Data.{Data}
@@ -7,8 +7,8 @@ use Rattle.odb_doc.specs.batch.Records.{Record}
 use Rattle.odb_check.specs.PlanGraph.{PlanGraph}
 use Rattle.odb_check.specs.Plans.{batch_plan_graph}
 use Rattle.odb_sched.specs.declared.policy.Mode.{Mode}
-use Rattle.odb_sched.specs.run.Possible.{IsPossible}
-use Rattle.odb_reply.specs.StatusFaults.{StatusFault, RefusesStatuses, status_at, status_row}
+use Rattle.odb_reply.specs.StatusFaults.{StatusFault, IsPossibleBy, RefusesStatuses, status_at, status_row}
+use Rattle.odb_reply.specs.declared.strictness.Strictness.{Strictness}
 use Rattle.odb_reply.specs.MatchFaults.{MatchFault}
 use Rattle.odb_reply.specs.declared.response_fault.ResponseFault.{ResponseFault}
 use Rattle.odb_reply.specs.Fits.{Fits, IsTableOf}
@@ -33,23 +33,25 @@ pub record AreOneMatch : Type 0 where
   pub no_misfit : (requests : List Record) (responses : List Entry) (fault : MatchFault) → IsSome (match_faults.match_row fault) → RefusesMatch fault requests responses → ¬ Fits requests responses
   pub one_table : (requests : List Record) (responses : List Entry) (places others statuses different : List ℕ) → Fits requests responses
       → IsTableOf requests responses places statuses → IsTableOf requests responses others different → (places ≡ others) × (statuses ≡ different)
-  pub one_status : (plan : PlanGraph) (statuses : ℕ → ℕ) (fault other : StatusFault) → IsSome (status_row fault) → IsSome (status_row other) → RefusesStatuses fault plan statuses → RefusesStatuses other plan statuses → fault ≡ other
-  pub no_status : (plan : PlanGraph) (statuses : ℕ → ℕ) (fault : StatusFault) → IsSome (status_row fault) → RefusesStatuses fault plan statuses → ¬ IsPossible plan statuses
+  pub one_status : (by : Strictness) (plan : PlanGraph) (statuses : ℕ → ℕ) (fault other : StatusFault) → IsSome (status_row fault) → IsSome (status_row other) → RefusesStatuses fault by plan statuses → RefusesStatuses other by plan statuses → fault ≡ other
+  pub no_status : (by : Strictness) (plan : PlanGraph) (statuses : ℕ → ℕ) (fault : StatusFault) → IsSome (status_row fault) → RefusesStatuses fault by plan statuses → ¬ IsPossibleBy by plan statuses
 
 one_misfits : AreOneMatch → (batch : List Record) (entries : List Entry) (s t : Printed) → Misfits batch entries s → Misfits batch entries t → s ≡ t
 one_misfits law batch entries s t one two =
     same_Some s t (sym one.is ∙ ap match_faults.match_row (law.one_misfit batch entries one.fault two.fault (ap is_some one.is) (ap is_some two.is) one.least two.least) ∙ two.is)
 
-one_statuses : AreOneMatch → (strict : Bool) (batch : List Record) (statuses : List ℕ) (s t : Printed) → AreImpossible strict batch statuses s → AreImpossible strict batch statuses t → s ≡ t
+one_statuses : AreOneMatch → (strict : Option Strictness) (batch : List Record) (statuses : List ℕ) (s t : Printed) → AreImpossible strict batch statuses s → AreImpossible strict batch statuses t → s ≡ t
 one_statuses law strict batch statuses s t one two =
-    same_Some s t (sym one.is ∙ ap status_row (law.one_status (batch_plan_graph batch) (status_at statuses) one.fault two.fault (ap is_some one.is) (ap is_some two.is) one.least two.least) ∙ two.is)
+    let same : one.by ≡ two.by = same_Some one.by two.by (sym one.asked ∙ two.asked) in
+    let least : RefusesStatuses one.fault two.by (batch_plan_graph batch) (status_at statuses) = subst (λ by. RefusesStatuses one.fault by (batch_plan_graph batch) (status_at statuses)) same one.least in
+    same_Some s t (sym one.is ∙ ap status_row (law.one_status two.by (batch_plan_graph batch) (status_at statuses) one.fault two.fault (ap is_some one.is) (ap is_some two.is) least two.least) ∙ two.is)
 
 -- statuses that no finished run answers are refused, where that is asked
-not_answered : AreOneMatch → (strict : Bool) (batch : List Record) (statuses : List ℕ) (refusal : Printed) → AreImpossible strict batch statuses refusal → ¬ IsAnswered strict batch statuses
-not_answered law false batch statuses refusal bad answered = absurd (true≢false (sym bad.asked))
-not_answered law true batch statuses refusal bad answered = law.no_status (batch_plan_graph batch) (status_at statuses) bad.fault (ap is_some bad.is) bad.least answered
+not_answered : AreOneMatch → (strict : Option Strictness) (batch : List Record) (statuses : List ℕ) (refusal : Printed) → AreImpossible strict batch statuses refusal → ¬ IsAnswered strict batch statuses
+not_answered law strict batch statuses refusal bad answered =
+    law.no_status bad.by (batch_plan_graph batch) (status_at statuses) bad.fault (ap is_some bad.is) bad.least (subst (λ asked. IsAnswered asked batch statuses) bad.asked answered)
 
-statuses_one : AreOneMatch → (strict : Bool) (batch : List Record) (statuses : List ℕ) (form : Form) → IsOne (WritesStatuses strict batch statuses form)
+statuses_one : AreOneMatch → (strict : Option Strictness) (batch : List Record) (statuses : List ℕ) (form : Form) → IsOne (WritesStatuses strict batch statuses form)
 statuses_one law strict batch statuses form a b s t (inl x) (inl y) = (x.ends ∙ sym y.ends, x.prints ∙ ap (fault_text form) (one_statuses law strict batch statuses x.refusal y.refusal x.is y.is) ∙ sym y.prints)
 statuses_one law strict batch statuses form a b s t (inl x) (inr y) = absurd (not_answered law strict batch statuses x.refusal x.is y.0)
 statuses_one law strict batch statuses form a b s t (inr x) (inl y) = absurd (not_answered law strict batch statuses y.refusal y.is x.0)
@@ -70,5 +72,5 @@ responses_one law W mode batch one = reading_one response_documents.responses_ro
     (λ entries form. entries_one law W batch (decided mode batch entries) form (λ places statuses. one places statuses form))
 
 -- a batch and the value of a response document have one text
-pub matches_value_one : AreOneMatch → (mode : Mode) (strict : Bool) (batch : List Record) (value : Data) (form : Form) → IsOne (MatchesValue mode strict batch value form)
+pub matches_value_one : AreOneMatch → (mode : Mode) (strict : Option Strictness) (batch : List Record) (value : Data) (form : Form) → IsOne (MatchesValue mode strict batch value form)
 matches_value_one law mode strict batch = responses_one law (λ places statuses. WritesStatuses strict batch statuses) mode batch (λ places statuses. statuses_one law strict batch statuses)

@@ -21,6 +21,7 @@ use Rattle.odb_exec.specs.Courses.{AreChosen, IsOffered, step_of}
 use Rattle.odb_exec.specs.Recordings.{outcome_for, recorded_for}
 use Rattle.odb_reply.specs.OnePerId.{HasOnePerId}
 use Rattle.odb_reply.specs.Responses.{response_value}
+use Rattle.odb_reply.specs.declared.strictness.Strictness.TheVariants.{Requests}
 use Rattle.odb_engine.specs.ResponseLines.{response_line}
 use Rattle.odb_engine.specs.declared.ending.Ended.TheVariants.{Done}
 use Rattle.odb_engine.specs.declared.form.Form.{Form}
@@ -73,7 +74,7 @@ module _ (allows : Allowance) (policy : Policy) (traced : Bool) (batch : List Re
         result = ap response_line end;
         dependencies_first = result.dependencies_first;
         one_per_id = subst (λ (s : State). HasOnePerId batch (response_value s)) end result.one_per_id;
-        read_again = λ _. subst (λ (s : State). IsReadAgain batch (response_line s)) end (result.read_again recordable);
+        read_again = λ _. subst (λ (s : State). IsReadAgain Requests batch (response_line s)) end (result.read_again recordable);
       })
 
 -- ---- from bytes

@@ -11,13 +11,20 @@ use Rattle.odb_doc.specs.Documents.{IsDocument}
 use Rattle.odb_doc.specs.declared.fault.Place.TheVariants as places
 use Rattle.odb_check.specs.Firsts.{list_below}
 use Rattle.odb_check.specs.LeastNameFault.{HasGoodNames}
+use Rattle.odb_check.specs.PlanGraph.{PlanGraph}
+use Rattle.odb_check.specs.Plans.{batch_plan_graph}
 use Rattle.odb_check.specs.Positions.{id_at}
 use Rattle.odb_check.proofs.BelowLemmas.{get_or-list_below, length-list_below}
 use Rattle.odb_sched.specs.declared.policy.Mode.{Mode}
 use Rattle.odb_sched.specs.declared.policy.Mode.TheVariants.{Continue, Stop}
+use Rattle.odb_sched.specs.run.Possible.{IsPossible}
+use Rattle.odb_sched.specs.run.PossibleLive.{IsPossibleLive}
 use Rattle.odb_reply.specs.Completed.{completed}
 use Rattle.odb_reply.specs.Fits.{Fits, IsRow, IsTableOf}
 use Rattle.odb_reply.specs.ResponseDocuments.{Entry}
+use Rattle.odb_reply.specs.StatusFaults.{IsPossibleBy, status_at}
+use Rattle.odb_reply.specs.declared.strictness.Strictness.{Strictness}
+use Rattle.odb_reply.specs.declared.strictness.Strictness.TheVariants.{Requests, Units}
 use Rattle.odb_reply.proofs.SliceLemmas.{map_some}
 use Rattle.odb_send.specs.Parts.{IsBatchIn}
 use Rattle.odb_send.specs.Rests.{IsRestOf, records_in}
@@ -29,11 +36,11 @@ use Rattle.odb_engine.specs.declared.tasks.task.Task.TheVariants as tasks
 use Rattle.odb_engine.specs.Cascade.{Accepts, AcceptsValue, AnswersValue, OfDocument}
 use Rattle.odb_engine.specs.Commands.{counts_text}
 use Rattle.odb_engine.specs.Contents.Given.{InMemory}
-use Rattle.odb_engine.specs.Matches.{OfEntries, decided, match_text}
+use Rattle.odb_engine.specs.Matches.{IsAnswered, OfEntries, decided, match_text}
 use Rattle.odb_engine.specs.ReadAgain.{IsReadAgain}
 use Rattle.odb_engine.specs.Rests.{RestsValue, WritesRest}
 use Rattle.odb_engine.specs.Tasks.{OfDocuments, OfTask}
-use Rattle.odb_engine.specs.Written.{IsDone, MayBeDocument}
+use Rattle.odb_engine.specs.Written.{Allows, IsDone, MayBeDocument}
 use Rattle.odb_engine.proofs.MatchLemmas.{found-match}
 
 -- ---- responses that fit have a table
@@ -92,12 +99,24 @@ as-decided : StaysAsItIs → (mode : Mode) (rs : List Record) (es : List Entry) 
 as-decided stays Continue rs es fits = refl
 as-decided stays Stop rs es fits = stays rs es fits
 
-pub matched : StaysAsItIs → (mode : Mode) (bytes text : List ℕ) → Accepts bytes (λ batch. IsReadAgain batch text) → MayBeDocument text → IsDone (tasks.Match mode false) bytes text
-matched stays mode bytes text accepted may form =
+-- the laws of odb_reply and odb_sched on responses that fit, and on their statuses
+pub record AreMatchLaws : Type 0 where
+  pub stays : StaysAsItIs
+  pub alone : (plan : PlanGraph) (statuses : ℕ → ℕ) → IsPossible plan statuses → IsPossibleLive plan statuses
+
+answered : AreMatchLaws → (by : Strictness) (strict : Option Strictness) → Allows by strict → (batch : List Record) (statuses : List ℕ) → IsPossibleBy by (batch_plan_graph batch) (status_at statuses) → IsAnswered strict batch statuses
+answered law by None allows batch statuses possible = tt
+answered law Requests (Some Requests) allows batch statuses possible = possible
+answered law Requests (Some Units) allows batch statuses possible = law.alone (batch_plan_graph batch) (status_at statuses) possible
+answered law Units (Some Requests) allows batch statuses possible = absurd allows
+answered law Units (Some Units) allows batch statuses possible = possible
+
+pub matched : AreMatchLaws → (by : Strictness) (strict : Option Strictness) (mode : Mode) (bytes text : List ℕ) → Allows by strict → Accepts bytes (λ batch. IsReadAgain by batch text) → MayBeDocument text → IsDone (tasks.Match mode strict) bytes text
+matched law by strict mode bytes text allows accepted may form =
     let batch = accepted.holds.batch in
     let again = accepted.holds.holds.1 in
     let entries = again.fits.listed in
-    let same = as-decided stays mode batch entries again.fits.fits in
+    let same = as-decided law.stays mode batch entries again.fits.fits in
     let table = some-table batch entries again.fits.fits in
     let out = match_text form batch table.statuses in (
       out,
@@ -113,8 +132,8 @@ matched stays mode bytes text accepted may form =
             inr (record {
               value = again.value;
               document = (may.short, (may.utf8, again.reads));
-              holds = found-match mode false form batch again.value entries table.places table.statuses out (again.document, again.fits.says)
-                  (subst (λ (es : List Entry). Fits batch es) (sym same) again.fits.fits) (subst (λ (es : List Entry). IsTableOf batch es table.places table.statuses) (sym same) table.table) tt refl;
+              holds = found-match mode strict form batch again.value entries table.places table.statuses out (again.document, again.fits.says)
+                  (subst (λ (es : List Entry). Fits batch es) (sym same) again.fits.fits) (subst (λ (es : List Entry). IsTableOf batch es table.places table.statuses) (sym same) table.table) (answered law by strict allows batch table.statuses (again.possible table.places table.statuses table.table)) refl;
             }),
           );
         });

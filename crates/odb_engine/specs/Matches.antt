@@ -1,5 +1,5 @@
 -- What a match writes of a batch and of the response document of a service (OData JSON Format 4.01, section 19.5).
-use Rattle.std.specs.Prelude.{◌≡◌, ◌⊎◌, ℕ, Bool, true, false, List, ◌++◌, Some, length}
+use Rattle.std.specs.Prelude.{◌≡◌, ◌⊎◌, ℕ, List, ◌++◌, Option, None, Some, length}
 use Rattle.std.specs.List.{AllZip}
 use Rattle.serde_json.specs.Data.{Data}
 use Rattle.odb_doc.specs.declared.fault.Place.TheVariants as places
@@ -8,8 +8,8 @@ use Rattle.odb_check.specs.Plans.{batch_plan_graph}
 use Rattle.odb_sched.specs.declared.policy.Mode.{Mode}
 use Rattle.odb_sched.specs.declared.policy.Mode.TheVariants.{Continue, Stop}
 use Rattle.odb_reply.specs.MatchFaults.{MatchFault, match_row}
-use Rattle.odb_sched.specs.run.Possible.{IsPossible}
-use Rattle.odb_reply.specs.StatusFaults.{StatusFault, RefusesStatuses, status_at, status_row}
+use Rattle.odb_reply.specs.StatusFaults.{StatusFault, IsPossibleBy, RefusesStatuses, status_at, status_row}
+use Rattle.odb_reply.specs.declared.strictness.Strictness.{Strictness}
 use Rattle.odb_reply.specs.Completed.{completed}
 use Rattle.odb_reply.specs.Fits.{Fits, IsTableOf}
 use Rattle.odb_reply.specs.LeastMatchFault.{RefusesMatch}
@@ -47,19 +47,20 @@ pub record Misfits (batch : List Record) (entries : List Entry) (refusal : Print
   pub is : match_row fault ≡ Some refusal
 
 -- if it is asked, some finished run answers these statuses
-abbrev pub IsAnswered : Bool → List Record → List ℕ → Type 0
-IsAnswered false batch statuses = Unit {0}
-IsAnswered true batch statuses = IsPossible (batch_plan_graph batch) (status_at statuses)
+abbrev pub IsAnswered : Option Strictness → List Record → List ℕ → Type 0
+IsAnswered None batch statuses = Unit {0}
+IsAnswered (Some by) batch statuses = IsPossibleBy by (batch_plan_graph batch) (status_at statuses)
 
 -- it is asked, no finished run does, and this is the least fault
-pub record AreImpossible (strict : Bool) (batch : List Record) (statuses : List ℕ) (refusal : Printed) : Type 0 where
-  pub asked : strict ≡ true
+pub record AreImpossible (strict : Option Strictness) (batch : List Record) (statuses : List ℕ) (refusal : Printed) : Type 0 where
+  pub by : Strictness
+  pub asked : strict ≡ Some by
   pub fault : StatusFault
-  pub least : RefusesStatuses fault (batch_plan_graph batch) (status_at statuses)
+  pub least : RefusesStatuses fault by (batch_plan_graph batch) (status_at statuses)
   pub is : status_row fault ≡ Some refusal
 
 -- what is written of the statuses of responses that fit
-abbrev pub WritesStatuses : Bool → List Record → List ℕ → WritesIn
+abbrev pub WritesStatuses : Option Strictness → List Record → List ℕ → WritesIn
 WritesStatuses strict batch statuses form ended text = Reports (AreImpossible strict batch statuses) form ended text ⊎ (IsAnswered strict batch statuses × Prints (match_text form batch statuses) ended text)
 
 -- the responses fit the batch, and this is written by the place and the status of the response to each request
@@ -79,13 +80,13 @@ abbrev pub OfResponses : (List ℕ → List ℕ → WritesIn) → Mode → List 
 OfResponses W mode batch value form ended text = Reports (IsFaultOfResponses value) form ended text ⊎ ((entries : List Entry) × Lists value entries × OfEntries W batch (decided mode batch entries) form ended text)
 
 -- what a match writes of these, by whether some finished run has to answer the statuses
-abbrev pub MatchesValue : Mode → Bool → List Record → Data → WritesIn
+abbrev pub MatchesValue : Mode → Option Strictness → List Record → Data → WritesIn
 MatchesValue mode strict batch = OfResponses (λ places statuses. WritesStatuses strict batch statuses) mode batch
 
 -- the same of the bytes of a response document
-abbrev pub MatchesIn : Mode → Bool → List Record → List ℕ → WritesIn
+abbrev pub MatchesIn : Mode → Option Strictness → List Record → List ℕ → WritesIn
 MatchesIn mode strict batch = OfDocument places.Responses (MatchesValue mode strict batch)
 
 -- of a service that continues after an error, whatever a run answers
 abbrev pub Matches : List Record → List ℕ → WritesIn
-Matches = MatchesIn Continue false
+Matches = MatchesIn Continue None

@@ -15,6 +15,7 @@ use Rattle.odb_sched.specs.run.Choosing.{Allowance}
 use Rattle.odb_exec.specs.Courses.{Offer, IsReportEnabled, IsFinishedBy}
 use Rattle.odb_exec.specs.Recordings.{recorded_for, OffersRecorded}
 use Rattle.odb_reply.specs.Responses.{response_value}
+use Rattle.odb_reply.specs.declared.strictness.Strictness.TheVariants.{Requests}
 use Rattle.odb_reply.specs.OnePerId.{HasOnePerId}
 use Rattle.odb_sched.specs.run.Laws.{StartsAfterDependencies}
 use Rattle.odb_engine.specs.declared.ending.Ended.{Ended}
@@ -45,7 +46,7 @@ pub record IsResult (allows : Allowance) (policy : Policy) (traced : Bool) (batc
   pub result : text ≡ result_text traced last steps
   pub dependencies_first : StartsAfterDependencies batch course.events
   pub one_per_id : HasOnePerId batch (response_value last)
-  pub read_again : All (λ (entry : Recorded). IsRecordable entry.1) entries → IsReadAgain batch (response_line last)
+  pub read_again : All (λ (entry : Recorded). IsRecordable entry.1) entries → IsReadAgain Requests batch (response_line last)
 
 -- a request whose report is due after some course has no outcome
 pub record LacksOutcome (allows : Allowance) (policy : Policy) (batch : List Record) (entries : List Recorded) (refusal : Printed) : Type 0 where

@@ -20,6 +20,7 @@ use Rattle.odb_sched.specs.run.State.{State, first_state}
 use Rattle.odb_sched.specs.run.Steps.{is_finished}
 use Rattle.odb_reply.specs.OnePerId.{HasOnePerId}
 use Rattle.odb_reply.specs.Responses.{response_value}
+use Rattle.odb_reply.specs.declared.strictness.Strictness.TheVariants.{Requests}
 use Rattle.odb_engine.specs.declared.ending.Ended.{Ended}
 use Rattle.odb_engine.specs.declared.ending.Ended.TheVariants.{Done}
 use Rattle.odb_doc.specs.Refusals.{Printed}
@@ -72,7 +73,7 @@ pub record IsResult (policy : Policy) (batch : List Record) (named : List EventV
   pub result : text ≡ response_line (end_of policy batch events)
   pub dependencies_first : StartsAfterDependencies batch events
   pub one_per_id : HasOnePerId batch (response_value (end_of policy batch events))
-  pub read_again : All IsRecordableEvent named → IsReadAgain batch (response_line (end_of policy batch events))
+  pub read_again : All IsRecordableEvent named → IsReadAgain Requests batch (response_line (end_of policy batch events))
 
 -- what is written of a batch by recorded events
 abbrev pub RunsEvents : Policy → List Record → List EventValue → WritesIn

@@ -27,6 +27,7 @@ ghost use Rattle.odb_engine.specs.declared.tasks.task.Task.{Task};
 ghost use Rattle.odb_engine.specs.Tasks.{IsLineOf, OfDocuments, OfWholeLine, WritesParts, takes_bytes, takes_second};
 ghost use Rattle.odb_engine.specs.Live.{Live, Opens, RecordsOneMore, Shows, with_run};
 ghost use Rattle.odb_engine.specs.declared.ending.Ended.TheVariants.{Done};
+ghost use Rattle.odb_reply.specs.declared.strictness.Strictness.TheVariants.{Requests};
 ghost use Rattle.odb_engine.specs.ReadAgain.{IsReadAgain};
 ghost use Rattle.odb_engine.specs.Replayed.{RunsAgain};
 ghost use Rattle.odb_engine.specs.Replays.{Replays};
@@ -115,17 +116,18 @@ pub fn every_pair()
 {}
 
 /// What a replay without a trace, or a run by recorded events, writes as its result is read again:
-/// `serde_json` reads the text, with its newline, as a response document, and its responses fit the
-/// batch. So a match accepts it, unless it is longer than a document may be (F01).
+/// `serde_json` reads the text, with its newline, as a response document, its responses fit the
+/// batch, and some finished run answers their statuses. So a match accepts it, unless it is longer than a document may be
+/// (F01).
 ///
 /// A body that was read from a document nests at most 124 deep, so a response of it at most 127.
 pub fn read_again()
     ensures replay { (order : Order) (policy : Policy) (form : Form) (bytes outcomes text : List ℕ)
         → Answers (Replays (AllowsOrder order) policy false (Some outcomes)) bytes form Done text
-        → Accepts bytes (λ batch. IsReadAgain batch text) }
+        → Accepts bytes (λ batch. IsReadAgain Requests batch text) }
     ensures run { (policy : Policy) (form : Form) (bytes events text : List ℕ)
         → Answers (Runs policy (Some events)) bytes form Done text
-        → Accepts bytes (λ batch. IsReadAgain batch text) }
+        → Accepts bytes (λ batch. IsReadAgain Requests batch text) }
 {
     odb_doc::laws::every_value();
     odb_doc::laws::one_record();

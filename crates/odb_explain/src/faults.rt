@@ -270,8 +270,9 @@ accepted: 424 and 409 for the two requests of a group"#,
     r#"F78 NotStarted /requests/N
 With --strict: the response is not 424, and the request cannot have started. Something outside of its group that it depends on
 has a response that is not 2xx; or something in its group has one that is neither 2xx nor 424, or cannot have started itself.
-Such a request must not be performed (OData Protocol 4.01, section 11.7): it is answered 424. The service performed it anyway,
-or answers another status than 424 for what it skipped.
+With --units it can also start with its group, once all that the group depends on outside of it has a 2xx. Such a request
+must not be performed (OData Protocol 4.01, section 11.7): it is answered 424. The service performed it anyway, or answers
+another status than 424 for what it skipped.
 refused: {"responses":[{"id":"1","status":404},{"id":"2","status":404}]}
 accepted: {"responses":[{"id":"1","status":404},{"id":"2","status":424}]}"#,
     r#"F80 NoOutcome /requests/N

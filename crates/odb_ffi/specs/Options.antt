@@ -1,10 +1,12 @@
 -- The options of a call from C, by their numbers.
-use Rattle.std.specs.Prelude.{◌≡◌, ◌≤◌, ℕ, Bool, true, false}
+use Rattle.std.specs.Prelude.{◌≡◌, ◌≤◌, ℕ, Bool, true, false, Option, None, Some}
 use Rattle.odb_sched.specs.declared.order.Order.{Order}
 use Rattle.odb_sched.specs.declared.order.Order.TheVariants.{First, Last, Wide}
 use Rattle.odb_sched.specs.declared.policy.Mode.{Mode}
 use Rattle.odb_sched.specs.declared.policy.Mode.TheVariants.{Continue, Stop}
 use Rattle.odb_sched.specs.declared.policy.Policy.{Policy}
+use Rattle.odb_reply.specs.declared.strictness.Strictness.{Strictness}
+use Rattle.odb_reply.specs.declared.strictness.Strictness.TheVariants.{Requests, Units}
 use Rattle.odb_engine.specs.declared.form.Form.{Form}
 use Rattle.odb_engine.specs.declared.form.Form.TheVariants.{Lines, Json}
 use Rattle.odb_engine.specs.declared.tasks.task.Task.{Task}
@@ -27,6 +29,12 @@ abbrev pub form_number : Form → ℕ
 form_number Lines = 0
 form_number Json = 1
 
+-- whether statuses have to be those of some run, and of which runs
+abbrev pub strict_number : Option Strictness → ℕ
+strict_number None = 0
+strict_number (Some Requests) = 1
+strict_number (Some Units) = 2
+
 -- the number names the form
 abbrev pub IsForm : ℕ → Form → Type 0
 IsForm number form = number ≡ form_number form
@@ -44,7 +52,7 @@ pub record IsPolicy (mode width : ℕ) (policy : Policy) : Type 0 where
 
 -- these numbers name the match
 abbrev pub IsMatch : ℕ → ℕ → Task → Type 0
-IsMatch mode strict (tasks.Match named asked) = IsMode mode named × (strict ≡ flag_number asked)
+IsMatch mode strict (tasks.Match named asked) = IsMode mode named × (strict ≡ strict_number asked)
 IsMatch mode strict _ = ⊥
 
 -- these numbers name the run

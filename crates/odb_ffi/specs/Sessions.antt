@@ -10,7 +10,7 @@ use Rattle.odb_sched.specs.declared.event.Event.TheVariants as single
 use Rattle.odb_sched.specs.declared.policy.Policy.{Policy}
 use Rattle.odb_sched.specs.run.State.{stopped}
 use Rattle.odb_sched.specs.run.Answers.{answer}
-use Rattle.odb_sched.specs.run.LiveEvents.{LiveEvent, Single, live_state}
+use Rattle.odb_sched.specs.run.LiveEvents.{IsLiveRun, LiveEvent, Single, live_state}
 use Rattle.odb_sched.specs.run.LiveEvents as live_event
 use Rattle.odb_sched.specs.run.LiveLaws.{KeepsPromises}
 use Rattle.odb_reply.specs.BodyTexts.{text_at, value_with}
@@ -92,6 +92,7 @@ pub record KeepsSession (policy : Policy) (requests : List Record) (bytes : List
   pub opened : IsAfter policy requests bytes first.run
   pub events : List LiveEvent
   pub taken : AreTaken requests calls events
+  pub live : IsLiveRun requests policy (map Single opened.events ++ events)
   pub state : last.run ≡ live_state requests policy (map Single opened.events ++ events)
   pub promises : KeepsPromises requests policy (map Single opened.events ++ events)
   pub one_per_id : HasOnePerId requests (value_with last.labels last.texts (answer last.run))

@@ -104,7 +104,8 @@ pub extern "C" fn odb_canon_as(
 /// Matches the response document of a service against the batch in a document, as `odb_batch match` does.
 ///
 /// `mode` is 0 for a service that continues after an error, and 1 for one that stops at its first error, as `odb_batch match
-/// --stop` does. With `strict` 1, as `odb_batch match --strict` does, some finished run has to answer the statuses; with 0 not.
+/// --stop` does. With `strict` 1, as `odb_batch match --strict` does, some finished run has to answer the statuses; with 2, as
+/// `--strict --units` does, some run that may also send a group as one; with 0 none.
 #[unsafe(no_mangle)]
 pub extern "C" fn odb_match_with(
     alloc: Global,

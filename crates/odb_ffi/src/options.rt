@@ -6,6 +6,7 @@ ghost use Rattle.odb_ffi.specs.Returns.{NamesNone};
 
 use odb_check::Seed;
 use odb_engine::{Form, Setup, Task};
+use odb_reply::Strictness;
 use odb_sched::{MAX_WIDTH, Mode, Order, Policy};
 
 /// Returns the seed that a number is. 0 is no seed.
@@ -91,13 +92,26 @@ fn flag_of(number: u32) -> Option<bool>
     }
 }
 
+/// Returns how strict a match is by this number, or `None` if it may not be.
+fn strict_of(number: u32) -> Option<Option<Strictness>>
+    ensures some { IfSome result (λ named. number ≡ options.strict_number named) }
+    ensures none { result ≡ None → NamesNone (λ named. number ≡ options.strict_number named) }
+{
+    match number {
+        0 => Some(None),
+        1 => Some(Some(Strictness::Requests)),
+        2 => Some(Some(Strictness::Units)),
+        _ => None,
+    }
+}
+
 /// Returns the match that two numbers name, or `None` if one of them may not be.
 pub fn match_of(mode: u32, strict: u32) -> Option<Task>
     ensures some { IfSome result (options.IsMatch mode strict) }
     ensures none { result ≡ None → NamesNone (options.IsMatch mode strict) }
 {
     let mode = mode_of(mode)?;
-    let strict = flag_of(strict)?;
+    let strict = strict_of(strict)?;
     Some(Task::Match { mode, strict })
 }
 

@@ -1,8 +1,9 @@
 -- What the response to a finished run lists, and that it fits the batch.
-use Rattle.std.proofs.Common.{◌≡◌, ◌∙◌, ◌+◌, ◌<◌, ℕ, zero, suc, true, List, [], ◌∷◌, length, Option, Some, None, option_map, option_and_then, slice_get, refl, ap, ap₂, sym, subst, arith, ◌≤◌, nat_le, nat_lt, leb-true, ltb-true, Contains, IfSome, IsSome, All}
+use Rattle.std.proofs.Common.{◌≡◌, ◌∙◌, ◌+◌, ◌<◌, ℕ, zero, suc, true, List, [], ◌∷◌, length, Option, Some, None, option_map, option_and_then, slice_get, get_or, refl, ap, ap₂, sym, subst, arith, ◌≤◌, nat_le, nat_lt, leb-true, ltb-true, Contains, IfSome, IsSome, All}
 use Rattle.std.proofs.lemmas.List.Elements.{All-nil, All-cons}
 use Rattle.std.specs.List.{AllZip}
 use Rattle.std.proofs.lemmas.Bool.{true≢false, and_parts}
+use Rattle.std.proofs.lemmas.Option.{slice_get-get_or}
 use Rattle.serde_json.specs.Find.{as_str}
 use Rattle.serde_json.specs.Data.{Data, string, unsigned}
 use Rattle.odb_doc.specs.declared.recorded.outcome.Outcome.{Outcome}
@@ -17,12 +18,13 @@ use Rattle.odb_sched.specs.run.Answers.{answer, status_of, is_answered_2xx}
 use Rattle.odb_sched.specs.run.Laws.{RestsOnSuccesses}
 use Rattle.odb_sched.specs.run.State.{State, size}
 use Rattle.odb_doc.specs.Statuses.{is_success, is_status}
-use Rattle.odb_reply.specs.Fits.{id_in, Responds, Succeeds, IsSatisfied, Fits, ListsFit}
-use Rattle.odb_reply.specs.ResponseDocuments.{Entry, IsResponse, IsResponseDocument, IsStatus, ReadsAs}
+use Rattle.odb_reply.specs.Fits.{id_in, IsRow, IsTableOf, Responds, Succeeds, IsSatisfied, Fits, ListsFit}
+use Rattle.odb_reply.specs.ResponseDocuments.{Entry, IsResponse, IsResponseDocument, IsStatus, ReadsAs, responses_in}
 use Rattle.odb_reply.specs.BodyTexts.{text_at, valued, value_with, values_of}
 use Rattle.odb_reply.specs.Responses.{LabelValue, label_of, labels_of, response, responses_from, response_value, value_of}
 use Rattle.odb_check.proofs.PositionLemmas.{id_within}
 use Rattle.odb_reply.specs.Places.{IsOnce}
+use Rattle.odb_reply.proofs.OneFaultLemmas.{one_list}
 use Rattle.odb_reply.proofs.OneLemmas.{entry_for, says_entry, responses_in-value}
 use Rattle.odb_reply.proofs.SliceLemmas.{map_some}
 
@@ -153,16 +155,25 @@ fits_answered state once sound same count = record {
       satisfied_answered state i need once sound same count (id_within rs i e.id responds.id) answered needed;
 }
 
+-- the responses list the answers, whatever bodies were reported as text
+says_texted : (texts : List (Option (List ℕ))) (state : State) → AllZip ReadsAs (responses_in (value_with (labels_of state.requests) texts (answer state))) (listed state)
+says_texted texts state = rw (responses_in-value (labels_of state.requests) (values_of texts (answer state)))
+    (subst (λ (es : List Entry). AllZip ReadsAs (responses_from (values_of texts (answer state)) 0 (labels_of state.requests)) es) (same-entries texts (answer state) 0 state.requests) (says_entries (values_of texts (answer state)) 0 state.requests))
+
+-- the statuses in a table of them are those of the answers
+pub table-texted : (texts : List (Option (List ℕ))) (state : State) → IsOnce state.requests → (entries : List Entry) → AllZip ReadsAs (responses_in (value_with (labels_of state.requests) texts (answer state))) entries
+    → (places statuses : List ℕ) → IsTableOf state.requests entries places statuses → (i : ℕ) → i < length state.requests → get_or statuses i 0 ≡ status_of (answer state i)
+table-texted texts state once entries says places statuses table i within =
+    let same : entries ≡ listed state = one_list (responses_in (value_with (labels_of state.requests) texts (answer state))) entries (listed state) says (says_texted texts state) in
+    let row : IsRow state.requests entries i (get_or places i 0) (get_or statuses i 0) = table.each i (get_or places i 0) (get_or statuses i 0)
+    (slice_get-get_or places i 0 (omega (arith, within, table.places_count))) (slice_get-get_or statuses i 0 (omega (arith, within, table.statuses_count))) in
+    let responds : Responds state.requests entries i row.entry = record { place = get_or places i 0; given = row.given; id = row.id } in
+    sym row.status_is ∙ (shows_answer state i row.entry once (subst (λ (es : List Entry). Responds state.requests es i row.entry) same responds)).status
+
 pub ListsFit-texted : (texts : List (Option (List ℕ))) (state : State) → IsOnce state.requests → RestsOnSuccesses state → IsPlanGraphOf state.requests state.plan_graph → size state ≡ length state.requests
     → ListsFit state.requests (value_with (labels_of state.requests) texts (answer state))
 ListsFit-texted texts state once sound same count =
-    let answers = values_of texts (answer state) in
-    record {
-      listed = listed state;
-      says = rw (responses_in-value (labels_of state.requests) answers)
-          (subst (λ (es : List Entry). AllZip ReadsAs (responses_from answers 0 (labels_of state.requests)) es) (same-entries texts (answer state) 0 state.requests) (says_entries answers 0 state.requests));
-      fits = fits_answered state once sound same count;
-    }
+    record { listed = listed state; says = says_texted texts state; fits = fits_answered state once sound same count }
 
 pub ListsFit-answered : (state : State) → IsOnce state.requests → RestsOnSuccesses state → IsPlanGraphOf state.requests state.plan_graph → size state ≡ length state.requests
     → ListsFit state.requests (response_value state)

@@ -1,13 +1,13 @@
 -- The lexemes of a text without a fault come before those of what follows it.
-use Rattle.std.proofs.Common.{◌≡◌, ◌∙◌, ℕ, zero, suc, ◌+◌, ◌-◌, ◌<◌, ◌≤◌, ◌&&◌, ◌||◌, ◌==◌, List, [], ◌∷◌, ◌++◌, length, take, drop, Bool, true, false, cond, Option, Some, None, option_and_then, refl, sym, ap, ap₂, subst, arith, append_assoc, append-nil, length-append}
+use Rattle.std.proofs.Common.{◌≡◌, ◌∙◌, ℕ, zero, suc, ◌<◌, ◌≤◌, ◌||◌, ◌==◌, List, [], ◌∷◌, ◌++◌, length, take, drop, Bool, true, false, cond, Option, Some, None, option_and_then, refl, sym, ap, ap₂, subst, arith, append_assoc, append-nil, length-append}
 use Rattle.std.specs.Prelude.{⊤, nat_eq}
 use Rattle.std.specs.List.{starts_with, prefix_len}
 use Rattle.std.specs.Char.{is_ascii_digit}
-use Rattle.std.proofs.lemmas.Bool.{true≢false, false≢true, and_parts}
+use Rattle.std.proofs.lemmas.Bool.{false≢true, and_parts}
 use Rattle.std.proofs.lemmas.List.{take-append-drop}
 use Rattle.std.proofs.lemmas.Slice.Eq.{bytes_eq-Decides}
 use Rattle.json.specs.Align.{is_good}
-use Rattle.json.specs.Lex.{Lexeme, token, comma, colon, Mode, between, in_word, Class, quote, backslash, operator, space, other, class, operator_lexeme, string_token, lex_byte, lex}
+use Rattle.json.specs.Lex.{Lexeme, token, comma, colon, between, Class, quote, backslash, operator, space, other, class, operator_lexeme, string_token, lex_byte, lex}
 use Rattle.json.specs.Print.{IsNumber}
 use Rattle.json.specs.Text.{plain, content}
 use Rattle.json.specs.Token.{Token, number, string, boolean, null, bad}

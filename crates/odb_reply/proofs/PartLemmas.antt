@@ -1,5 +1,5 @@
 -- The text of a response is that of its parts.
-use Rattle.std.proofs.Common.{◌≡◌, ℕ, List, ◌++◌, Option, Some, None, option_map, Bool, decimal, refl, ap, sym, codes, append_assoc, Result, Ok, Err, OnOk}
+use Rattle.std.proofs.Common.{◌≡◌, ℕ, List, ◌++◌, Option, Some, None, option_map, decimal, refl, sym, codes, append_assoc, Result, Ok, Err, OnOk}
 use Rattle.serde_json.specs.Data.{Data, unsigned, number, string, object, put, no_members}
 use Rattle.serde_json.specs.Written.{compact_text}
 use Rattle.serde_json.proofs.OnLiterals.{serde_json_on_literals}

@@ -1,5 +1,5 @@
 -- The text of the responses, response by response.
-use Rattle.std.proofs.Common.{sym, ◌≡◌, ◌∙◌, ℕ, ◌+◌, ◌≤◌, List, [], ◌∷◌, ◌++◌, length, Option, Some, nat_lt, true, refl, ap, codes, arith, append_assoc, lt-ltb}
+use Rattle.std.proofs.Common.{sym, ◌≡◌, ◌∙◌, ℕ, ◌+◌, ◌≤◌, List, [], ◌∷◌, ◌++◌, length, Option, Some, nat_lt, refl, ap, codes, arith, append_assoc, lt-ltb}
 use Rattle.std.proofs.lemmas.List.{drop_all}
 use Rattle.std.specs.Prelude.{slice_get}
 use Rattle.serde_json.specs.View.{items_of}

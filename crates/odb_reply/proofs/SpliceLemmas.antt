@@ -1,5 +1,5 @@
 -- The tokens of a document whose array holds objects, part by part, where the value of a member may be any text.
-use Rattle.std.proofs.Common.{◌≡◌, ◌∙◌, ℕ, suc, ◌+◌, ◌≤◌, max, List, [], ◌∷◌, ◌++◌, Bool, true, false, Option, Some, None, option_map, option_and_then, IfSome, codes, refl, sym, ap, ap₂, arith, append_assoc, append-nil}
+use Rattle.std.proofs.Common.{◌≡◌, ◌∙◌, ℕ, suc, ◌≤◌, max, List, [], ◌∷◌, ◌++◌, Bool, true, false, Option, Some, None, option_map, option_and_then, IfSome, codes, refl, sym, ap, ap₂, arith, append_assoc, append-nil}
 use Rattle.std.specs.Prelude.{⊤}
 use Rattle.json.specs.Json as json
 use Rattle.json.specs.Lex.{Lexeme, token, colon, between, lex, Place, fresh, after_value, after_comma, after_key, begins_colon, may_begin, punctuate, tokens}

@@ -3,7 +3,7 @@ use Rattle.std.proofs.Common.{◌≡◌, ◌∙◌, ◌⊎◌, ℕ, ◌<◌, ◌
 use Rattle.std.specs.Char.{is_digit, encode_utf8}
 use Rattle.std.proofs.lemmas.Bool.{cases_Bool, cases_eq, cases_lt, true≢false, and_parts, eqb-true, ne_eqb, lt-ltb, le-ltb}
 use Rattle.std.proofs.lemmas.Option.{same_Some}
-use Rattle.json.specs.Lex.{Lexeme, Mode, between, in_string, in_escape, quote, backslash, operator, space, other, lex_byte, lex}
+use Rattle.json.specs.Lex.{Lexeme, Mode, between, in_string, in_escape, operator, space, other, lex_byte, lex}
 use Rattle.json.specs.Text.{code_unit, short_escape, is_high_surrogate, is_low_surrogate, surrogate_pair, Within, plain, after_backslash, after_u, after_high, prepend, content}
 use Rattle.json.specs.Word.{is_operator, is_space}
 

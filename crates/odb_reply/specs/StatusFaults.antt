@@ -6,7 +6,10 @@ use Rattle.odb_doc.specs.Refusals.{Printed, fault_at}
 use Rattle.odb_doc.specs.Statuses.{is_success, is_status}
 use Rattle.odb_doc.specs.declared.fault.Place.TheVariants as places
 use Rattle.odb_check.specs.PlanGraph.{PlanGraph, unit_of}
-use Rattle.odb_sched.specs.run.Possible.{CanHaveStarted}
+use Rattle.odb_sched.specs.run.Possible.{CanHaveStarted, IsPossible}
+use Rattle.odb_sched.specs.run.PossibleLive.{CanHaveStartedLive, IsPossibleLive}
+use Rattle.odb_reply.specs.declared.strictness.Strictness.{Strictness}
+use Rattle.odb_reply.specs.declared.strictness.Strictness.TheVariants.{Requests, Units}
 use Rattle.odb_reply.specs.declared.status_fault.StatusRule.{StatusRule}
 use Rattle.odb_reply.specs.declared.status_fault.StatusRule.TheVariants.{NotFinal, PartialGroup, NotStarted}
 use Rattle.odb_doc.specs.RuleFaults.{fault_row}
@@ -25,15 +28,25 @@ pub record IsPartial (plan : PlanGraph) (statuses : ℕ → ℕ) (i : ℕ) : Typ
   pub same : unit_of plan member ≡ unit_of plan i
   pub fails : ¬ IsTrue (is_success (statuses member))
 
+-- these requests can have started: one by one, or with units that were sent as one
+abbrev pub CanHaveStartedBy : Strictness → PlanGraph → (ℕ → ℕ) → (ℕ → Bool) → Type 0
+CanHaveStartedBy Requests = CanHaveStarted
+CanHaveStartedBy Units = CanHaveStartedLive
+
+-- some finished run answers these statuses: one by requests alone, or one in which units may be sent as one
+abbrev pub IsPossibleBy : Strictness → PlanGraph → (ℕ → ℕ) → Type 0
+IsPossibleBy Requests = IsPossible
+IsPossibleBy Units = IsPossibleLive
+
 -- not 424, though the request is in no set of requests that can have started
-abbrev pub IsOfUnstarted : PlanGraph → (ℕ → ℕ) → ℕ → Type 0
-IsOfUnstarted plan statuses i = (statuses i ≢ 424) × ((started : ℕ → Bool) → CanHaveStarted plan statuses started → started i ≡ false)
+abbrev pub IsOfUnstarted : Strictness → PlanGraph → (ℕ → ℕ) → ℕ → Type 0
+IsOfUnstarted by plan statuses i = (statuses i ≢ 424) × ((started : ℕ → Bool) → CanHaveStartedBy by plan statuses started → started i ≡ false)
 
 -- the status of the request at a position breaks the rule
-abbrev pub BreaksStatus : PlanGraph → (ℕ → ℕ) → StatusRule → ℕ → Type 0
-BreaksStatus plan statuses NotFinal i = (i < length plan.units) × ¬ IsTrue (is_status (statuses i))
-BreaksStatus plan statuses PartialGroup i = (i < length plan.units) × IsPartial plan statuses i
-BreaksStatus plan statuses NotStarted i = (i < length plan.units) × IsOfUnstarted plan statuses i
+abbrev pub BreaksStatus : Strictness → PlanGraph → (ℕ → ℕ) → StatusRule → ℕ → Type 0
+BreaksStatus by plan statuses NotFinal i = (i < length plan.units) × ¬ IsTrue (is_status (statuses i))
+BreaksStatus by plan statuses PartialGroup i = (i < length plan.units) × IsPartial plan statuses i
+BreaksStatus by plan statuses NotStarted i = (i < length plan.units) × IsOfUnstarted by plan statuses i
 
 -- the number in the code, and the name
 abbrev pub status_label : StatusRule → ℕ × List ℕ
@@ -55,6 +68,6 @@ abbrev pub status_row : StatusFault → Option Printed
 status_row = fault_row status_rule_row
 
 -- the fault is the least by position and number. Out of memory says nothing.
-abbrev pub RefusesStatuses : StatusFault → PlanGraph → (ℕ → ℕ) → Type 0
-RefusesStatuses (faults.Broken at rule) plan statuses = IsFirst status_number (BreaksStatus plan statuses) at rule
-RefusesStatuses faults.OutOfMemory plan statuses = Unit {0}
+abbrev pub RefusesStatuses : StatusFault → Strictness → PlanGraph → (ℕ → ℕ) → Type 0
+RefusesStatuses (faults.Broken at rule) by plan statuses = IsFirst status_number (BreaksStatus by plan statuses) at rule
+RefusesStatuses faults.OutOfMemory by plan statuses = Unit {0}

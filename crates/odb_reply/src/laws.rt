@@ -3,7 +3,7 @@
 //!
 //! The laws are clauses of functions that change nothing.
 
-ghost use Rattle.std.specs.Prelude.{◌≡◌, ◌↔◌, ◌++◌, ℕ, true, List, Some, IsSome, IsTrue, codes, length};
+ghost use Rattle.std.specs.Prelude.{◌≡◌, ◌↔◌, ◌++◌, ◌<◌, ℕ, true, List, Some, IsSome, IsTrue, codes, length};
 ghost use Rattle.std.specs.List.{AllZip};
 ghost use Rattle.serde_json.specs.Data.{Data};
 ghost use Rattle.serde_json.specs.Read.{read};
@@ -12,7 +12,6 @@ ghost use Rattle.odb_check.specs.Laws.{HasPositions};
 ghost use Rattle.odb_check.specs.PlanGraph.{IsPlanGraphOf, PlanGraph};
 ghost use Rattle.odb_doc.specs.Statuses.{is_status};
 ghost use Rattle.odb_sched.specs.run.Answers.{answer, status_of};
-ghost use Rattle.odb_sched.specs.run.Possible.{IsPossible};
 ghost use Rattle.odb_sched.specs.run.State.{size};
 ghost use Rattle.odb_sched.specs.run.Steps.{is_finished};
 ghost use Rattle.odb_reply.specs.MatchFaults.{MatchFault};
@@ -23,13 +22,14 @@ ghost use Rattle.odb_reply.specs.BodyTexts.{value_with};
 ghost use Rattle.odb_reply.specs.Fits.{Fits, IsTableOf, ListsFit};
 ghost use Rattle.odb_reply.specs.LeastMatchFault.{HasNoMisfit, RefusesMatch};
 ghost use Rattle.odb_reply.specs.StatusFaults.{StatusFault};
+ghost use Rattle.odb_reply.specs.declared.strictness.Strictness.{Strictness};
 ghost use Rattle.odb_reply.specs.MatchFaults as match_faults;
 ghost use Rattle.odb_reply.specs.MatchFaults.{Breaks};
-ghost use Rattle.odb_reply.specs.ResponseDocuments.{Entry, IsResponseDocument, RefusesResponses, ReadsAs};
+ghost use Rattle.odb_reply.specs.ResponseDocuments.{Entry, IsResponseDocument, RefusesResponses, ReadsAs, responses_in};
 ghost use Rattle.odb_reply.specs.ResponseDocuments as response_documents;
 ghost use Rattle.odb_reply.specs.OnePerId.{HasOnePerId};
 ghost use Rattle.odb_reply.specs.StatusFaults as status_faults;
-ghost use Rattle.odb_reply.specs.StatusFaults.{RefusesStatuses};
+ghost use Rattle.odb_reply.specs.StatusFaults.{IsPossibleBy, RefusesStatuses, status_at};
 ghost use Rattle.odb_reply.specs.Readable.{AnswersBy, IsReadable};
 ghost use Rattle.odb_reply.specs.Responses.{labels_of, response_text, response_value, text_of, value_of};
 
@@ -69,12 +69,13 @@ pub fn one_match()
 
 /// Statuses have one first fault of F76 to F78 at most, and none if some finished run answers them.
 pub fn one_status()
-    ensures one { (plan : PlanGraph) (statuses : ℕ → ℕ) (fault other : StatusFault)
+    ensures one { (by : Strictness) (plan : PlanGraph) (statuses : ℕ → ℕ) (fault other : StatusFault)
         → IsSome (status_faults.status_row fault) → IsSome (status_faults.status_row other)
-        → RefusesStatuses fault plan statuses → RefusesStatuses other plan statuses → fault ≡ other }
-    ensures none { (plan : PlanGraph) (statuses : ℕ → ℕ) (fault : StatusFault)
-        → IsSome (status_faults.status_row fault) → RefusesStatuses fault plan statuses
-        → ¬ IsPossible plan statuses }
+        → RefusesStatuses fault by plan statuses → RefusesStatuses other by plan statuses
+        → fault ≡ other }
+    ensures none { (by : Strictness) (plan : PlanGraph) (statuses : ℕ → ℕ) (fault : StatusFault)
+        → IsSome (status_faults.status_row fault) → RefusesStatuses fault by plan statuses
+        → ¬ IsPossibleBy by plan statuses }
 {}
 
 /// What is true of responses that are completed, as [`crate::Responses::completed`] does it: if one of them is an
@@ -138,10 +139,14 @@ pub fn every_texted<L: Labels>(labels: &L, texts: &[Option<JsonText>], run: &Own
 }
 
 /// What is true of the response to a finished run of a plan, as [`every_labeled`] states it by the ids
-/// and groups of the plan.
+/// and groups of the plan. Its statuses are those of the answers (`table`).
 pub fn every_response(done: &Done<'_>)
     ensures one_per_id { HasOnePerId done.now.requests (response_value done.now) }
     ensures fits { ListsFit done.now.requests (response_value done.now) }
+    ensures table { (entries : List Entry) (places statuses : List ℕ)
+        → AllZip ReadsAs (responses_in (response_value done.now)) entries
+        → IsTableOf done.now.requests entries places statuses → (i : ℕ) → i < size done.now
+        → status_of (answer done.now i) ≡ status_at statuses i }
     ensures document { IsResponseDocument (response_value done.now) }
     ensures reads_back { AnswersBy IsReadable done.now
         → read (response_text done.now) ≡ Some (response_value done.now) }

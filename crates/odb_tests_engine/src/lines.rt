@@ -161,7 +161,7 @@ const TASKS: [Task; 4] = [
     Task::Plan { full: false },
     Task::Match {
         mode: Mode::Continue,
-        strict: false,
+        strict: None,
     },
 ];
 

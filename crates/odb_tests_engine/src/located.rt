@@ -44,7 +44,7 @@ fn matched(
     let mut output = Output::new(Vec::new(alloc));
     let task = Task::Match {
         mode: Mode::Continue,
-        strict: false,
+        strict: None,
     };
     let ended = answer_documents(
         alloc,
@@ -122,7 +122,7 @@ fn a_fault_of_a_line_has_its_number(rt: HostRuntime) {
 fn is_written(alloc: Global, batch: &str, text: &str) -> bool {
     let task = Task::Match {
         mode: Mode::Continue,
-        strict: false,
+        strict: None,
     };
     let (batch, responses) = (batch.as_bytes(), RESPONSES.as_bytes());
     match answer_in_memory(alloc, batch, responses, NAMES, task, locating()) {

@@ -17,6 +17,7 @@ use odb_engine::{
     match_batch, plan_batch, replay_batch, run_batch,
 };
 use odb_io::{Input, Output};
+use odb_reply::Strictness;
 use odb_sched::{Mode, Order, Policy};
 use std::alloc::Global;
 use std::io::{Read, Write};
@@ -44,7 +45,7 @@ const NAMES: Names<'static> = Names {
     second: "",
 };
 
-pub const EXAMPLES: [Example; 12] = [
+pub const EXAMPLES: [Example; 13] = [
     (Task::Check { all: false }, "", "ok 2 requests 0 groups\n"),
     (Task::Check { all: true }, "", "ok 2 requests 0 groups\n"),
     (
@@ -93,7 +94,7 @@ pub const EXAMPLES: [Example; 12] = [
     (
         Task::Match {
             mode: Mode::Continue,
-            strict: false,
+            strict: None,
         },
         r#"{"responses":[{"id":"2","status":204},{"id":"1","status":200,"body":["€"]}]}"#,
         "ok 2 responses\n1 200\n2 204\n",
@@ -101,7 +102,7 @@ pub const EXAMPLES: [Example; 12] = [
     (
         Task::Match {
             mode: Mode::Stop,
-            strict: false,
+            strict: None,
         },
         r#"{"responses":[{"id":"1","status":404}]}"#,
         "ok 2 responses\n1 404\n2 424\n",
@@ -109,7 +110,15 @@ pub const EXAMPLES: [Example; 12] = [
     (
         Task::Match {
             mode: Mode::Continue,
-            strict: true,
+            strict: Some(Strictness::Requests),
+        },
+        r#"{"responses":[{"id":"1","status":404},{"id":"2","status":424}]}"#,
+        "ok 2 responses\n1 404\n2 424\n",
+    ),
+    (
+        Task::Match {
+            mode: Mode::Continue,
+            strict: Some(Strictness::Units),
         },
         r#"{"responses":[{"id":"1","status":404},{"id":"2","status":424}]}"#,
         "ok 2 responses\n1 404\n2 424\n",
@@ -176,7 +185,7 @@ fn called<R: Read, S: Read, W: Write>(
             } => replay_batch(alloc, batch, second, output, policy, &mut order, traced),
             Task::Match {
                 mode: Mode::Continue,
-                strict: false,
+                strict: None,
             } => match_batch(alloc, batch, second, output),
             _ => called_plainly(alloc, task, batch, second, output),
         };

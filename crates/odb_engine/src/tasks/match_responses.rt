@@ -1,11 +1,12 @@
 //! The command `match`: whether the responses of a service fit a batch.
 
-ghost use Rattle.std.specs.Prelude.{◌≡◌, ◌≢◌, ◌⊎◌, length, true, false, Err, IsTrue, IfOk, IfErr, OnOk, string_bytes};
+ghost use Rattle.std.specs.Prelude.{◌≡◌, ◌≢◌, ◌⊎◌, length, None, Some, false, Err, IsTrue, IfOk, IfErr, OnOk, string_bytes};
 ghost use Rattle.serde_json.specs.View.{view};
 ghost use Rattle.odb_check.specs.Plans.{plan_records, plan_graph};
 ghost use Rattle.odb_reply.specs.Fits.{statuses};
 ghost use Rattle.odb_reply.specs.ResponseDocuments.{entries};
 ghost use Rattle.odb_reply.specs.StatusFaults.{RefusesStatuses, status_at};
+ghost use Rattle.odb_reply.specs.declared.strictness.Strictness.{Strictness};
 ghost use Rattle.odb_engine.specs.declared.form.Form.TheVariants.{Lines};
 ghost use Rattle.odb_engine.specs.declared.halt.Halt.TheVariants as halts;
 ghost use Rattle.odb_engine.specs.Cascade.{Answers};
@@ -24,7 +25,7 @@ use crate::tasks::command::answer_task;
 use crate::tasks::task::Task;
 use odb_check::Plan;
 use odb_io::{Input, Output};
-use odb_reply::{Responses, StatusFault, Table, check_statuses, match_responses};
+use odb_reply::{Responses, StatusFault, Strictness, Table, check_statuses, match_responses};
 use odb_sched::Mode;
 use odb_text::{match_json, match_lines};
 use serde_json::Value;
@@ -70,17 +71,17 @@ fn check_asked(
     alloc: Global,
     plan: &Plan<'_>,
     table: &Table,
-    strict: bool,
+    strict: Option<Strictness>,
 ) -> Result<(), StatusFault>
     requires { length (statuses table.now) ≡ length (plan_records plan.now) }
     ensures answered { OnOk result (IsAnswered strict (plan_records plan.now) (statuses table.now)) }
-    ensures least { IfErr result (λ fault. (strict ≡ true)
-        × RefusesStatuses fault (plan_graph plan.now) (status_at (statuses table.now))) }
+    ensures least { IfErr result (λ fault. (by : Strictness) × (strict ≡ Some by)
+        × RefusesStatuses fault by (plan_graph plan.now) (status_at (statuses table.now))) }
 {
-    if strict {
-        check_statuses(alloc, plan, table)?;
+    match strict {
+        None => Ok(()),
+        Some(strictness) => check_statuses(alloc, plan, table, strictness),
     }
-    Ok(())
 }
 
 /// Returns what is printed of the responses in a value, by whether an error stops the service, and whether some finished
@@ -90,7 +91,7 @@ pub fn matched(
     plan: &Plan<'_>,
     value: Value,
     mode: Mode,
-    strict: bool,
+    strict: Option<Strictness>,
     setup: Setup,
 ) -> Result<String, Halt>
     ensures found { Found (MatchesValue mode strict (plan_records plan.now) (view value)) setup.form result }
@@ -145,7 +146,7 @@ pub fn match_batch<R: Read, S: Read, W: Write>(
 {
     let task = Task::Match {
         mode: Mode::Continue,
-        strict: false,
+        strict: None,
     };
     answer_task(alloc, batch, responses, output, task, Setup::plain())
 }

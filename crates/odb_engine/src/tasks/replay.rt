@@ -31,6 +31,7 @@ use odb_doc::{Batch, Outcomes, Place};
 use odb_exec::{Chooser, Recorded, Trace, execute};
 use odb_io::{Input, Output};
 use odb_reply::laws::every_response;
+use odb_sched::laws::every_possible;
 use odb_sched::{Order, Policy};
 use odb_text::trace_part;
 use serde_json::Value;
@@ -85,6 +86,7 @@ fn run_of<'a: 'p, 'p>(
     };
     let trace = execute(alloc, plan, replay.policy, chooser, &mut service.value)?;
     every_response(&trace.done);
+    every_possible(plan);
     Ok(trace)
 }
 

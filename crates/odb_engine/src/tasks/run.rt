@@ -31,6 +31,7 @@ use odb_check::Plan;
 use odb_doc::Events;
 use odb_io::{Input, Output};
 use odb_reply::laws::every_response;
+use odb_sched::laws::every_possible;
 use odb_sched::{Done, Policy, Scheduler, resolve, run};
 use serde_json::Value;
 use std::alloc::Global;
@@ -92,6 +93,7 @@ fn done_of<'a: 'p, 'p>(
     let scheduler = run(alloc, plan, policy, resolved)?;
     let done = finished(scheduler, disposal)?;
     every_response(&done);
+    every_possible(plan);
     Ok(done)
 }
 

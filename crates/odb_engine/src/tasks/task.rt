@@ -22,6 +22,7 @@ use crate::tasks::source::{Slice, Source};
 use odb_check::Plan;
 use odb_doc::{Batch, Place};
 use odb_io::{Input, Output};
+use odb_reply::Strictness;
 use odb_sched::{Mode, Order, Policy};
 use std::alloc::Global;
 use std::io::{Read, Write};
@@ -44,10 +45,10 @@ pub enum Task {
     /// Write its canonical text.
     Canon,
     /// Match the responses of a service against it. In `Mode::Stop` the service stops at its first error, and may
-    /// leave out responses after one. If `strict` is set, some finished run has to answer their statuses, too.
+    /// leave out responses after one. If `strict` is given, some such finished run has to answer their statuses, too.
     Match {
         mode: Mode,
-        strict: bool,
+        strict: Option<Strictness>,
     },
     /// Write what may be sent again by the responses of a service, as a batch of its own (OData JSON Format 4.01, sections
     /// 19.1 and 19.4), with each body as the bytes of the document. The mode is that of `Match`.

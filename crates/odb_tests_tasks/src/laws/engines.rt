@@ -6,6 +6,7 @@ ghost use Rattle.odb_sched.specs.declared.order.Order.TheVariants.{Last};
 ghost use Rattle.odb_engine.specs.Cascade.{Accepts};
 ghost use Rattle.odb_engine.specs.Contents.Given.{ByReader, InMemory};
 ghost use Rattle.odb_engine.specs.Inputs.{SomeDocument};
+ghost use Rattle.odb_reply.specs.declared.strictness.Strictness.TheVariants.{Requests};
 ghost use Rattle.odb_engine.specs.ReadAgain.{IsReadAgain};
 ghost use Rattle.odb_engine.specs.Tasks.{OfDocuments, OfWholeLine, takes_bytes};
 ghost use Rattle.odb_engine.specs.declared.ending.Ended.TheVariants.{Done};
@@ -120,7 +121,7 @@ fn line_answered_twice(alloc: Global, line: &[u8], task: Task, form: Form) -> Tw
 /// Runs a batch. A response that it writes is read again, and its responses fit the batch.
 fn ran_and_read(alloc: Global, batch: &[u8], events: &[u8], policy: Policy) -> Option<Written>
     ensures { IfSome result (λ it. it.0 ≡ Done → SomeDocument (Some batch.now) (λ bytes.
-        Accepts bytes (λ requests. IsReadAgain requests it.1.items))) }
+        Accepts bytes (λ requests. IsReadAgain Requests requests it.1.items))) }
 {
     read_again();
     written(alloc, batch, events, Task::Run { policy })
@@ -134,7 +135,7 @@ fn replayed_and_read(
     policy: Policy,
 ) -> Option<Written>
     ensures { IfSome result (λ it. it.0 ≡ Done → SomeDocument (Some batch.now) (λ bytes.
-        Accepts bytes (λ requests. IsReadAgain requests it.1.items))) }
+        Accepts bytes (λ requests. IsReadAgain Requests requests it.1.items))) }
 {
     read_again();
     let task = Task::Replay {
@@ -238,7 +239,7 @@ fn fits(alloc: Global, response: Option<Written>) -> bool {
         Some((Ended::Done, text)) => {
             let task = Task::Match {
                 mode: Mode::Continue,
-                strict: false,
+                strict: None,
             };
             let found = written(alloc, PAIR.as_bytes(), text, task);
             found.is_some_and(|it| it.0 == Ended::Done)

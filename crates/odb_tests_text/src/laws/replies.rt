@@ -14,17 +14,19 @@ ghost use Rattle.odb_reply.specs.Responses.{response_value, value_of};
 ghost use Rattle.odb_reply.specs.StatusFaults.{status_at, status_row};
 ghost use Rattle.odb_sched.specs.run.Answers.{answer};
 ghost use Rattle.odb_sched.specs.run.Possible.{HasRun};
+ghost use Rattle.odb_sched.specs.run.PossibleLive.{HasLiveRun};
 ghost use Rattle.odb_sched.specs.run.State.{size};
 ghost use Rattle.odb_sched.specs.run.Steps.{is_finished};
 ghost use Rattle.odb_testing.specs.Readings.{IsReading, IsSame};
 
 use odb_check::Plan;
+use odb_check::laws::every_plan;
 use odb_reply::laws::{every_labeled, every_response, one_document, one_match, one_status};
 use odb_reply::{
-    Labels, MatchFault, ResponseFault, Responses, StatusFault, Table, check_statuses,
+    Labels, MatchFault, ResponseFault, Responses, StatusFault, Strictness, Table, check_statuses,
     match_responses,
 };
-use odb_sched::laws::every_possible;
+use odb_sched::laws::{every_possible, every_possible_live};
 use odb_sched::{Done, Mode, OwnedRun};
 use odb_testing::Two;
 use serde_json::Value;
@@ -98,7 +100,27 @@ fn answered_by_run(
     ensures { IfSome result (λ found. OnOk found (HasRun plan.now mode (status_at (statuses table.now)))) }
 {
     every_possible(plan);
-    match check_statuses(alloc, plan, table) {
+    match check_statuses(alloc, plan, table, Strictness::Requests) {
+        Err(StatusFault::OutOfMemory) => None,
+        found => Some(found),
+    }
+}
+
+/// Checks the statuses of a table by units, unless memory runs out. Some finished live run in this mode answers those that
+/// pass.
+fn answered_by_live_run(
+    alloc: Global,
+    plan: &Plan<'_>,
+    table: &Table,
+    mode: Mode,
+) -> Option<Result<(), StatusFault>>
+    requires { length (statuses table.now) ≡ length (plan_records plan.now) }
+    ensures { IfSome result (λ found. OnOk found (HasLiveRun (plan_records plan.now) mode
+        (status_at (statuses table.now)))) }
+{
+    every_plan(plan);
+    every_possible_live();
+    match check_statuses(alloc, plan, table, Strictness::Units) {
         Err(StatusFault::OutOfMemory) => None,
         found => Some(found),
     }
@@ -109,16 +131,17 @@ fn refused_twice(
     alloc: Global,
     plan: &Plan<'_>,
     table: &Table,
+    strictness: Strictness,
 ) -> Option<(StatusFault, StatusFault)>
     requires { length (statuses table.now) ≡ length (plan_records plan.now) }
     ensures { IfSome result (λ both. IsSome (status_row both.0) → IsSome (status_row both.1)
         → both.0 ≡ both.1) }
 {
     one_status();
-    let Err(fault) = check_statuses(alloc, plan, table) else {
+    let Err(fault) = check_statuses(alloc, plan, table, strictness) else {
         return None;
     };
-    let Err(other) = check_statuses(alloc, plan, table) else {
+    let Err(other) = check_statuses(alloc, plan, table, strictness) else {
         return None;
     };
     Some((fault, other))

@@ -1,5 +1,6 @@
 -- The calls that are taken are a live run after the events of the document.
-use Rattle.std.proofs.Common.{◌≡◌, ◌≤◌, ◌∙◌, ℕ, All, Some, ap, refl, subst, sym, map, ◌++◌, List}
+use Rattle.std.proofs.Common.{◌≡◌, ◌≤◌, ◌∙◌, ℕ, All, Some, ap, arith, inl, inr, refl, subst, sym, map, true, ◌++◌, List}
+use Rattle.std.specs.List.{AllZip}
 use Rattle.serde_json.specs.Data.{Data, depth}
 use Rattle.serde_json.specs.Read.{read}
 use Rattle.odb_doc.specs.canonical.HeldValues.{IsHeld}
@@ -9,25 +10,31 @@ use Rattle.odb_check.specs.Laws.{HasPositions}
 use Rattle.odb_check.specs.PlanGraph.{IsPlan, IsPlanGraphOf}
 use Rattle.odb_check.specs.Plans.{batch_plan_graph}
 use Rattle.odb_sched.specs.declared.event.Event.{Event}
+use Rattle.odb_sched.specs.declared.policy.Mode.{Mode}
 use Rattle.odb_sched.specs.declared.policy.Policy.{Policy}
-use Rattle.odb_sched.specs.run.Answers.{HasStatuses, answer}
+use Rattle.odb_sched.specs.run.Answers.{HasStatuses, answer, status_of}
 use Rattle.odb_sched.specs.run.Laws.{RestsOnSuccesses}
 use Rattle.odb_sched.specs.run.LiveEvents.{LiveEvent, Single, IsLiveRun, IsLiveRunFrom, after_all_live, first_live, live_state}
 use Rattle.odb_sched.specs.run.LiveLaws.{KeepsPromises}
+use Rattle.odb_sched.specs.run.PossibleLive.{HasLiveRun, IsPossibleLive}
+use Rattle.odb_sched.specs.run.Steps.{is_finished}
 use Rattle.odb_sched.specs.run.Runs.{IsRunFrom, after_all}
 use Rattle.odb_sched.specs.run.State.{State, first_state, phase_at, with_requests, without_requests}
 use Rattle.odb_sched.proofs.LiveLemmas.{plan_graph-after_all_live}
 use Rattle.odb_reply.specs.BodyTexts.{text_at, value_with, values_of}
 use Rattle.odb_reply.specs.Fits.{ListsFit}
 use Rattle.odb_reply.specs.OnePerId.{HasOnePerId}
+use Rattle.odb_reply.specs.ResponseDocuments.{ReadsAs, responses_in}
 use Rattle.odb_reply.specs.Responses.{LabelValue}
-use Rattle.odb_reply.proofs.AnsweredLemmas.{IsResponseDocument-answered, ListsFit-texted, texted-statuses}
+use Rattle.odb_reply.specs.StatusFaults.{status_at}
+use Rattle.odb_reply.specs.declared.strictness.Strictness.TheVariants.{Units}
+use Rattle.odb_reply.proofs.AnsweredLemmas.{IsResponseDocument-answered, ListsFit-texted, table-texted, texted-statuses}
 use Rattle.odb_reply.proofs.IdLemmas.{one_position}
 use Rattle.odb_reply.proofs.OneLemmas.{one_per_id}
 use Rattle.odb_engine.specs.declared.ending.Ended.TheVariants.{Done}
 use Rattle.odb_engine.specs.declared.form.Form.TheVariants.{Lines}
 use Rattle.odb_engine.specs.Cascade.{Accepts}
-use Rattle.odb_engine.specs.Live.{IsOpened, Live, Opens}
+use Rattle.odb_engine.specs.Live.{IsOpened, Live, Opens, Shows}
 use Rattle.odb_engine.specs.ReadAgain.{IsReadAgain}
 use Rattle.odb_ffi.specs.Live.{Responds}
 use Rattle.odb_ffi.specs.Sessions.{Call, IsSession, KeepsSession}
@@ -74,6 +81,7 @@ keeps requests policy laws bytes first last calls opened session =
       opened = after;
       events = all.events;
       taken = all.taken;
+      live = goes.0;
       state = state;
       promises = promises;
       one_per_id = subst (λ (l : List LabelValue). HasOnePerId requests (value_with l last.texts (answer last.run))) (sym labels) (one_per_id requests (values_of last.texts (answer last.run)) named);
@@ -85,10 +93,38 @@ keeps requests policy laws bytes first last calls opened session =
       shallow = λ i within. shallow-answer requests after.named after.events calls i (answer last.run i) (text_at last.texts i) after.resolved can (answers i);
     }
 
--- what is written of the run is read again as responses that fit
-again : (requests : List Record) (policy : Policy) (bytes text : List ℕ) (first last : Live) (calls : List Call) → KeepsSession policy requests bytes first calls last → Responds last Lines Done text → IsReadAgain requests text
-again requests policy bytes text first last calls keeps responds =
-    record { value = value_with last.labels last.texts (answer last.run); reads = responds.reads_back refl keeps.shallow; document = keeps.document; fits = keeps.fits }
+-- a response is written of a finished run alone
+finished_of : (last : Live) (text : List ℕ) → Shows last Lines Done text → is_finished last.run ≡ true
+finished_of last text (inl x) = absurd (cc (x.ends))
+finished_of last text (inr x) = x.0
+
+-- what the check says of the requests, and what odb_sched says of the statuses of a live run
+record AreStatusLaws (requests : List Record) : Type 0 where
+  positions : HasPositions requests
+  graph : IsPlanGraphOf requests (batch_plan_graph requests)
+  possible : (mode : Mode) (statuses : ℕ → ℕ) → HasLiveRun requests mode statuses → IsPossibleLive (batch_plan_graph requests) statuses
+
+-- what is written of the run is read again as responses that fit, with the statuses of a live run
+again : (requests : List Record) (policy : Policy) (bytes text : List ℕ) (first last : Live) (calls : List Call) → AreStatusLaws requests → KeepsSession policy requests bytes first calls last → Responds last Lines Done text → IsReadAgain Units requests text
+again requests policy bytes text first last calls laws keeps responds =
+    let events = map Single keeps.opened.events ++ keeps.events in
+    let end = live_state requests policy events in
+    let says = subst (λ (l : List LabelValue). AllZip ReadsAs (responses_in (value_with l last.texts (answer last.run))) keeps.fits.listed) keeps.labels keeps.fits.says in
+    record {
+      value = value_with last.labels last.texts (answer last.run);
+      reads = responds.reads_back refl keeps.shallow;
+      document = keeps.document;
+      fits = keeps.fits;
+      possible = λ places statuses table. laws.possible policy.mode (status_at statuses) (record {
+        policy = policy;
+        mode_is = refl;
+        events = events;
+        run = keeps.live;
+        finished = subst (λ (s : State). is_finished s ≡ true) keeps.state (finished_of last text responds.shows);
+        answered = λ i within. ap (λ (s : State). status_of (answer s i)) (sym keeps.state)
+            ∙ sym (table-texted last.texts (with_requests requests last.run) (one_position requests laws.positions) keeps.fits.listed says places statuses table i (omega (arith, within, laws.graph.size)));
+      });
+    }
 
 pub returns : goal.returns
 returns c =
@@ -118,17 +154,25 @@ returns c =
     keeps in
     record {
       kept = kept;
-      matched = λ policy mode batch events text first last calls opens session responds short.
+      matched = λ policy strict mode batch events text first last calls opens session responds short allows.
           let keeps = kept policy batch events first last calls opens session in
-          let accepted : Accepts batch (λ (rs : List Record). IsReadAgain rs text) = record {
+          let requests = keeps.holds.batch in
+          let good = keeps.holds.holds.0 in
+          let order = checked.order keeps.value requests keeps.holds.shaped keeps.holds.is_batch good in
+          let laws : AreStatusLaws requests = record {
+            positions = checked.positions requests good;
+            graph = checked.plan_graph requests;
+            possible = λ of_mode statuses found. (c.every_possible_live.ensures.runs requests of_mode statuses order).1 found;
+          } in
+          let accepted : Accepts batch (λ (rs : List Record). IsReadAgain Units rs text) = record {
             value = keeps.value;
             document = keeps.document;
             holds = record {
-              batch = keeps.holds.batch;
+              batch = requests;
               shaped = keeps.holds.shaped;
               is_batch = keeps.holds.is_batch;
-              holds = (keeps.holds.holds.0, again keeps.holds.batch policy events text first last calls keeps.holds.holds.1 responds);
+              holds = (good, again requests policy events text first last calls laws keeps.holds.holds.1 responds);
             };
           } in
-          c.every_match.ensures.fits mode batch text accepted (record { short = short; utf8 = responds.utf8 refl });
+          c.every_match.ensures.fits Units strict mode batch text allows accepted (record { short = short; utf8 = responds.utf8 refl });
     }

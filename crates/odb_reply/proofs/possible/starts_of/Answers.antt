@@ -11,7 +11,8 @@ loop-i-preserved c =
     let plan = plan_graph c.args.plan.now in
     let all = status_at (statuses c.args.table.now) in
     let units = c.args.units.now in
+    let sent = c.args.sent.now in
     let i = c.loop-i.i in
     rw c.in_ok-push.ensures.items
-    (starts-push plan all units c.loop-i.started.items c.can_start-can.result i c.every_plan.ensures.order (omega (arith, c.loop-i-test.true, c.len-i-end.ensures.size)) c.loop-i.invariant
-    (c.can_start-can.ensures ∙ ap (λ flags. can_start plan all units flags i) c.deref.ensures.value))
+    (starts-push plan all units sent c.loop-i.started.items c.can_start-can.result i c.every_plan.ensures.order (omega (arith, c.loop-i-test.true, c.len-i-end.ensures.size)) c.loop-i.invariant
+    (c.can_start-can.ensures ∙ ap (λ flags. can_start plan all units sent flags i) c.deref.ensures.value))

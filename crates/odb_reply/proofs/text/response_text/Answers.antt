@@ -1,10 +1,10 @@
-use Rattle.std.proofs.Common.{◌≡◌, ◌↔◌, Err, IfOk, Some, string_bytes, refl, subst}
+use Rattle.std.proofs.Common.{◌≡◌, ◌↔◌, Err, IfOk, Some, string_bytes, subst}
 use Rattle.serde_json.specs.Read.{read}
 use Rattle.odb_doc.specs.declared.fault.TextFault.TheVariants.{NotWhole}
 use Rattle.odb_sched.specs.run.State.{State}
 use Rattle.odb_reply.specs.NotWhole.{IsFirstNotWhole}
 use Rattle.odb_reply.specs.Readable.{HasShallowBodies}
-use Rattle.odb_reply.specs.Responses.{response_text, response_value}
+use Rattle.odb_reply.specs.Responses.{response_value}
 use Rattle.odb_reply.proofs.DoneLemmas.{labels_count, untexted_beside}
 use Rattle.odb_reply.proofs.text.response_text.Goals as goal
 

@@ -39,7 +39,7 @@ returns-in_err-check_asked-clause-found c =
     let all = c.in_ok-decided.ensures in
     at-exit (Found (MatchesValue mode c.args.strict batch value) form) _ _ c.from_residual-in_err-check_asked.ensures.1
     (halt-statuses mode c.args.strict form batch value listed (places table) (statuses table) _ (c.in_ok-read.ensures.good, c.in_ok-read.ensures.responses)
-    (subst (Fits batch) all c.in_ok-table.ensures.fits) (subst (λ es. IsTableOf batch es (places table) (statuses table)) all c.in_ok-table.ensures.table) c.in_err-check_asked.ensures.least.0 c.in_err-check_asked.ensures.least.1)
+    (subst (Fits batch) all c.in_ok-table.ensures.fits) (subst (λ es. IsTableOf batch es (places table) (statuses table)) all c.in_ok-table.ensures.table) c.in_err-check_asked.ensures.least.0 c.in_err-check_asked.ensures.least.1 c.in_err-check_asked.ensures.least.2)
 
 pub returns-clause-found : goal.returns-clause-found
 returns-clause-found c =

@@ -1,16 +1,20 @@
 -- An execution by recorded outcomes.
-use Rattle.std.proofs.Common.{◌≡◌, subst, refl, Some, Ok, ℕ, IfErr}
+use Rattle.std.proofs.Common.{◌≡◌, ◌∙◌, ◌<◌, length, subst, refl, sym, ap, true, Some, Ok, ℕ, IfErr}
 use Rattle.odb_doc.specs.declared.recorded.outcome.Outcome.{Outcome}
 use Rattle.odb_doc.specs.recorded.OutcomeLists.{entries}
+use Rattle.odb_check.specs.PlanGraph.{PlanGraph}
 use Rattle.odb_check.specs.Plans.{plan_records}
-use Rattle.odb_sched.specs.run.Answers.{reported}
+use Rattle.odb_sched.specs.run.Answers.{answer, reported, status_of}
 use Rattle.odb_exec.specs.Courses.{IsReportEnabled, IsCausedBy, IsFinishedBy}
 use Rattle.odb_sched.specs.run.Laws.{StartsAfterDependencies}
 use Rattle.odb_exec.specs.Recordings.{OffersRecorded}
-use Rattle.odb_sched.specs.run.State.{first_state}
-use Rattle.odb_reply.specs.Fits.{ListsFit}
+use Rattle.odb_sched.specs.run.State.{State, first_state, size}
+use Rattle.odb_sched.specs.run.Steps.{is_finished}
+use Rattle.odb_sched.proofs.RunLemmas.{plan_graph-after_all}
+use Rattle.odb_reply.specs.Fits.{IsTableOf, ListsFit}
 use Rattle.odb_reply.specs.OnePerId.{HasOnePerId}
 use Rattle.odb_reply.specs.Responses.{response_value}
+use Rattle.odb_reply.specs.StatusFaults.{status_at}
 use Rattle.odb_engine.specs.Halts.{Halted}
 use Rattle.odb_engine.specs.Replays.{LacksOutcome}
 use Rattle.odb_engine.proofs.EngineLemmas.{at-exit, halted-by}
@@ -46,11 +50,23 @@ returns-clause-result g c =
       result = refl;
       dependencies_first = ended;
       one_per_id = subst (λ rs. HasOnePerId rs (response_value trace.done)) c.in_ok-trace.ensures.plan c.every_response.ensures.one_per_id;
-      read_again = λ recordable. record {
+      read_again = λ recordable.
+        let listed : ListsFit batch (response_value trace.done) = subst (λ rs. ListsFit rs (response_value trace.done)) c.in_ok-trace.ensures.plan c.every_response.ensures.fits in
+        record {
         value = response_value trace.done;
         reads = c.every_response.ensures.line (readable-answers batch (entries c.args.outcomes) trace.done c.len-count.ensures.well_formed offers recordable);
         document = c.every_response.ensures.document;
-        fits = subst (λ rs. ListsFit rs (response_value trace.done)) c.in_ok-trace.ensures.plan c.every_response.ensures.fits;
+        fits = listed;
+        possible = λ places statuses table. (c.every_possible.ensures c.args.replay.policy.mode (status_at statuses)).1 (record {
+          policy = c.args.replay.policy;
+          mode_is = refl;
+          events = course.events;
+          run = course.course.run;
+          finished = subst (λ (s : State). is_finished s ≡ true) course.last_is course.finished;
+          answered = λ i within. ap (λ (s : State). status_of (answer s i)) (sym course.last_is)
+              ∙ c.every_response.ensures.table listed.listed places statuses listed.says (subst (λ rs. IsTableOf rs listed.listed places statuses) (sym c.in_ok-trace.ensures.plan) table) i
+              (subst (λ (s : State). i < size s) (sym course.last_is) (subst (λ (plan : PlanGraph). i < length plan.units) (sym (plan_graph-after_all first course.events)) within));
+        });
       };
     }
 
