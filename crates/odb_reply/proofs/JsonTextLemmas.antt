@@ -1,9 +1,10 @@
 -- Whether bytes are the JSON text of a body.
-use Rattle.std.proofs.Common.{◌≡◌, ◌∙◌, ℕ, ◌≤◌, List, [], ◌∷◌, length, append-nil, Bool, true, false, cond, Option, Some, None, is_some, option_map, refl, ap, sym, subst, arith}
+use Rattle.std.proofs.Common.{◌≡◌, ◌≢◌, ◌∙◌, ℕ, ◌≤◌, List, [], ◌∷◌, length, append-nil, Bool, true, false, cond, Option, Some, None, is_some, option_map, refl, ap, sym, subst, arith}
 use Rattle.std.specs.Prelude.{IsUtf8}
 use Rattle.std.proofs.lemmas.Bool.{true≢false}
+use Rattle.std.proofs.lemmas.Option.{none-some}
 use Rattle.json.specs.Json as json
-use Rattle.json.specs.Lex.{tokens}
+use Rattle.json.specs.Lex.{lex, punctuate, tokens}
 use Rattle.json.specs.Token.{Token}
 use Rattle.json.specs.Tree as tree
 use Rattle.json.proofs.Grammar.{value_is, value-begin_array, value-begin_object, left_some}
@@ -113,3 +114,8 @@ whole-text text t ts begins is =
       shallow = ap (option_map (λ p. p.1)) same;
       null = null-token t ts ∙ ap begins_null found ∙ null-tree j ∙ ap reads_null is_data;
     }
+
+-- no value is read from no bytes
+pub nothing_read : (bytes : List ℕ) (d : Data) → bytes ≡ [] → read bytes ≢ Some d
+unfolding json.value lex punctuate
+nothing_read bytes d empty is = none-some d (subst (λ (b : List ℕ). read b ≡ Some d) empty is)

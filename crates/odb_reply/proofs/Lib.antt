@@ -17,7 +17,7 @@ pub mod OneFaultLemmas
 pub mod StartsLemmas
 mod DoneLemmas
 mod PassLemmas
-mod JsonTextLemmas
+pub mod JsonTextLemmas
 mod StringLemmas
 mod LexLemmas
 mod PieceLemmas
