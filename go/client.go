@@ -57,7 +57,7 @@ func After(named ...any) With {
 
 // Header sets a header.
 func Header(name, value string) With {
-	return func(e *element) { e.Headers[lower(name)] = value }
+	return func(e *element) { e.Headers[strings.ToLower(name)] = value }
 }
 
 // IfMatch has a request performed only if the entity has the ETag that another request was answered.

@@ -416,36 +416,17 @@ func requestsOf(batch []byte, text string, found []C.odb_request) []Request {
 	return requests
 }
 
-// headersOf returns the headers in a JSON object by their names in lower case; nil if there are none. What is not a text is left out.
-func headersOf(text []byte) map[string]string {
-	var given map[string]any
-	if len(text) == len("{}") || json.Unmarshal(text, &given) != nil || len(given) == 0 {
-		return nil
-	}
-	found := make(map[string]string, len(given))
-	for name, value := range given {
-		if value, ok := value.(string); ok {
-			found[lower(name)] = value
-		}
-	}
+// headersOf returns the headers in a JSON object; what is not a text is empty.
+func headersOf(text []byte) (found map[string]string) {
+	_ = json.Unmarshal(text, &found)
 	return found
-}
-
-// lower returns the name of a header in lower case, which is one of ASCII alone.
-func lower(name string) string {
-	return strings.Map(func(it rune) rune {
-		if 'A' <= it && it <= 'Z' {
-			it += 'a' - 'A'
-		}
-		return it
-	}, name)
 }
 
 // Response is what a service has answered a request, as it is in its document.
 type Response struct {
 	ID, Group string // the group is empty if it names none
 	Status    int
-	Headers   map[string]string // names in lower case; nil if it has none
+	Headers   map[string]string // as they are written; nil if it has none
 	Body      []byte            // the bytes of the document; nil if it has none
 }
 

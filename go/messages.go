@@ -72,7 +72,7 @@ func answerTo(err error) Answer {
 func (a Answer) whole() Answer {
 	headers := make(map[string]string, len(a.Headers))
 	for name, value := range a.Headers {
-		headers[lower(name)] = value
+		headers[strings.ToLower(name)] = value
 	}
 	if a.Headers = headers; a.Status < 200 || a.Status > 599 {
 		a.Status = 502
@@ -125,12 +125,11 @@ func toJSON(wire []byte, contentType string) []byte {
 
 // asText returns bytes as a string of JSON; if they are not in UTF-8 each byte is a character.
 func asText(wire []byte) []byte {
-	value := string(wire)
+	value, characters := string(wire), make([]rune, len(wire))
+	for i, it := range wire {
+		characters[i] = rune(it)
+	}
 	if !utf8.Valid(wire) {
-		characters := make([]rune, len(wire))
-		for i, it := range wire {
-			characters[i] = rune(it)
-		}
 		value = string(characters)
 	}
 	text, _ := encoded(value)
@@ -157,20 +156,13 @@ func (a Answer) member(names ...string) (value string) {
 }
 
 // etag returns the ETag of what a request was answered; empty if there is none.
-func (a Answer) etag() string {
-	if tag := a.Headers["etag"]; tag != "" {
-		return tag
-	}
-	return a.member("@etag", "@odata.etag")
-}
+func (a Answer) etag() string { return or(a.Headers["etag"], a.member("@etag", "@odata.etag")) }
 
 // place returns the URL of what a request has created or returned; it is relative to that of the request, which was sent. It is empty
 // if the answer has none. In a body it is relative to the context (OData JSON Format 4.01, section 4.6.1).
 func (a Answer) place(sent string) string {
-	for _, name := range []string{"location", "odata-entityid"} {
-		if value := a.Headers[name]; value != "" {
-			return value
-		}
+	if place := or(a.Headers["location"], a.Headers["odata-entityid"]); place != "" {
+		return place
 	}
 	place, context := a.member("@id", "@odata.id"), a.member("@context", "@odata.context")
 	if base, err := url.Parse(sent); err == nil && place != "" && context != "" {

@@ -242,11 +242,11 @@ func reportFault(heads, body []byte) error {
 // Response returns the response document of the finished run. Of one that is not finished the error is a *Fault, F66.
 func (r *LiveRun) Response() (text []byte, err error) {
 	err = r.use(func() error {
-		var status C.uint32_t
-		status, text = written(r.size, func(to *C.uint8_t, room C.size_t, length *C.size_t) C.uint32_t {
+		var end C.uint32_t
+		end, text = written(r.size, func(to *C.uint8_t, room C.size_t, length *C.size_t) C.uint32_t {
 			return C.odb_run_response(&r.handle, to, room, length)
 		})
-		return failure(status, text)
+		return failure(end, text)
 	})
 	return trimmed(text, err)
 }

@@ -200,11 +200,11 @@ func (s *sending) exchange(ctx context.Context, part []byte) error {
 
 // take notes what a request was answered, as bytes on the wire. One that may not start, since others have failed, is skipped by the run.
 func (s *sending) take(it Response) {
-	body, err := toWire(it.Body, it.Headers["content-type"])
-	if err != nil {
-		body = it.Body
+	answer := Answer{it.Status, it.Headers, it.Body}.whole()
+	if body, err := toWire(it.Body, answer.Headers["content-type"]); err == nil {
+		answer.Body = body
 	}
-	s.answers[it.ID] = Answer{it.Status, it.Headers, body}
+	s.answers[it.ID] = answer
 	if place := s.place(it.ID); place != "" {
 		s.places[it.ID] = map[string]string{"location": place}
 	}
