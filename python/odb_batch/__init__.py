@@ -39,8 +39,8 @@ they work.
 from ._native.calls import Mode
 from ._native.library import VERSION as __version__
 from .commands import (
-    Command, Counts, Form, Order, Output, Plan, PlannedRequest, Replay, canon, check, faults, match, output, plan, replay, rest,
-    run,
+    Command, Counts, Form, Order, Output, Plan, PlannedRequest, Replay, Strict, canon, check, faults, match, output, plan,
+    replay, rest, run,
 )  # fmt: skip
 from .documents.encoding import Document, Events, Report, Start
 from .documents.requests import Request, requests
@@ -57,7 +57,7 @@ __all__ = [
     "Answer", "Answered", "Command", "Counts", "Document", "Events", "Fault", "Form", "Gate", "GroupFailed", "Journal",
     "JournalEvent", "MemberRefused", "Mode", "OdbError", "Order", "Output", "Part", "Plan", "PlannedRequest",
     "PreparedGroup", "PreparedRequest", "Refusal", "Refused", "Replay", "Report", "ReportUnit", "Request",
-    "RequestState", "Run", "Send", "SendAsync", "SendGroup", "Start", "StartUnit", "Stop", "Transaction",
-    "TransactionAsync", "__version__", "canon", "check", "faults", "match", "output", "perform", "perform_async",
+    "RequestState", "Run", "Send", "SendAsync", "SendGroup", "Start", "StartUnit", "Stop", "Strict",
+    "Transaction", "TransactionAsync", "__version__", "canon", "check", "faults", "match", "output", "perform", "perform_async",
     "plan", "replay", "requests", "rest", "run",
 ]  # fmt: skip

@@ -1,8 +1,10 @@
 -- That what is written of a live run is what a run by recorded events writes.
-use Rattle.std.proofs.Common.{◌≡◌, ◌∙◌, ℕ, zero, suc, ◌<◌, Bool, true, List, [], ◌∷◌, ◌++◌, All, Option, Some, None, IfSome, IsNone, IsSomeAnd, inl, inr, refl, sym, ap, subst}
+use Rattle.std.proofs.Common.{◌≡◌, ◌∙◌, ℕ, zero, suc, ◌<◌, arith, get_or, length, option_and_then, Bool, true, List, [], ◌∷◌, ◌++◌, All, Option, Some, None, IfSome, IsNone, IsSomeAnd, inl, inr, refl, sym, ap, subst}
 use Rattle.std.specs.List.{AllZip}
 use Rattle.std.proofs.lemmas.Bool.{cases_Bool, both_ways}
+use Rattle.std.proofs.lemmas.List.{ext_get_or}
 use Rattle.std.proofs.lemmas.List.Elements.{All-nil, All-cons}
+use Rattle.std.proofs.lemmas.Option.{slice_get-get_or}
 use Rattle.std.proofs.lemmas.Slice.Zip.{all_zipped_more}
 use Rattle.serde_json.specs.Data.{Data}
 use Rattle.serde_json.specs.Written.{has_float}
@@ -181,3 +183,29 @@ module _ (law : AreFunctional) (history : AreOneHistory) (policy : Policy) where
           holds = (batched.holds.0, record { labels = is.labels; texts = is.texts; places = is.places; out = is.out; after = after-next batched.batch events more live.run e is.after (subst (λ rs. RecordsOneMore rs events more e) (same_batch law batch _ _ next opens) next.holds.holds.1) within may });
         };
       }
+
+-- ---- the run that two documents open
+
+no_text_at : (texts : List (Option (List ℕ))) (i : ℕ) → HasNoText texts → i < length texts → get_or texts i None ≡ None
+no_text_at texts i none within = sym (ap (option_and_then (λ (text : Option (List ℕ)). text)) (slice_get-get_or texts i None within)) ∙ none i
+
+no_texts : (texts others : List (Option (List ℕ))) → length texts ≡ length others → HasNoText texts → HasNoText others → texts ≡ others
+no_texts texts others count none also = ext_get_or None texts others count (λ i within. no_text_at texts i none within ∙ sym (no_text_at others i also (omega (arith, within, count))))
+
+opened-one : HaveOneCause → AreOneHistory → (policy : Policy) (batch : List Record) → HasGoodNames batch → (events : List ℕ) (live other : Live) → IsOpened policy batch events live → IsOpened policy batch events other → live ≡ other
+opened-one causes history policy batch good events live other one two =
+    let a = one.after in
+    let b = two.after in
+    let same : a.named ≡ b.named = second.one_reading event_faults.event_row RefusesEvents IsEventsDocument AreEventsOf history events a.named b.named a.named_in b.named_in in
+    let resolved : AreResolved batch b.named a.events = subst (λ (ns : List EventValue). AreResolved batch ns a.events) same a.resolved in
+    let taken = same-events causes policy batch good b.named a.events b.events resolved b.resolved in
+    let labels : live.labels ≡ other.labels = one.labels ∙ sym two.labels in
+    let texts : live.texts ≡ other.texts = no_texts live.texts other.texts (one.places ∙ sym two.places) one.texts two.texts in
+    let out : live.out ≡ other.out = one.out ∙ sym two.out in
+    let run : live.run ≡ other.run = a.state ∙ ap (λ es. without_requests (end_of policy batch es)) taken ∙ sym b.state in
+    λ i. record { labels = labels i; texts = texts i; out = out i; run = run i }
+
+pub one-opening : AreFunctional → HaveOneCause → AreOneHistory → (policy : Policy) (batch events : List ℕ) (live other : Live) → Opens policy batch events live → Opens policy batch events other → live ≡ other
+one-opening law causes history policy batch events live other one two =
+    let same : one.holds.batch ≡ two.holds.batch = same_batch law batch (λ rs. IsOpened policy rs events live) (λ rs. IsOpened policy rs events other) one two in
+    opened-one causes history policy two.holds.batch two.holds.holds.0 events live other (subst (λ rs. IsOpened policy rs events live) same one.holds.holds.1) two.holds.holds.1

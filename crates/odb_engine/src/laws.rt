@@ -135,7 +135,7 @@ pub fn read_again()
 }
 
 /// A live run is the run of the events that it has taken: what is written of it is what a run by
-/// recorded events writes of the same events.
+/// recorded events writes of the same events. Two documents open one run (`opening`).
 ///
 /// `events` and `more` are documents of events, of which `more` records one event more than `events`.
 /// The relations are those of [`crate::open_run`], [`crate::LiveRun::response`] and
@@ -150,6 +150,8 @@ pub fn one_live_run()
         → Accepts batch (λ requests. RecordsOneMore requests events more event)
         → event_position event < size live.run → may_come live.run event ≡ true
         → Opens policy batch more (with_run live (after live.run event)) }
+    ensures opening { (policy : Policy) (batch events : List ℕ) (live other : Live)
+        → Opens policy batch events live → Opens policy batch events other → live ≡ other }
 {
     odb_doc::laws::one_batch();
     odb_doc::laws::one_fault();

@@ -1,4 +1,5 @@
 mod AddressLemmas
+mod AlikeLemmas
 mod AnswerLemmas
 mod FaultLemmas
 mod HeaderLemmas

@@ -1,6 +1,6 @@
 -- What a caller makes of a handle by its calls, one after another (OData JSON Format 4.01, sections 19.1, 19.4 and 19.5; OData
 -- Protocol 4.01, section 11.7).
-use Rattle.std.specs.Prelude.{◌≡◌, ◌≢◌, ◌<◌, ◌⊎◌, ℕ, List, [], ◌∷◌, ◌++◌, length, map, Contains, Option, Some}
+use Rattle.std.specs.Prelude.{◌≡◌, ◌≢◌, ◌<◌, ◌==◌, ◌⊎◌, ℕ, Bool, true, false, List, [], ◌∷◌, ◌++◌, length, map, Contains, Option, Some}
 use Rattle.std.specs.Prelude.{None as Absent}
 use Rattle.odb_doc.specs.batch.Records.{Record}
 use Rattle.odb_doc.specs.declared.recorded.outcome.Outcome.{Outcome}
@@ -47,6 +47,21 @@ Does Ask old new = new ≡ old
 abbrev pub IsSession : Live → List Call → Live → Type 0
 IsSession first [] last = last ≡ first
 IsSession first (call ∷ calls) last = (next : Live) × Does call first next × IsSession next calls last
+
+-- whether a call is taken: it returns 0, and is no question
+abbrev pub is_taken : Call → Bool
+is_taken (Start position returned) = returned == 0
+is_taken (StartUnit position returned) = returned == 0
+is_taken (Report position status headers body returned) = returned == 0
+is_taken Stop = true
+is_taken (Part positions) = false
+is_taken Ask = false
+
+-- but for the marks of parts the one run is the other, with the same ids and the same texts of bodies
+pub record AreAlike (live other : Live) : Type 0 where
+  pub labels : live.labels ≡ other.labels
+  pub texts : live.texts ≡ other.texts
+  pub run : live.run ≡ other.run
 
 -- the call is taken: it returns 0, and is this event
 abbrev pub IsTakenAs : List Record → Call → LiveEvent → Type 0

@@ -1,22 +1,25 @@
 //! What is true of every list of calls on the handle of a live run.
 
-ghost use Rattle.std.specs.Prelude.{◌≤◌, ℕ, List, Option, length};
+ghost use Rattle.std.specs.Prelude.{◌≡◌, ◌≤◌, ℕ, List, Option, length};
+ghost use Rattle.std.specs.List.{filter};
 ghost use Rattle.odb_doc.specs.Documents.{most_bytes};
 ghost use Rattle.odb_sched.specs.declared.policy.Mode.{Mode};
 ghost use Rattle.odb_sched.specs.declared.policy.Policy.{Policy};
 ghost use Rattle.odb_reply.specs.declared.strictness.Strictness.{Strictness};
 ghost use Rattle.odb_reply.specs.declared.strictness.Strictness.TheVariants.{Units};
 ghost use Rattle.odb_engine.specs.declared.ending.Ended.TheVariants.{Done};
+ghost use Rattle.odb_engine.specs.declared.form.Form.{Form};
 ghost use Rattle.odb_engine.specs.declared.form.Form.TheVariants.{Lines};
 ghost use Rattle.odb_engine.specs.declared.tasks.task.Task.TheVariants as tasks;
 ghost use Rattle.odb_engine.specs.Cascade.{Accepts};
 ghost use Rattle.odb_engine.specs.Live.{Live, Opens};
 ghost use Rattle.odb_engine.specs.Written.{Allows, IsDone};
 ghost use Rattle.odb_ffi.specs.Live.{Responds};
-ghost use Rattle.odb_ffi.specs.Sessions.{Call, IsSession, KeepsSession};
+ghost use Rattle.odb_ffi.specs.Sessions.{AreAlike, Call, IsSession, KeepsSession, is_taken};
 
 use odb_check::laws::every_batch;
-use odb_doc::laws::{every_value, one_history};
+use odb_doc::laws::{every_value, one_history, one_record};
+use odb_engine::laws::one_live_run;
 use odb_engine::laws::written::every_match;
 use odb_sched::laws::{every_live_run, every_possible_live};
 
@@ -42,4 +45,21 @@ pub fn every_session()
     every_value();
     one_history();
     every_match();
+}
+
+/// Two sessions on runs that were opened for the same documents under the same policy end alike if the calls that are taken
+/// are the same, in order, whatever other calls come between them: in equal runs (`alike`), and with the same response
+/// (`text`).
+pub fn one_session()
+    ensures alike { (policy : Policy) (batch events : List ℕ) (first other last final : Live)
+        (calls others : List Call)
+        → Opens policy batch events first → Opens policy batch events other
+        → IsSession first calls last → IsSession other others final
+        → filter is_taken calls ≡ filter is_taken others → AreAlike last final }
+    ensures text { (live other : Live) (form : Form) (text different : List ℕ)
+        → AreAlike live other → Responds live form Done text → Responds other form Done different
+        → text ≡ different }
+{
+    one_live_run();
+    one_record();
 }

@@ -1,5 +1,5 @@
 use Rattle.odb_engine.proofs.LawLemmas.{AreFunctional}
-use Rattle.odb_engine.proofs.LiveLawLemmas.{live-next, live-text}
+use Rattle.odb_engine.proofs.LiveLawLemmas.{live-next, live-text, one-opening}
 use Rattle.odb_engine.proofs.RunLawLemmas.{AreOneHistory, HaveOneCause}
 use Rattle.odb_engine.proofs.laws.one_live_run.Goals as goal
 
@@ -17,4 +17,5 @@ returns c =
     record {
       text = λ policy form batch events text different live ended other. live-text law causes history policy batch events live form ended other text different;
       goes_on = λ policy batch events more live event. live-next law history policy batch events more live event;
+      opening = one-opening law causes history;
     }
