@@ -36,8 +36,8 @@ PROVED = """\
 
 Made of the commit `{commit}`{changes}
 by `{kit}`. The program and the libraries were proved before they were built: every function of
-every crate that they consist of. The wrappers for Python and Node, the inline functions of the header and the packing
-are tested alone. {where}
+every crate that they consist of. The packages for Python, Node, C#, Java and Go, the inline functions of the header and
+the packing are tested alone. {where}
 
 ## Proved
 
@@ -61,7 +61,7 @@ returns, without a panic or an overflow, on any bytes and with readers and write
 {tested}The command line, exit statuses and messages by worked cases; all commands by random documents against plain rules, by
 documents that are cut or as long as the program takes, and against each other; allocations that fail, one by one and
 all; names that crowd the tables; the calls of the library under the sanitizers of the C compiler and valgrind; the
-packages for Python and Node on the worked cases; and this archive, unpacked by another user. That the prover refuses
+packages on the worked cases; and this archive, unpacked by another user. That the prover refuses
 wrong bodies is tested by {edits} of them.
 """
 
