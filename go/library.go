@@ -252,8 +252,8 @@ func Check(batch []byte) (found Counts, err error) {
 	text, err := answer(func(to *C.uint8_t, room C.size_t, length *C.size_t) C.uint32_t {
 		return C.odb_check_as(at(batch), size(batch), C.ODB_LINES, to, room, length, seed)
 	}, batch)
-	if err == nil {
-		_, err = fmt.Sscanf(string(text), "ok %d requests %d groups", &found.Requests, &found.Groups)
+	if words := strings.Fields(string(text)); err == nil {
+		found = Counts{number(words[1]), number(words[3])}
 	}
 	return found, err
 }
@@ -416,9 +416,11 @@ func requestsOf(batch []byte, text string, found []C.odb_request) []Request {
 	return requests
 }
 
-// headersOf returns the headers in a JSON object; what is not a text is empty.
+// headersOf returns the headers in a JSON object, nil if it has none; what is not a text is empty.
 func headersOf(text []byte) (found map[string]string) {
-	_ = json.Unmarshal(text, &found)
+	if len(text) > len("{}") {
+		_ = json.Unmarshal(text, &found)
+	}
 	return found
 }
 

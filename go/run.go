@@ -208,7 +208,10 @@ func (r *LiveRun) StartUnit(id string) error {
 // Report reports what a running request was answered: a status from 200 to 599, headers, and the JSON text of a body, each maybe nil.
 // If the headers or the body cannot be in a response, the error is a *Fault, and the request is still running.
 func (r *LiveRun) Report(id string, status int, headers map[string]string, body []byte) error {
-	heads, _ := json.Marshal(headers) // null for none
+	var heads []byte
+	if headers != nil {
+		heads, _ = json.Marshal(headers)
+	}
 	if status < 0 || status > 1000 {
 		status = 0
 	}
@@ -227,10 +230,8 @@ func (r *LiveRun) Report(id string, status int, headers map[string]string, body 
 
 // reportFault returns why headers or a body are refused: the fault that the same report has as a recorded event.
 func reportFault(heads, body []byte) error {
-	if len(body) == 0 {
-		body = []byte("null")
-	}
-	events := fmt.Sprintf(`{"events":[{"report":"","status":200,"headers":%s,"body":%s}]}`, heads, body)
+	event := fmt.Sprintf(`"headers":%s,"body":%s`, or(string(heads), "null"), or(string(body), "null"))
+	events := `{"events":[{"report":"","status":200,` + event + `}]}`
 	_, err := Run([]byte(`{"requests":[]}`), []byte(events), Policy{})
 	var fault *Fault
 	if errors.As(err, &fault) && fault.Code != "F65" { // by which both were read

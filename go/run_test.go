@@ -183,7 +183,7 @@ func TestRunsAreCollected(t *testing.T) {
 		runtime.GC()
 	}
 	t.Log("kilobytes before and after:", before, resident(), "open:", odb.OpenRuns())
-	if odb.OpenRuns() > opened || resident() > before+30000 {
+	if odb.OpenRuns() > opened || resident() > before+60000 {
 		t.Error("runs are not closed")
 	}
 }
