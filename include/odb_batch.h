@@ -400,8 +400,8 @@ uint32_t odb_run_start_unit(odb_live_run *run, uint32_t position);
  * or has succeeded: dependencies on what has succeeded are left out, and `$id` in a URL is replaced by the Location that this request
  * has reported. Each body is the bytes of `batch`, which is the document of the run. `*count` is set to the number of positions; it is
  * 0 if nothing may be sent now. A run that is not finished gives a part with a request, or has one that is not reported yet.
- * Returns ODB_DONE, and from now on the requests are in a part: once it is answered, start its units one after another by
- * `odb_run_start_unit`, and report their requests. Otherwise the run and `positions` are as they were: returns
+ * Returns ODB_DONE, and from now on the requests are in a part: once it is answered, pass it with its responses to `odb_run_take`,
+ * or start its units one after another by `odb_run_start_unit`, and report their requests. Otherwise the run and `positions` are as they were: returns
  * ODB_SMALL_BUFFER if one of the buffers has too little room, and `*text_length` and `*count` say how much is needed. Else `*count`
  * is 0, and it returns ODB_WRONG_OPTION if `batch` has not the ids and groups of the run's batch, or if one of its groups has more
  * than `limit` requests; what `odb_check_as` does if the batch is refused, or by F90 if a request refers to one that has reported no
@@ -409,6 +409,19 @@ uint32_t odb_run_start_unit(odb_live_run *run, uint32_t position);
 uint32_t odb_run_part(odb_live_run *run, const uint8_t *batch, size_t batch_size, uint32_t limit,
                       uint8_t *text, size_t text_size, size_t *text_length,
                       uint32_t *positions, size_t positions_size, size_t *count, uint64_t seed);
+
+/* Takes what a service has answered a part that `odb_run_part` gave, at once: starts its requests, and reports each by the response with
+ * its id: status, headers, and the bytes of the body. `part` is the text of the part, `responses` the response document, and `mode` what
+ * an error does to the service: in ODB_STOP a request without a response is answered 424. What does not start, as its unit has failed or
+ * the run was stopped before, is answered 424. In ODB_STOP the requests with errors start before one of them is reported: with a width
+ * of ODB_MAX_WIDTH all of these are kept. Returns ODB_DONE, with no text; or, with the run as it was,
+ * ODB_REFUSED if `odb_match_with` refuses the part or the responses, or by F70 if a status is below 200 or headers are not those of a
+ * report: the text is the line of the fault; ODB_SMALL_BUFFER if the line does not fit; ODB_WRONG_OPTION unless `mode` is one of these
+ * two, if a request is running, or if one of the part is in none that was given or has started; or ODB_OUT_OF_MEMORY. A handle as
+ * above. Takes O(n log n) time for n bytes of the documents. */
+uint32_t odb_run_take(odb_live_run *run, const uint8_t *part, size_t part_size,
+                      const uint8_t *responses, size_t responses_size, uint32_t mode,
+                      uint8_t *text, size_t text_size, size_t *text_length, uint64_t seed);
 
 /* Stops a run: from now on no request starts, by ODB_STOPPED. What is running is reported as before, and what has not
  * started is answered 424: then `odb_run_response` writes the response of a finished run. A handle as above. Takes
@@ -443,6 +456,14 @@ uint32_t odb_run_state(odb_live_run *run, uint32_t position, uint32_t *state, ui
 uint32_t odb_run_report(odb_live_run *run, uint32_t position, uint32_t status,
                         const uint8_t *headers, size_t headers_size,
                         const uint8_t *body, size_t body_size);
+
+/* Writes why `odb_run_report` returns ODB_REFUSED for these headers and this body: the line of the fault that a document of events has,
+ * if it has this report alone, as `fault F64 BadEvents /events/0` for headers, or `fault F02 NotJson events` for a body. Returns
+ * ODB_REFUSED; ODB_SMALL_BUFFER if the line does not fit; ODB_OUT_OF_MEMORY; or ODB_DONE, with no text, if a report may have them. Takes
+ * the time of the report. */
+uint32_t odb_report_fault(const uint8_t *headers, size_t headers_size,
+                          const uint8_t *body, size_t body_size,
+                          uint8_t *text, size_t text_size, size_t *text_length);
 
 /* Returns 1 if no event may come any more, else 0. A handle as above. Takes constant time. */
 uint32_t odb_run_finished(odb_live_run *run);
@@ -666,6 +687,13 @@ static inline uint32_t odb_inline_run_part(odb_live_run *run, ODB_INLINE_IN(batc
                         positions && positions_size ? positions : &no_position, positions ? positions_size : 0, count, seed);
 }
 
+static inline uint32_t odb_inline_run_take(odb_live_run *run, ODB_INLINE_IN(part), ODB_INLINE_IN(responses), uint32_t mode,
+                                           ODB_INLINE_TEXT, uint64_t seed)
+{
+    uint8_t none = 0;
+    return odb_run_take(run, ODB_INLINE_SLICE(part), ODB_INLINE_SLICE(responses), mode, ODB_INLINE_SLICE(text), text_length, seed);
+}
+
 static inline uint32_t odb_inline_run_position(odb_live_run *run, ODB_INLINE_IN(id), uint32_t *position)
 {
     uint8_t none = 0;
@@ -683,6 +711,12 @@ static inline uint32_t odb_inline_run_report(odb_live_run *run, uint32_t positio
 {
     uint8_t none = 0;
     return odb_run_report(run, position, status, ODB_INLINE_SLICE(headers), ODB_INLINE_SLICE(body));
+}
+
+static inline uint32_t odb_inline_report_fault(ODB_INLINE_IN(headers), ODB_INLINE_IN(body), ODB_INLINE_TEXT)
+{
+    uint8_t none = 0;
+    return odb_report_fault(ODB_INLINE_SLICE(headers), ODB_INLINE_SLICE(body), ODB_INLINE_SLICE(text), text_length);
 }
 
 static inline uint32_t odb_inline_run_response(odb_live_run *run, ODB_INLINE_TEXT)
@@ -714,9 +748,11 @@ static inline uint32_t odb_inline_run_response(odb_live_run *run, ODB_INLINE_TEX
 #define odb_run_undone odb_inline_run_undone
 #define odb_run_next_unit odb_inline_run_next_unit
 #define odb_run_part odb_inline_run_part
+#define odb_run_take odb_inline_run_take
 #define odb_run_position odb_inline_run_position
 #define odb_run_ids odb_inline_run_ids
 #define odb_run_report odb_inline_run_report
+#define odb_report_fault odb_inline_report_fault
 #define odb_run_response odb_inline_run_response
 
 /* The commands without a form, whose text is lines. They are no functions of the library any more, and stay for this version. */

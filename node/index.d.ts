@@ -389,12 +389,21 @@ export class Run {
    * Returns the next part of the batch, or null if nothing may be sent now: at most `limit` requests (10,000) that may be sent
    * together as a batch of their own. None of them was in a part before, and what they depend on is in this part or has
    * succeeded. A group is whole. Dependencies on what has succeeded are left out, and `$a` in a URL is replaced by the Location
-   * that was reported for `a`. Once a part is answered, start its units by `startUnit`, in the order of the batch, and report their
-   * requests. Throws a {@link Fault} if the batch is refused, or F90 for a request that refers to one for which
+   * that was reported for `a`. Once a part is answered, pass it to `take`; or start its units by `startUnit`, in the order of the
+   * batch, and report their requests. Throws a {@link Fault} if the batch is refused, or F90 for a request that refers to one for which
    * no Location was reported that its URL may have; and a `RangeError` if a group has more requests than the limit, or if it is
    * another batch than that of the run.
    */
   part(batch: Document, limit?: number): Part | null
+
+  /**
+   * Takes what a service has answered a part, at once: starts its requests, and reports each by the response with its id, whose body
+   * is taken as its bytes. A request that does not start, since its unit has failed or the run was stopped before, is answered 424.
+   * `mode` is what an error does to the service; if it stops, a request without a response is answered 424. Throws a {@link Fault} if
+   * the responses do not fit the part, as for `match`, or by F70 if one has a status below 200 or headers that no report has; and a
+   * `RangeError` if a request is running, or the part was not given by this run or has started. Then the run is as it was.
+   */
+  take(part: Part, responses: Document, options?: { mode?: Mode }): void
 
   /**
    * Reports what a running request was answered. A request without any answer, as over a connection that

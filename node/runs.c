@@ -10,6 +10,7 @@
  *   start(run, position), startUnit(run, position), report(run, position, status, headers, body), finished(run)
  *     -> status
  *   part(run, batch, limit, positions) -> [status, text, count]
+ *   take(run, part, responses, mode), reportFault(headers, body) -> [status, text]
  *   stop(run)
  *   ids(run, size), response(run, size) -> [status, text]
  *   close(run)
@@ -399,6 +400,54 @@ static napi_value part(napi_env env, napi_callback_info info)
     return found != NULL && count != NULL && napi_set_element(env, found, 2, count) == napi_ok ? found : NULL;
 }
 
+/* What the answers to a part are. */
+struct taking {
+    napi_env env;
+    struct live *live;
+    struct bytes part, responses;
+    uint32_t mode;
+    uint64_t seed;
+};
+
+/* Takes them: a writer of the line of the fault. */
+static uint32_t take_part(void *given, struct bytes text, size_t *length)
+{
+    const struct taking *it = given;
+    uint32_t status = odb_run_take(&it->live->run, it->part.at, it->part.size, it->responses.at, it->responses.size, it->mode, text.at,
+                                   text.size, length, it->seed);
+    if (status == ODB_DONE)
+        hold(it->env, it->live, GROWTH * (int64_t)it->responses.size);
+    return status;
+}
+
+static napi_value take(napi_env env, napi_callback_info info)
+{
+    struct taking given;
+    napi_value it[4];
+    if (!read_arguments(env, info, it, 4) || !read_live(env, it[0], &given.live) || !read_bytes(env, it[1], &given.part)
+        || !read_bytes(env, it[2], &given.responses) || !read_number(env, it[3], &given.mode))
+        return wrong_arguments(env);
+    given.seed = instance_of(env)->seed;
+    given.env = env;
+    return written(env, take_part, &given, LINE);
+}
+
+/* Says why a report is refused: a writer. */
+static uint32_t find_fault(void *given, struct bytes text, size_t *length)
+{
+    const struct bytes *it = given;
+    return odb_report_fault(it[0].at, it[0].size, it[1].at, it[1].size, text.at, text.size, length);
+}
+
+static napi_value report_fault(napi_env env, napi_callback_info info)
+{
+    struct bytes given[2];
+    napi_value it[2];
+    if (!read_arguments(env, info, it, 2) || !read_bytes(env, it[0], &given[0]) || !read_bytes(env, it[1], &given[1]))
+        return wrong_arguments(env);
+    return written(env, find_fault, given, LINE);
+}
+
 static napi_value close_run(napi_env env, napi_callback_info info)
 {
     struct live *live;
@@ -420,7 +469,8 @@ napi_status export_runs(napi_env env, napi_value exports)
         {"undone", undone},     {"ids", ids},           {"response", response},
         {"nextUnit", next_unit}, {"state", state},      {"stop", stop},
         {"startUnit", start_unit}, {"next", next},      {"close", close_run},
-        {"openListed", open_listed}, {"part", part},
+        {"openListed", open_listed}, {"part", part},    {"take", take},
+        {"reportFault", report_fault},
     };
     for (size_t i = 0; i < sizeof calls / sizeof *calls; i++) {
         napi_property_descriptor it = {calls[i].name, NULL, calls[i].call, NULL, NULL, NULL, napi_enumerable, NULL};

@@ -6,7 +6,6 @@ const { documentBytes, eventBytes, reportBytes } = require('../documents/bytes.j
 const { DONE, Fault, REFUSED, WRONG_OPTION, callError, errorWithCode, refusedError } = require('../errors/faults.js')
 const { CONSTANTS } = require('../library/constants.js')
 const library = require('../library/index.js')
-const { run } = require('./commands.js')
 const { MAX_REQUESTS, optionNumbers, orderNumber, requireOptions } = require('./options.js')
 const { readRequests, requests, toBuffer } = require('./requests.js')
 
@@ -21,16 +20,9 @@ function requireTaken(name, status, id) {
 
 /** Why headers or a body are refused: the fault that the same report has as a recorded event. */
 function findFault(headers, body) {
-  const [first, second] = [headers, body].map((part) => (part.length > 0 ? part : Buffer.from('null')))
-  const parts = ['{"events":[{"report":"","status":200,"headers":', first, ',"body":', second, '}]}']
-  try {
-    run({ requests: [] }, Buffer.concat(parts.map((part) => Buffer.from(part))))
-  } catch (error) {
-    // F65 is that they were read, so one of them is JSON only together with what is around it here.
-    if (!(error instanceof Fault)) return error
-    if (error.code !== 'F65') return new Fault(error.code, error.faultName, 'report')
-  }
-  return new Fault('F02', 'NotJson', 'report')
+  const [status, line] = library.reportFault(headers, body)
+  const error = callError('reportFault', status, line)
+  return error instanceof Fault ? new Fault(error.code, error.faultName, 'report') : error
 }
 
 /** @type {{ states: import('../index').RequestState['state'][], steps: import('../index').NextStep['step'][] }} */
@@ -192,6 +184,17 @@ class Run {
     }
     if (status !== DONE) throw callError('part', status, text, given)
     return count > 0 ? { document: text, ids: this.#idsAt(this.#listed.subarray(0, count)) } : null
+  }
+
+  take(part, responses, options = {}) {
+    const [mode] = optionNumbers(requireOptions(options, ['mode']))
+    const [given, answered] = [documentBytes(part.document), documentBytes(responses)]
+    const [status, line] = library.take(this.#open, given, answered, mode)
+    if (status === WRONG_OPTION) {
+      throw new RangeError('a request is running, or the part was not given by this run or has started')
+    }
+    if (status !== DONE) throw callError('take', status, line, given, answered)
+    this.#size += answered.length
   }
 
   report(id, status, headers, body) {

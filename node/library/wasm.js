@@ -202,6 +202,14 @@ function commandCalls(use, seed) {
       return answer ?? [OUT_OF_MEMORY, Buffer.from(NOTHING)]
     },
 
+    reportFault(headers, body) {
+      const answer = use((instance) => instance.with((take) => {
+        const given = instance.put(take, [headers, body])
+        return instance.writeText(take, MORE, (text) => instance.call('odb_report_fault', ...given, ...text))
+      }))
+      return answer ?? [OUT_OF_MEMORY, Buffer.from(NOTHING)]
+    },
+
     where(document, place, numbers) {
       const status = use((instance) => instance.with((take) => {
         const [given, at] = [instance.put(take, [document, place]), take(OF_POSITION * WORD)]
@@ -344,6 +352,14 @@ function runCalls(use, seed) {
         return [...found, instance.word(count)]
       })
       return answer ?? [OUT_OF_MEMORY, Buffer.from(NOTHING), 0]
+    },
+    take(run, part, responses, mode) {
+      const instance = liveInstance(run)
+      const answer = instance.with((take) => {
+        const given = instance.put(take, [part, responses])
+        return instance.writeText(take, MORE, (text) => instance.call('odb_run_take', run.place, ...given, mode, ...text, seed))
+      })
+      return answer ?? [OUT_OF_MEMORY, Buffer.from(NOTHING)]
     },
     ready: listCall('odb_run_ready'),
     running: listCall('odb_run_running'),

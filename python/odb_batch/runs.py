@@ -6,7 +6,8 @@ from typing import Any, Literal, Mapping, Optional, Union, get_args
 
 from ._native import library
 from ._native.calls import (
-    MAX_REQUESTS, MAX_WIDTH, MORE, Mode, policy_numbers, read_fault, read_text, require_done, require_number,
+    MAX_REQUESTS, MAX_WIDTH, MORE, Mode, mode_number, policy_numbers, read_fault, read_text, require_done, require_number,
+    status_error,
 )  # fmt: skip
 from ._native.handles import LiveHandle
 from .documents.encoding import Document, Events, body_json, document_bytes, events_bytes, headers_json
@@ -270,7 +271,7 @@ class Run(LiveHandle):
 
         A group is whole. Dependencies on what has succeeded are left out, and ``$a`` in a URL is replaced by the Location
         that was reported for ``a``. A run that is not finished has a part that is not reported, or gives one. Once a part is
-        answered, start its units by `start_unit`, in the order of the batch, and report their requests.
+        answered, pass it to :meth:`take`; or start its units by `start_unit`, in the order of the batch, and report their requests.
 
         >>> from odb_batch import Run
         >>> batch = {"requests": [{"id": "a", "method": "post", "url": "Orders"},
@@ -304,6 +305,42 @@ class Run(LiveHandle):
             raise ValueError("it is another batch than that of the run, or a group has more requests than the limit")
         require_done("odb_run_part", status)
         return Part(text, tuple(map(self._ids.__getitem__, positions))) if positions else None
+
+    def take(self, part: Part, responses: Document, *, mode: Mode = "continue") -> None:
+        """Takes what a service has answered a part, at once: starts its requests, and reports each by the response with its id.
+
+        A request that does not start, since its unit has failed or the run was stopped before, is answered 424.
+
+        >>> from odb_batch import Run
+        >>> batch = {"requests": [{"id": "a", "method": "get", "url": "Books"}]}
+        >>> with Run(batch) as run:
+        ...     run.take(run.part(batch), {"responses": [{"id": "a", "status": 200, "body": 9.990}]})
+        ...     run.response()
+        b'{"responses":[{"body":9.99,"id":"a","status":200}]}'
+
+        Args:
+            part: What :meth:`part` returned.
+            responses: The response document of the service. Each body is taken as its bytes.
+            mode: What an error does to the service; if it stops, a request without a response is answered 424.
+
+        Raises:
+            Fault: The responses do not fit the part, as for :func:`odb_batch.match`; or by F70 a response has a status below
+                200, or headers that no report has. The run is as it was.
+            ValueError: A request is running, the part was not given by this run or has started, or the run is closed.
+            MemoryError: An allocation failed.
+        """
+        answered, number = document_bytes(responses), mode_number(mode)
+        with self._lock:
+            self._require_open()
+            status, line = library.call_take(self._pointer, part.document, answered, number)
+            if status == library.DONE:
+                self._size += len(answered)
+                return
+        if status == library.REFUSED:
+            raise read_fault(line, part.document, answered)
+        if status == library.WRONG_OPTION:
+            raise ValueError("a request is running, or the part was not given by this run or has started")
+        require_done("odb_run_take", status)
 
     def _begin(self, name: str, request_id: str) -> None:
         """Calls a function that starts a request or its unit."""
@@ -343,7 +380,7 @@ class Run(LiveHandle):
                 self._size += len(heads) + len(text)
                 return
         if end == library.REFUSED:
-            raise _fault(heads, text)
+            raise _report_error(heads, text)
         require_done("odb_run_report", end, id)
 
     def response(self) -> bytes:
@@ -388,13 +425,10 @@ class ListedRun(Run):
         return [request.id for request in self.requests]
 
 
-def _fault(headers: bytes, body: bytes) -> Fault:
+def _report_error(headers: bytes, body: bytes) -> Exception:
     """Why headers or a body are refused: the fault that the same report has as a recorded event."""
-    event = b'{"report":"","status":200,"headers":%s,"body":%s}' % (headers or b"null", body or b"null")
-    try:
-        read_text("odb_run_as", b'{"requests":[]}', b'{"events":[%s]}' % event, options=(*policy_numbers("continue", 1), 0))
-    except Fault as fault:
-        # F65 is that they were read, so one of them is JSON only together with what is around it here.
-        if fault.code != "F65":
-            return Fault(fault.code, fault.name, "report")
-    return Fault("F02", "NotJson", "report")
+    status, line = library.call("odb_report_fault", (headers, body), (), MORE)
+    if status != library.REFUSED:
+        return status_error("odb_report_fault", status)
+    fault = read_fault(line)
+    return Fault(fault.code, fault.name, "report")

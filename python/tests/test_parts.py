@@ -4,9 +4,10 @@ import contextlib
 import json
 import unittest
 
+import pytest
 from hypothesis import given
 
-from odb_batch import Fault, Part, Refused, Run, plan
+from odb_batch import Fault, Part, Refused, RequestState, Run, plan
 from odb_batch.testing import Scripted
 from support.profiles import share
 from support.scripted import scripted
@@ -34,7 +35,7 @@ def statuses_of(text):
     return {it["id"]: it["status"] for it in json.loads(text)["responses"]}
 
 
-def report_all(run, responses):
+def report_all(run, part, responses):
     """Reports what a part was answered: first the successes, each in the order of the batch."""
     at = {it["id"]: it for it in responses}
     for is_success in (True, False):
@@ -46,9 +47,15 @@ def report_all(run, responses):
                     run.report(request, it["status"], it.get("headers"))
 
 
+def take_all(run, part, responses):
+    """Takes what a part was answered, at once."""
+    run.take(part, {"responses": responses})
+
+
+@pytest.mark.parametrize("take", [report_all, take_all])
 @share(10)
 @given(scripted())
-def test_a_batch_in_parts_is_answered_as_the_whole(drawn):
+def test_a_batch_in_parts_is_answered_as_the_whole(take, drawn):
     batch, script, limit = drawn
     service = Scripted(script)
     wanted = statuses_of(service.post(json.dumps(batch).encode())[2])
@@ -63,11 +70,26 @@ def test_a_batch_in_parts_is_answered_as_the_whole(drawn):
             assert all(group is None or (it in part.ids) == (group in own) for it, group in groups.items()), "a group is cut"
             sent += part.ids
             found = placed(service.post(part.document)[2])
-            report_all(run, sorted(found, key=lambda it: part.ids.index(it["id"])))
+            take(run, part, sorted(found, key=lambda it: part.ids.index(it["id"])))
             good |= {it["id"] for it in found if it["status"] < 300}
             good |= {group for group in groups.values() if {it for it in groups if groups[it] == group} <= good}
         assert run.finished and len(sent) == len({*sent})
         assert statuses_of(run.response()) == wanted
+
+
+@pytest.mark.parametrize("mode", ["continue", "stop"])
+@share(4)
+@given(scripted())
+def test_a_run_has_the_answers_that_it_takes(mode, drawn):
+    batch, script, _ = drawn
+    with Run(batch, mode=mode) as run:
+        part = run.part(batch)
+        if part is None:
+            return
+        answered = Scripted(script, mode=mode).post(part.document)[2]
+        run.take(part, answered, mode=mode)
+        wanted = dict.fromkeys(part.ids, 424) | statuses_of(answered)
+        assert run.finished and statuses_of(run.response()) == wanted
 
 
 class TestParts(unittest.TestCase):
@@ -95,3 +117,22 @@ class TestParts(unittest.TestCase):
                 run.part(ORDER, 2)
             self.assertEqual((raised.exception.code, raised.exception.place), ("F90", "/requests/1"))
         self.assertRaisesRegex(ValueError, "closed", run.part, ORDER)
+
+    def test_answers_that_are_refused(self):
+        good = {"responses": [{"id": "o", "status": 201, "headers": {"Location": "/Orders(7)"}, "body": {"n": 1}}]}
+        with Run(ORDER) as run:
+            part = run.part(ORDER, 2)
+            for responses, fault in (
+                ("", "F02 NotJson responses"),
+                ({"responses": []}, "F73 ResponseMissing /requests/0"),
+                ({"responses": [{"id": "o", "status": 102}]}, "F70 BadResponses /responses/0"),
+                ({"responses": [{"id": "o", "status": 200, "headers": {"a": 1}}]}, "F70 BadResponses /responses/0"),
+            ):
+                with self.assertRaisesRegex(Fault, fault):
+                    run.take(part, responses)
+            self.assertRaisesRegex(ValueError, "mode must be", run.take, part, good, mode="go")
+            self.assertRaisesRegex(ValueError, "not given by this run", run.take, Part(json.dumps(ORDER).encode(), ()), good)
+            run.take(part, good)
+            self.assertEqual(run.state("o"), RequestState("reported", 201))
+            self.assertRaisesRegex(ValueError, "has started", run.take, part, good)
+        self.assertRaisesRegex(ValueError, "closed", run.take, part, good)

@@ -14,6 +14,7 @@
 
 #define FILLING 0xa5
 #define MOST 8      /* more than the requests of a batch here */
+#define LONGEST 16777216
 #define RUNS 10000
 #define DEEPEST 124 /* levels of a body */
 #define LARGE 1000000
@@ -62,6 +63,10 @@ static uint32_t opened(odb_live_run *run, const char *batch, const char *events,
     return status;
 }
 
+#define F01 "fault F01 TooLong events\n"
+#define F02 "fault F02 NotJson events\n"
+#define F64 "fault F64 BadEvents /events/0\n"
+
 static odb_live_run open_batch(const char *events)
 {
     odb_live_run run = {NULL};
@@ -77,6 +82,39 @@ static uint32_t report(odb_live_run *run, uint32_t position, uint32_t status, co
     free(first);
     free(second);
     return returned;
+}
+
+/* Whether this line says why headers and a body are refused, and none if it is empty, in buffers of each size. */
+static int is_fault(const char *headers, const char *body, const char *line)
+{
+    uint8_t *first = copy_of(headers), *second = copy_of(body);
+    size_t whole = strlen(line);
+    int right = 1;
+    for (size_t room = 0; right && room <= whole + 2; room++) {
+        uint8_t *text = memset(block_of(room), FILLING, room);
+        size_t length = 77;
+        uint32_t status = odb_report_fault(first, strlen(headers), second, strlen(body), text, room, &length);
+        int fits = room >= whole;
+        right = length == whole && status == (fits ? whole > 0 ? ODB_REFUSED : ODB_DONE : ODB_SMALL_BUFFER);
+        right = right && (!fits || memcmp(text, line, whole) == 0) && is_filled(text, fits ? whole : 0, room);
+        free(text);
+    }
+    free(first);
+    free(second);
+    return right;
+}
+
+/* Headers and bodies of blanks, as long as they may be and longer. */
+static void try_long_reports(void)
+{
+    char *blanks = memset(block_of(LONGEST + 2), ' ', LONGEST + 2);
+    blanks[LONGEST + 1] = 0;
+    count("too long headers", 0, is_fault(blanks, "", F01));
+    count("a too long body", 0, is_fault("", blanks, F01));
+    blanks[LONGEST] = 0;
+    blanks[0] = '0';
+    count("the longest body", 0, is_fault("", blanks, ""));
+    free(blanks);
 }
 
 /* Returns a bit for each position that a call gives, or -1 if it gives one twice, or what does not fit. */
@@ -169,12 +207,18 @@ static void try_course(void)
     static const uint32_t statuses[] = {0, 199, 600, 65535, 65536, 65736, UINT32_MAX};
     for (size_t at = 0; at < sizeof statuses / sizeof *statuses; at++)
         count("a report with a bad status", (long)at, report(&run, 0, statuses[at], "", "") == ODB_BAD_STATUS);
-    static const char *const headers[] = {"{", "[]", "1", "{\"a\":1}", "{\"a\":\"1\",\"A\":\"2\"}", "{}{}", " "};
-    for (size_t at = 0; at < sizeof headers / sizeof *headers; at++)
+    static const char *const headers[] = {"[]", "1", "{\"a\":1}", "{\"a\":\"1\",\"A\":\"2\"}", "{", "{}{}", " "};
+    for (size_t at = 0; at < sizeof headers / sizeof *headers; at++) {
         count("a report with bad headers", (long)at, report(&run, 0, 200, headers[at], "") == ODB_REFUSED);
+        count("why headers are bad", (long)at, is_fault(headers[at], "", at < 4 ? F64 : F02) && is_fault(headers[at], "{", at < 4 ? F64 : F02));
+    }
     static const char *const bodies[] = {"{", "9.", "01", "[1,]", "1 2", " ", "\xff", "{\"a\":1e400}"};
-    for (size_t at = 0; at < sizeof bodies / sizeof *bodies; at++)
+    for (size_t at = 0; at < sizeof bodies / sizeof *bodies; at++) {
         count("a report with a bad body", (long)at, report(&run, 0, 200, "{}", bodies[at]) == ODB_REFUSED);
+        count("why a body is bad", (long)at, is_fault("{}", bodies[at], F02));
+    }
+    count("no fault", 0, is_fault("", "", "") && is_fault("null", "null", "") && is_fault("{\"a\":\"\"}", "9.990", ""));
+    try_long_reports();
     count("what was refused", 0, is_in(&run, 4, 1, 0));
     count("a report", 0, report(&run, 0, 201, "{\"ETag\":\"1\"}", "{\"n\":1}") == ODB_DONE && is_in(&run, 6, 0, 0));
     count("a second report", 0, report(&run, 0, 201, "", "") == ODB_NOT_RUNNING);
@@ -208,6 +252,7 @@ static void try_deep_bodies(const char *open, const char *close)
         count("a start", 0, odb_run_start(&run, 0) == ODB_DONE);
         if (levels > DEEPEST) {
             count("a report that is too deep", levels, report(&run, 0, 200, "", body) == ODB_REFUSED && is_in(&run, 4, 1, 0));
+            count("why it is refused", levels, is_fault("", body, F02));
             nest(body, 1, open, close);
         }
         count("a report", levels, report(&run, 0, 200, "", body) == ODB_DONE && is_in(&run, 6, 0, 0));

@@ -108,6 +108,17 @@ static int part_is(odb_live_run *run, const struct row *row, const struct part *
     return right;
 }
 
+/* Whether the request at a position is in the group of a batch. */
+static int is_member(const char *batch, unsigned position)
+{
+    char id[16];
+    sprintf(id, "\"id\":\"%c\"", 'a' + position);
+    const char *at = strstr(batch, id);
+    while (*at != '{')
+        at--;
+    return strncmp(at, "{\"atomicityGroup\"", 17) == 0;
+}
+
 /* Reports the answers to a part one by one: first the successes. */
 static void report_each(odb_live_run *run, const struct part *part)
 {
@@ -150,6 +161,50 @@ static void try_rows(void)
                 count("no further part", (long)at, part_is(&run, row, &none));
         }
         count(row->title, 77, statuses_are(&run, row->statuses));
+        odb_run_close(run);
+    }
+}
+
+/* Writes the responses to a part, those without a status left out. */
+static void respond(const struct row *row, const struct part *part, char *text)
+{
+    char *at = text + sprintf(text, "{\"responses\":[");
+    const char *comma = "";
+    for (size_t i = 0; part->positions[i] != 0; i++) {
+        unsigned position = (unsigned)(part->positions[i] - '0'), status = part->statuses[i];
+        if (status == 0)
+            continue;
+        at += sprintf(at, "%s{\"id\":\"%c\",\"status\":%u", comma, 'a' + position, status);
+        if (strstr(row->batch, "atomicityGroup") != NULL && is_member(row->batch, position))
+            at += sprintf(at, ",\"atomicityGroup\":\"g\"");
+        if (status == 201)
+            at += sprintf(at, ",\"headers\":{\"Location\":\"%s\"}", part->place);
+        at += sprintf(at, "}");
+        comma = ",";
+    }
+    sprintf(at, "]}");
+}
+
+static uint32_t take(odb_live_run *run, const char *part, const char *responses, uint32_t mode, char *text, size_t room, size_t *length)
+{
+    return odb_run_take(run, (const uint8_t *)part, strlen(part), (const uint8_t *)responses, strlen(responses), mode, (uint8_t *)text, room,
+                        length, 7);
+}
+
+/* The same rows, each part with all its answers at once. */
+static void try_takes(void)
+{
+    for (size_t at = 0; at < sizeof rows / sizeof *rows; at++) {
+        const struct row *row = &rows[at];
+        odb_live_run run = opened(row->batch, row->mode);
+        for (size_t k = 0; k < MOST_PARTS && row->parts[k].text != NULL; k++) {
+            char responses[ROOM];
+            size_t length = 77;
+            count(row->title, (long)k, part_is(&run, row, &row->parts[k]));
+            respond(row, &row->parts[k], responses);
+            count("taken", (long)k, take(&run, row->parts[k].text, responses, row->mode, NULL, 0, &length) == ODB_DONE && length == 0);
+        }
+        count(row->title, 78, statuses_are(&run, row->statuses));
         odb_run_close(run);
     }
 }
@@ -248,6 +303,135 @@ static void try_bodies(void)
     odb_run_close(run);
 }
 
+#define ANSWER(id, status) "{\"id\":\"" id "\",\"status\":" status "}"
+#define WITH(id, status, member) "{\"id\":\"" id "\",\"status\":" status "," member "}"
+#define RESPONSES(responses) "{\"responses\":[" responses "]}"
+
+/* Responses that are refused, of a run whose part has the requests a and b. */
+static const struct {
+    const char *responses, *line;
+} unfit[] = {
+    {"", "fault F02 NotJson responses\n"},
+    {"{}", "fault F70 BadResponses responses\n"},
+    {RESPONSES(ANSWER("a", "200")), "fault F73 ResponseMissing /requests/1\n"},
+    {RESPONSES(ANSWER("a", "200") "," ANSWER("c", "200")), "fault F71 UnknownResponse /responses/1\n"},
+    {RESPONSES(ANSWER("a", "200") "," ANSWER("a", "200")), "fault F72 ResponseTwice /responses/1\n"},
+    {RESPONSES(WITH("a", "200", "\"atomicityGroup\":\"g\"") "," ANSWER("b", "200")), "fault F74 GroupDiffers /requests/0\n"},
+    {RESPONSES(ANSWER("a", "404") "," ANSWER("b", "200")), "fault F75 UnsoundSuccess /requests/1\n"},
+    {RESPONSES(ANSWER("b", "200") "," ANSWER("a", "200") "," ANSWER("b", "600")), "fault F70 BadResponses /responses/2\n"},
+    {RESPONSES(ANSWER("b", "404") "," ANSWER("a", "199")), "fault F70 BadResponses /responses/1\n"},
+    {RESPONSES(ANSWER("b", "404") "," WITH("a", "200", "\"headers\":{\"x\":1}")), "fault F70 BadResponses /responses/1\n"},
+    {RESPONSES(ANSWER("b", "404") "," WITH("a", "200", "\"headers\":{\"x\":\"\",\"X\":\"\"}")), "fault F70 BadResponses /responses/1\n"},
+    {RESPONSES(WITH("a", "200", "\"headers\":[]") "," ANSWER("b", "200")), "fault F70 BadResponses /responses/0\n"},
+};
+
+#define TWO BATCH(GET("a", "A") "," NEEDS("\"a\"", "b", "B") "," GET("c", "C"))
+#define FIRST_TWO BATCH(GET("a", "A") "," NEEDS("\"a\"", "b", "B"))
+#define GOOD RESPONSES(WITH("b", "200", "\"body\": 9.990 , \"headers\":{\"X\":\"y\"}") "," ANSWER("a", "204"))
+
+/* Gives the first two requests of a run. */
+static void give_two(odb_live_run *run)
+{
+    char text[ROOM];
+    uint32_t positions[MOST];
+    size_t length = 77, number = 77;
+    count("two of three", 0, ask(run, TWO, 2, text, ROOM, &length, positions, MOST, &number) == ODB_DONE && number == 2);
+}
+
+/* Whether no request has started. */
+static int is_untouched(odb_live_run *run)
+{
+    for (uint32_t at = 0; at < 3; at++) {
+        uint32_t state = 77, status = 77;
+        if (odb_run_state(run, at, &state, &status) != ODB_DONE || status != 0 || state == ODB_STATE_RUNNING)
+            return 0;
+    }
+    return 1;
+}
+
+static void try_unfit_answers(void)
+{
+    odb_live_run run = opened(TWO, ODB_CONTINUE);
+    size_t length = 77;
+    char text[ROOM];
+    count("not given", 0, take(&run, FIRST_TWO, GOOD, ODB_CONTINUE, text, ROOM, &length) == ODB_WRONG_OPTION && length == 0);
+    give_two(&run);
+    for (size_t at = 0; at < sizeof unfit / sizeof *unfit; at++) {
+        const char *line = unfit[at].line;
+        for (size_t room = 0; room <= strlen(line) + 1; room++) {
+            char *buffer = filled(room);
+            int fits = room >= strlen(line);
+            uint32_t status = take(&run, FIRST_TWO, unfit[at].responses, ODB_CONTINUE, buffer, room, &length);
+            int right = status == (fits ? ODB_REFUSED : ODB_SMALL_BUFFER) && length == strlen(line);
+            right = right && (!fits || memcmp(buffer, line, length) == 0) && is_unchanged(buffer + (fits ? length : 0), fits ? room - length : room);
+            count(line, (long)room, right && is_untouched(&run));
+            free(buffer);
+        }
+    }
+    count("a part that is no batch", 0, take(&run, "", GOOD, ODB_CONTINUE, text, ROOM, &length) == ODB_REFUSED && length == strlen(F02)
+                                            && memcmp(text, F02, length) == 0);
+    count("a mode", 0, take(&run, FIRST_TWO, GOOD, 2, text, ROOM, &length) == ODB_WRONG_OPTION && length == 0);
+    count("more than the part", 0, take(&run, TWO, GOOD, ODB_CONTINUE, text, ROOM, &length) == ODB_WRONG_OPTION && length == 0);
+    count("while one runs", 0, odb_run_start(&run, 2) == ODB_DONE);
+    count("while one runs", 1, take(&run, FIRST_TWO, GOOD, ODB_CONTINUE, text, ROOM, &length) == ODB_WRONG_OPTION && length == 0);
+    count("while one runs", 2, odb_run_report(&run, 2, 200, NULL, 0, NULL, 0) == ODB_DONE);
+    count("good", 0, take(&run, FIRST_TWO, GOOD, ODB_CONTINUE, text, ROOM, &length) == ODB_DONE && length == 0);
+    count("once more", 0, take(&run, FIRST_TWO, GOOD, ODB_CONTINUE, text, ROOM, &length) == ODB_WRONG_OPTION && length == 0);
+    count("its response", 0, odb_run_response(&run, (uint8_t *)text, ROOM, &length) == ODB_DONE);
+    count("its response", 1, memcmp(text, RESPONSES(ANSWER("a", "204") "," "{\"body\":9.990,\"headers\":{\"x\":\"y\"},\"id\":\"b\",\"status\":200}" ","
+                                              ANSWER("c", "200")) "\n", length) == 0);
+    odb_run_close(run);
+}
+
+/* Answers of a service that stops: each has its statuses in the run. */
+static const struct {
+    const char *title, *batch;
+    uint32_t statuses[MOST], wanted[MOST];
+} stops[] = {
+    {"all errors are kept", BATCH(GET("a", "A") "," GET("b", "B") "," GET("c", "C") "," GET("d", "D")), {404, 500, 200, 0}, {404, 500, 200, 424}},
+    {"an error after what was skipped", BATCH(GET("a", "A") "," GET("b", "B") "," GET("c", "C")), {424, 503, 304}, {424, 503, 304}},
+    {"a group that failed otherwise", BATCH(MEMBER("g", "a", "A") "," MEMBER("g", "b", "B") "," GET("c", "C")), {424, 304, 200}, {424, 304, 200}},
+    {"a group with an error", BATCH(MEMBER("g", "a", "A") "," MEMBER("g", "b", "B") "," GET("c", "C")), {424, 409, 0}, {424, 409, 424}},
+    {"a group of two kinds", BATCH(MEMBER("g", "a", "A") "," MEMBER("g", "b", "B")), {500, 304}, {500, 304}},
+    {"a group whose member needs another", BATCH(MEMBER("g", "a", "A") "," MEMBER("g", "b", "$a/B")), {424, 500}, {424, 500}},
+};
+
+static void try_stops(void)
+{
+    for (size_t at = 0; at < sizeof stops / sizeof *stops; at++) {
+        struct row row = {stops[at].title, stops[at].batch, MOST, ODB_STOP, {{stops[at].batch, "", {0}, NULL}}, {0}};
+        char responses[ROOM], positions[MOST + 1] = "", text[ROOM];
+        uint32_t given[MOST];
+        size_t length = 77, number = 77;
+        odb_live_run run = opened(row.batch, ODB_STOP);
+        count(row.title, 0, ask(&run, row.batch, MOST, text, ROOM, &length, given, MOST, &number) == ODB_DONE);
+        for (size_t i = 0; i < number; i++)
+            positions[i] = (char)('0' + i);
+        row.parts[0].positions = positions;
+        memcpy(row.parts[0].statuses, stops[at].statuses, sizeof row.parts[0].statuses);
+        respond(&row, &row.parts[0], responses);
+        count(row.title, 1, take(&run, row.batch, responses, ODB_STOP, NULL, 0, &length) == ODB_DONE);
+        count(row.title, 2, statuses_are(&run, stops[at].wanted));
+        odb_run_close(run);
+    }
+}
+
+/* Has each allocation of a take fail in turn: then nothing has started. */
+static void try_failing_takes(void)
+{
+    odb_live_run run = opened(TWO, ODB_CONTINUE);
+    give_two(&run);
+    for (long after = 0, failed = 1; failed; after++) {
+        size_t length = 77;
+        refuse_after(after, 1);
+        uint32_t status = take(&run, FIRST_TWO, GOOD, ODB_CONTINUE, NULL, 0, &length);
+        failed = allow_all();
+        count(failed ? "a take without memory" : "a take with all memory", after,
+              failed ? status == ODB_OUT_OF_MEMORY && length == 0 && is_untouched(&run) : status == ODB_DONE);
+    }
+    odb_run_close(run);
+}
+
 /* Has each allocation fail in turn: then nothing is out. */
 static void try_failures(void)
 {
@@ -272,6 +456,10 @@ int main(void)
     try_rooms();
     try_refused_parts();
     try_bodies();
+    try_takes();
+    try_unfit_answers();
+    try_stops();
+    try_failing_takes();
     try_failures();
     return ended();
 }

@@ -19,6 +19,7 @@ mod RestLawLemmas
 mod LiveLemmas
 mod LivePartLemmas
 mod RequestLemmas
+mod ReplyLemmas
 mod LabelLemmas
 mod LiveLawLemmas
 mod TaskLawLemmas

@@ -25,6 +25,7 @@ pub mod Live
 pub mod LiveParts
 pub mod Requests
 pub mod ServiceResponses
+pub mod Replies
 pub mod lines
 -- For invariants and private clauses.
 pub mod Planned

@@ -61,7 +61,7 @@ pub fn read_document<R: Read>(alloc: Global, input: &mut Input<R>) -> Result<Vec
 }
 
 /// Returns the halt by a fault of a document; `place` is the place of the document.
-fn halt_at(fault: DocFault, place: Place) -> Halt
+pub fn halt_at(fault: DocFault, place: Place) -> Halt
     ensures { HaltsBy (option_map (at_place place) (document_row fault)) result }
 {
     match fault.refusal() {

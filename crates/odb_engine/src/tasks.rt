@@ -9,7 +9,7 @@ mod canon;
 mod check;
 pub(crate) mod command;
 mod located;
-mod match_responses;
+pub(crate) mod match_responses;
 mod plan;
 mod replay;
 mod response;

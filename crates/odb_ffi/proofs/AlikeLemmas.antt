@@ -127,9 +127,9 @@ record IsNoted (old new : Live) (i status : ℕ) (headers body : List ℕ) : Typ
 report_is : (old new : Live) (i status : ℕ) (headers body : List ℕ) (returned : ℕ) → returned ≡ 0 → Reports old new i status headers body returned → IsNoted old new i status headers body
 report_is old new i status headers body returned none (ReportTaken outcome within is (BodyTaken text of (OutcomeTaken may done same))) = record { outcome = outcome; text = text; says = is; of_body = of; is = same }
 report_is old new i status headers body returned none (ReportTaken outcome within is (BodyTaken text of (OutcomeRefused cause first done same))) = absurd (omega (arith, done, none))
-report_is old new i status headers body returned none (ReportTaken outcome within is (BodyRefused bad done same)) = absurd (omega (arith, done, none))
+report_is old new i status headers body returned none (ReportTaken outcome within is (BodyRefused refusal bad done same)) = absurd (omega (arith, done, none))
 report_is old new i status headers body returned none (ReportTaken outcome within is (BodyOutOfMemory some done same)) = absurd (omega (arith, done, none))
-report_is old new i status headers body returned none (ReportRefused within bad done same) = absurd (omega (arith, done, none))
+report_is old new i status headers body returned none (ReportRefused refusal within bad done same) = absurd (omega (arith, done, none))
 report_is old new i status headers body returned none (ReportUnknown past done same) = absurd (omega (arith, done, none))
 report_is old new i status headers body returned none (ReportOutOfMemory within some done same) = absurd (omega (arith, done, none))
 
@@ -175,9 +175,9 @@ stays (StartUnit i returned) old new idle (UnitRefused cause within first is sam
 stays (StartUnit i returned) old new idle (UnitUnknown past is same) = alike_same old new (sym same)
 stays (Report i status headers body returned) old new idle (ReportTaken outcome within is (BodyTaken text of (OutcomeTaken may done same))) = absurd (not_zero returned idle done)
 stays (Report i status headers body returned) old new idle (ReportTaken outcome within is (BodyTaken text of (OutcomeRefused cause first done same))) = alike_same old new (sym same)
-stays (Report i status headers body returned) old new idle (ReportTaken outcome within is (BodyRefused bad done same)) = alike_same old new (sym same)
+stays (Report i status headers body returned) old new idle (ReportTaken outcome within is (BodyRefused refusal bad done same)) = alike_same old new (sym same)
 stays (Report i status headers body returned) old new idle (ReportTaken outcome within is (BodyOutOfMemory some done same)) = alike_same old new (sym same)
-stays (Report i status headers body returned) old new idle (ReportRefused within bad done same) = alike_same old new (sym same)
+stays (Report i status headers body returned) old new idle (ReportRefused refusal within bad done same) = alike_same old new (sym same)
 stays (Report i status headers body returned) old new idle (ReportUnknown past done same) = alike_same old new (sym same)
 stays (Report i status headers body returned) old new idle (ReportOutOfMemory within some done same) = alike_same old new (sym same)
 stays Stop old new idle does = absurd (true≢false idle)

@@ -11,3 +11,4 @@ mod ResponseLemmas
 mod ReturnLemmas
 mod SessionLemmas
 mod TargetLemmas
+mod StepLemmas

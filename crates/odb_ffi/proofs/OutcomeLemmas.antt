@@ -1,5 +1,5 @@
 -- Why a report has no outcome.
-use Rattle.std.proofs.Common.{◌≡◌, Option, None, Result, Ok, Err, [], String, IfOk, ap, inl, inr, refl}
+use Rattle.std.proofs.Common.{◌≡◌, Option, None, Result, Ok, Err, [], String, IfOk, IfErr, ap, inl, inr, refl}
 use Rattle.std.proofs.lemmas.List.Sorted.{IsPermutation-refl}
 use Rattle.std.specs.BTreeMap.{BTreeMap}
 use Rattle.std.specs.declared.alloc.Global.{Global}
@@ -29,3 +29,7 @@ none-held m none = rw none (record { listed = []; are = refl; same = IsPermutati
 pub also-ok : {T E : Type 0} (P Q : T → Type 0) (result : Result T E) → ((x : T) → P x → Q x) → IfOk result P → IfOk result Q
 also-ok P Q (Ok x) more is = more x is
 also-ok P Q (Err error) more is = tt
+
+pub also-err : {T E : Type 0} (P Q : E → Type 0) (result : Result T E) → ((error : E) → P error → Q error) → IfErr result P → IfErr result Q
+also-err P Q (Ok x) more is = tt
+also-err P Q (Err error) more is = more error is

@@ -161,9 +161,9 @@ module _ (requests : List Record) where
     texts = Notes i status headers body outcome text (ap (Report i status headers body) done) refl is bodied within (ap (λ (l : Live). l.texts) same);
   })
   reported old new i status headers body returned (ReportTaken outcome within is (BodyTaken text of (OutcomeRefused cause first done same))) = inr ((λ none. omega (arith, done, none)), same)
-  reported old new i status headers body returned (ReportTaken outcome within is (BodyRefused bad done same)) = inr ((λ none. omega (arith, done, none)), same)
+  reported old new i status headers body returned (ReportTaken outcome within is (BodyRefused refusal bad done same)) = inr ((λ none. omega (arith, done, none)), same)
   reported old new i status headers body returned (ReportTaken outcome within is (BodyOutOfMemory some done same)) = inr ((λ none. omega (arith, done, none)), same)
-  reported old new i status headers body returned (ReportRefused within bad done same) = inr ((λ none. omega (arith, done, none)), same)
+  reported old new i status headers body returned (ReportRefused refusal within bad done same) = inr ((λ none. omega (arith, done, none)), same)
   reported old new i status headers body returned (ReportUnknown past done same) = inr ((λ none. omega (arith, done, none)), same)
   reported old new i status headers body returned (ReportOutOfMemory within some done same) = inr ((λ none. omega (arith, done, none)), same)
 

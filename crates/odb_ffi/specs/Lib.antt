@@ -2,7 +2,9 @@
 pub mod Returns
 pub mod Options
 pub mod Positions
+pub mod Refused
 pub mod Live
+pub mod ReportFaults
 pub mod Openings
 pub mod Next
 pub mod Units
@@ -18,5 +20,8 @@ pub mod Targets
 pub mod Places
 pub mod Handles
 pub mod Sessions
+pub mod Steps
+pub mod Takes
+pub mod Follows
 -- What a slot owns.
 pub mod Owned

@@ -2,11 +2,9 @@
 use Rattle.std.specs.Prelude.{◌≡◌, ◌≢◌, ◌<◌, ◌≤◌, ◌+◌, ℕ, List, [], Option, Some, None, IsUtf8, min, true, false}
 use Rattle.serde_json.specs.Data.{Data}
 use Rattle.serde_json.specs.Read.{read}
-use Rattle.odb_doc.specs.declared.fault.DocFault.{DocFault}
-use Rattle.odb_doc.specs.declared.fault.DocFault.TheVariants as faults
 use Rattle.odb_doc.specs.declared.recorded.outcome.Outcome.{Outcome}
-use Rattle.odb_doc.specs.Documents.{IsDocument, RefusesDocument}
-use Rattle.odb_doc.specs.Headers.{IsHeaders}
+use Rattle.odb_doc.specs.Documents.{IsDocument}
+use Rattle.odb_doc.specs.Refusals.{Printed}
 use Rattle.odb_doc.specs.recorded.Parts.{HasParts}
 use Rattle.odb_sched.specs.declared.policy.Policy.{Policy}
 use Rattle.odb_sched.specs.declared.refusal.StartRefusal.{StartRefusal}
@@ -14,7 +12,7 @@ use Rattle.odb_sched.specs.declared.refusal.ReportRefusal.{ReportRefusal}
 use Rattle.odb_sched.specs.run.Steps.{IsStartCause, IsReportCause, start_number, report_number, is_finished, may_start, may_report}
 use Rattle.odb_sched.specs.run.Answers.{answer, undone}
 use Rattle.odb_sched.specs.run.State.{State, size, started, reported}
-use Rattle.odb_reply.specs.BodyTexts.{IsBody, IsNoBody, value_with}
+use Rattle.odb_reply.specs.BodyTexts.{IsBody, value_with}
 use Rattle.odb_reply.specs.Readable.{HasShallowValues}
 use Rattle.odb_engine.specs.Cascade as cascade
 use Rattle.odb_engine.specs.declared.ending.Ended.{Ended}
@@ -24,6 +22,7 @@ use Rattle.odb_engine.specs.declared.form.Form.TheVariants.{Lines}
 use Rattle.odb_engine.specs.declared.live.LiveRun.{LiveRun}
 use Rattle.odb_engine.specs.Labels.{position_of}
 use Rattle.odb_engine.specs.Live.{Opens, IsLeastOfOpening, Shows, with_run, with_text}
+use Rattle.odb_ffi.specs.Refused.{RefusesBody, RefusesHeaders}
 use Rattle.odb_ffi.specs.Returns.{Fills, IsOutOfMemory, Returns}
 
 -- What is returned if a live run is to be opened, and what is in its place then. Where it is not opened, the text is the
@@ -64,6 +63,11 @@ pub data Takes (old new : LiveRun) (i : ℕ) (outcome : Outcome) (text : Option 
   Taken : may_report old.run i outcome ≡ true → status ≡ 0 → new ≡ with_text (with_run old (reported old.run i outcome)) i text → Takes old new i outcome text status
   Refused : (cause : ReportRefusal) → IsReportCause old.run i outcome cause → status ≡ 20 + report_number cause → new ≡ old → Takes old new i outcome text status
 
+-- the same of any position
+pub data TakesAt (old new : LiveRun) (i : ℕ) (outcome : Outcome) (text : Option (List ℕ)) (status : ℕ) : Type 0 where
+  Tried : i < size old.run → Takes old new i outcome text status → TakesAt old new i outcome text status
+  NoRequest : size old.run ≤ i → status ≡ 2 → new ≡ old → TakesAt old new i outcome text status
+
 -- the bytes are the JSON of this value, or there are none
 pub data IsPart (bytes : List ℕ) : Option Data → Type 0 where
   Absent : bytes ≡ [] → IsPart bytes None
@@ -76,11 +80,6 @@ pub record IsReported (status : ℕ) (headers : List ℕ) (outcome : Outcome) : 
   pub of_headers : IsPart headers headers_value
   pub parts : HasParts (min status 65535) headers_value None outcome
 
--- no report has these headers: they are no JSON, or no object of strings whose names differ in lower case
-pub data HasNoHeaders (headers : List ℕ) : Type 0 where
-  OfDocument : (fault : DocFault) → fault ≢ faults.OutOfMemory → RefusesDocument fault headers → HasNoHeaders headers
-  OfValue : (value : Option Data) → IsPart headers value → ¬ IsHeaders value → HasNoHeaders headers
-
 -- The text of the body in these bytes, which are JSON that nests at most 124 deep: just these bytes, or none if there are
 -- none or if they are the JSON null.
 pub data IsReportedBody (bytes : List ℕ) (text : Option (List ℕ)) : Type 0 where
@@ -91,13 +90,13 @@ pub data IsReportedBody (bytes : List ℕ) (text : Option (List ℕ)) : Type 0 w
 -- body no memory is needed.
 pub data TakesBody (old new : LiveRun) (i : ℕ) (outcome : Outcome) (body : List ℕ) (returned : ℕ) : Type 0 where
   Taken : (text : Option (List ℕ)) → IsReportedBody body text → Takes old new i outcome text returned → TakesBody old new i outcome body returned
-  Refused : IsNoBody body → returned ≡ 1 → new ≡ old → TakesBody old new i outcome body returned
+  Refused : (refusal : Printed) → RefusesBody body refusal → returned ≡ 1 → new ≡ old → TakesBody old new i outcome body returned
   OutOfMemory : body ≢ [] → returned ≡ 4 → new ≡ old → TakesBody old new i outcome body returned
 
 -- What the report of a request returns: the position is looked at before the headers, and they before the body. Nothing has
 -- changed but with 0. A report of a status alone needs no memory.
 pub data Reports (old new : LiveRun) (i status : ℕ) (headers body : List ℕ) (returned : ℕ) : Type 0 where
   Taken : (outcome : Outcome) → i < size old.run → IsReported status headers outcome → TakesBody old new i outcome body returned → Reports old new i status headers body returned
-  Refused : i < size old.run → HasNoHeaders headers → returned ≡ 1 → new ≡ old → Reports old new i status headers body returned
+  Refused : (refusal : Printed) → i < size old.run → RefusesHeaders headers refusal → returned ≡ 1 → new ≡ old → Reports old new i status headers body returned
   NoRequest : size old.run ≤ i → returned ≡ 2 → new ≡ old → Reports old new i status headers body returned
   OutOfMemory : i < size old.run → headers ≢ [] → returned ≡ 4 → new ≡ old → Reports old new i status headers body returned

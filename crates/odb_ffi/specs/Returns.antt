@@ -3,6 +3,8 @@ use Rattle.std.specs.Prelude.{◌≡◌, ◌<◌, ◌≤◌, ℕ, List, ◌++◌
 use Rattle.odb_engine.specs.declared.ending.Ended.{Ended}
 use Rattle.odb_engine.specs.declared.ending.Ended.TheVariants.{Done, Refused}
 use Rattle.odb_engine.specs.declared.form.Form.{Form}
+use Rattle.odb_engine.specs.declared.halt.Halt.{Halt}
+use Rattle.odb_engine.specs.declared.halt.Halt.TheVariants as halts
 use Rattle.odb_engine.specs.Cascade.{Writes}
 use Rattle.odb_engine.specs.Contents.Given.{InMemory}
 use Rattle.odb_engine.specs.Tasks.{OfDocuments}
@@ -12,6 +14,12 @@ use Rattle.odb_engine.specs.declared.tasks.task.Task.{Task}
 abbrev pub status_of : Ended → ℕ
 status_of Done = 0
 status_of Refused = 1
+
+-- the status of a halt, which no read of memory fails
+abbrev pub halt_status : Halt → ℕ
+halt_status (halts.Refused refusal) = 1
+halt_status halts.Read = 4
+halt_status halts.OutOfMemory = 4
 
 -- what a task writes of the documents in these bytes, in a form; the second is one only if the task takes one
 abbrev pub Does : Task → Form → List ℕ → List ℕ → Writes

@@ -1,6 +1,6 @@
 //! What is true of every list of calls on the handle of a live run.
 
-ghost use Rattle.std.specs.Prelude.{◌≡◌, ◌≤◌, ℕ, List, Option, length};
+ghost use Rattle.std.specs.Prelude.{◌≡◌, ◌≤◌, ◌++◌, ℕ, List, Option, length};
 ghost use Rattle.std.specs.List.{filter};
 ghost use Rattle.odb_doc.specs.Documents.{most_bytes};
 ghost use Rattle.odb_sched.specs.declared.policy.Mode.{Mode};
@@ -27,6 +27,9 @@ use odb_sched::laws::{every_live_run, every_possible_live};
 /// answer has the status, the headers and the bytes of the body with which it was reported. So `match` accepts the
 /// response that [`crate::run_exports::odb_run_response`] writes, unless it is too long, also as strict by units (`matched`).
 ///
+/// Calls may be taken apart and put together (`joined`): a call of [`crate::part_exports::odb_run_take`] is the starts and the reports
+/// that its clause names.
+///
 /// The premise is what [`crate::run_exports::odb_run_open`] ensures of the handle that it opens for the batch in one
 /// document, after the recorded events in another.
 pub fn every_session()
@@ -38,6 +41,8 @@ pub fn every_session()
         → Opens policy batch events first → IsSession first calls last
         → Responds last Lines Done text → length text ≤ most_bytes → Allows Units strict
         → IsDone (tasks.Match mode strict) batch text }
+    ensures joined { (first middle last : Live) (before after : List Call) → IsSession first before middle
+        → IsSession middle after last → IsSession first (before ++ after) last }
 {
     every_batch();
     every_live_run();

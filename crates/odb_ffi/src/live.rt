@@ -47,6 +47,16 @@ fn take(live: &mut LiveRun, position: u32, outcome: Outcome, body: Option<JsonTe
     }
 }
 
+/// The same at any position.
+pub fn take_at(live: &mut LiveRun, position: u32, outcome: Outcome, body: Option<JsonText>) -> u32
+    ensures { calls.TakesAt live.old live.new position outcome body result }
+{
+    if position >= live.run().len() {
+        return status::WRONG_OPTION;
+    }
+    take(live, position, outcome, body)
+}
+
 /// Takes an outcome of a request, and its body as JSON.
 fn take_body(live: &mut LiveRun, alloc: Global, position: u32, outcome: Outcome, body: &[u8]) -> u32
     requires { position < state.size live.old.run }
@@ -54,7 +64,7 @@ fn take_body(live: &mut LiveRun, alloc: Global, position: u32, outcome: Outcome,
 {
     match body_of(alloc, body) {
         Ok(text) => take(live, position, outcome, text),
-        Err(cause) => status::of_no_outcome(cause),
+        Err(halt) => status::of_halt(halt),
     }
 }
 
@@ -74,7 +84,7 @@ pub fn report(
     }
     match outcome_of(alloc, status, headers) {
         Ok(outcome) => take_body(live, alloc, position, outcome, body),
-        Err(cause) => status::of_no_outcome(cause),
+        Err(halt) => status::of_halt(halt),
     }
 }
 

@@ -1,59 +1,23 @@
 //! An outcome of headers as JSON, and its body as JSON text.
 
-ghost use Rattle.std.specs.Prelude.{◌≡◌, ◌≢◌, ◌↔◌, [], None, Some, Ok, Err, min, IfOk};
+ghost use Rattle.std.specs.Prelude.{◌≡◌, ◌≢◌, [], None, Some, Err, min, IfOk, IfErr};
 ghost use Rattle.serde_json.specs.View.{view};
-ghost use Rattle.odb_doc.specs.declared.fault.DocFault.TheVariants as faults;
 ghost use Rattle.odb_doc.specs.Headers.{IsHeaders};
 ghost use Rattle.odb_doc.specs.recorded.Parts.{HasParts};
 ghost use Rattle.odb_reply.specs.BodyTexts.{IsNoBody};
-ghost use Rattle.odb_reply.specs.declared.json_text.BodyFault.TheVariants as bodies;
-ghost use Rattle.odb_ffi.specs.Live.{HasNoHeaders, IsReported, IsReportedBody};
-ghost use Rattle.odb_ffi.specs.declared.outcome.NoOutcome.TheVariants as none;
+ghost use Rattle.odb_engine.specs.Halts.{Halted};
+ghost use Rattle.odb_engine.specs.declared.halt.Halt.TheVariants as halts;
+ghost use Rattle.odb_ffi.specs.Live.{IsReported, IsReportedBody};
+ghost use Rattle.odb_ffi.specs.Refused as refused;
 
-use odb_doc::{DocFault, Outcome, parse};
+use odb_doc::{
+    DocFault, DocumentRule, EventFault, EventRule, MAX_DOCUMENT_BYTES, Outcome, Place, parse,
+};
+use odb_engine::{Halt, halt_at};
 use odb_reply::{BodyFault, JsonText};
 use serde_json::Value;
-use std::alloc::{AllocError, Global};
+use std::alloc::Global;
 use std::collections::BTreeMap;
-
-/// Why a report has no outcome.
-#[derive(Clone, Copy)]
-pub enum NoOutcome {
-    /// The headers or the body are not of the right form.
-    Refused,
-    /// An allocation failed.
-    OutOfMemory,
-}
-
-impl From<DocFault> for NoOutcome {
-    ghost from_gives = { λ fault cause. (cause ≡ none.Refused) ↔ (fault ≢ faults.OutOfMemory) };
-
-    fn from(fault: DocFault) -> Self {
-        match fault {
-            DocFault::OutOfMemory => NoOutcome::OutOfMemory,
-            _ => NoOutcome::Refused,
-        }
-    }
-}
-
-impl From<BodyFault> for NoOutcome {
-    ghost from_gives = { λ fault cause. (cause ≡ none.Refused) ↔ (fault ≡ bodies.Refused) };
-
-    fn from(fault: BodyFault) -> Self {
-        match fault {
-            BodyFault::Refused => NoOutcome::Refused,
-            BodyFault::OutOfMemory => NoOutcome::OutOfMemory,
-        }
-    }
-}
-
-impl From<AllocError> for NoOutcome {
-    ghost from_gives = { λ _ cause. cause ≡ none.OutOfMemory };
-
-    fn from(_error: AllocError) -> Self {
-        NoOutcome::OutOfMemory
-    }
-}
 
 /// Returns the status as a number of 16 bits.
 fn status_of(status: u32) -> u16
@@ -64,6 +28,32 @@ fn status_of(status: u32) -> u16
     } else {
         status as u16
     }
+}
+
+/// Returns the halt by headers that are no object of strings: F64 of a document that has their report alone.
+fn bad_headers() -> Halt
+    ensures refused { Halted refused.IsBadEvent result }
+    ensures memory { result ≢ halts.OutOfMemory }
+    ensures read { result ≢ halts.Read }
+{
+    Halt::from(EventFault::Event {
+        at: 0,
+        rule: EventRule::BadEvents,
+    })
+}
+
+/// Returns the halt by a body that is refused: F01 if it is too long, else F02.
+fn bad_body(bytes: &[u8]) -> Halt
+    requires { IsNoBody bytes.now }
+    ensures refused { Halted (refused.RefusesBody bytes.now) result }
+    ensures read { result ≢ halts.Read }
+{
+    let rule = if bytes.len() > MAX_DOCUMENT_BYTES {
+        DocumentRule::TooLong
+    } else {
+        DocumentRule::NotJson
+    };
+    halt_at(DocFault::Document(rule), Place::Events)
 }
 
 /// Returns the outcome with this status alone. It allocates nothing.
@@ -78,38 +68,58 @@ fn bare(alloc: Global, status: u16) -> Outcome
 }
 
 /// Returns the outcome with this status, these headers and no body.
-fn outcome_with(alloc: Global, status: u16, headers: Value) -> Result<Outcome, NoOutcome>
+fn outcome_with(alloc: Global, status: u16, headers: Value) -> Result<Outcome, Halt>
     ensures some { IfOk result (HasParts status (Some (view headers)) None) }
-    ensures refused { result ≡ Err none.Refused → ¬ IsHeaders (Some (view headers)) }
+    ensures refused { IfErr result (Halted (λ refusal. (¬ IsHeaders (Some (view headers)))
+        × refused.IsBadEvent refusal)) }
+    ensures read { result ≢ Err halts.Read }
 {
     match Outcome::of_parts(alloc, status, Some(headers), None)? {
         Some(outcome) => Ok(outcome),
-        None => Err(NoOutcome::Refused),
+        None => Err(bad_headers()),
     }
 }
 
 /// Returns the outcome with this status, with the headers in these bytes, which may be none, and with no
 /// body. A status above 65,535 is as 65,535.
-pub fn outcome_of(alloc: Global, status: u32, headers: &[u8]) -> Result<Outcome, NoOutcome>
+///
+/// # Errors
+///
+/// `Refused` by the fault that a document of events has of the headers, if it has this report alone; `OutOfMemory` if an
+/// allocation fails. Never `Read`.
+pub fn outcome_of(alloc: Global, status: u32, headers: &[u8]) -> Result<Outcome, Halt>
     ensures some { IfOk result (IsReported status headers.now) }
-    ensures refused { result ≡ Err none.Refused → HasNoHeaders headers.now }
-    ensures memory { result ≡ Err none.OutOfMemory → headers.now ≢ [] }
+    ensures refused { IfErr result (Halted (refused.RefusesHeaders headers.now)) }
+    ensures memory { result ≡ Err halts.OutOfMemory → headers.now ≢ [] }
+    ensures read { result ≢ Err halts.Read }
 {
     if headers.is_empty() {
         return Ok(bare(alloc, status_of(status)));
     }
-    let value = parse(alloc, headers)?;
-    outcome_with(alloc, status_of(status), value)
+    match parse(alloc, headers) {
+        Ok(value) => outcome_with(alloc, status_of(status), value),
+        Err(fault) => Err(halt_at(fault, Place::Events)),
+    }
 }
 
 /// Returns the text of the body in these bytes: `None` if there are none, or if they are the JSON null.
-pub fn body_of(alloc: Global, bytes: &[u8]) -> Result<Option<JsonText>, NoOutcome>
+///
+/// # Errors
+///
+/// `Refused` by the fault that a document of events has of the body, if it has this report alone; `OutOfMemory` if an
+/// allocation fails. Never `Read`.
+pub fn body_of(alloc: Global, bytes: &[u8]) -> Result<Option<JsonText>, Halt>
     ensures some { IfOk result (IsReportedBody bytes.now) }
-    ensures refused { result ≡ Err none.Refused → IsNoBody bytes.now }
-    ensures memory { result ≡ Err none.OutOfMemory → bytes.now ≢ [] }
+    ensures refused { IfErr result (Halted (refused.RefusesBody bytes.now)) }
+    ensures memory { result ≡ Err halts.OutOfMemory → bytes.now ≢ [] }
+    ensures read { result ≢ Err halts.Read }
 {
     if bytes.is_empty() {
         return Ok(None);
     }
-    Ok(JsonText::read(alloc, bytes)?)
+    match JsonText::read(alloc, bytes) {
+        Ok(text) => Ok(text),
+        Err(BodyFault::Refused) => Err(bad_body(bytes)),
+        Err(BodyFault::OutOfMemory) => Err(Halt::OutOfMemory),
+    }
 }

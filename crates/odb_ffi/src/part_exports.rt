@@ -1,9 +1,10 @@
 //! The calls for C on the parts of a live run.
 
 ghost use Rattle.odb_ffi.specs.Parts.{GivesPart};
+ghost use Rattle.odb_ffi.specs.Takes.{TakesPart};
 
 use crate::handle::Handle;
-use crate::parts;
+use crate::{parts, takes};
 use std::alloc::Global;
 
 /// Gives the next part of a run as the text of a batch of its own, and the positions of its requests: requests that may be sent
@@ -41,6 +42,43 @@ pub extern "C" fn odb_run_part(
         text_length,
         positions,
         count,
+        seed,
+    )
+}
+
+/// Takes what a service has answered a part that [`odb_run_part`] gave: starts the requests of the part, and reports each with the
+/// response that has its id, by its status, its headers and the bytes of its body. `part` is the text of the part, `responses` the
+/// response document, and `mode` what an error does to the service: if it stops, a request without a response is answered 424.
+///
+/// A request whose unit has failed, or that the run has stopped before, does not start: it is answered 424. If the service stops, the
+/// requests with errors start before one of them is reported, so that all of these are kept as far as the width allows.
+///
+/// Returns 0 and no text. Otherwise the run is as it was: returns 1 if the part is refused, if the responses do not fit it, as
+/// [`crate::exports::odb_match_with`] has it, or by F70 if a status is below 200, or headers are not an object of strings whose names
+/// differ in lower case; then `text` begins with the line of the fault. Returns 5 if the line is longer than `text`; 2 if `mode` is none,
+/// if a request is running, or if one of the part is in none that was given, or has started; and 4 if an allocation fails.
+#[unsafe(no_mangle)]
+pub extern "C" fn odb_run_take(
+    alloc: Global,
+    run: &mut Handle,
+    part: &[u8],
+    responses: &[u8],
+    mode: u32,
+    text: &mut [u8],
+    text_length: &mut usize,
+    seed: u64,
+) -> u32
+    ensures { TakesPart run.old.value run.new.value part.now responses.now mode result text_length.new
+        text.old text.new }
+{
+    takes::take_part(
+        run.live(),
+        alloc,
+        part,
+        responses,
+        mode,
+        text,
+        text_length,
         seed,
     )
 }

@@ -4,10 +4,8 @@ ghost use Rattle.std.specs.Prelude.{◌≡◌, ◌+◌};
 ghost use Rattle.odb_resolve.specs.Resolutions.{number_of};
 ghost use Rattle.odb_sched.specs.run.Steps.{report_number, start_number};
 ghost use Rattle.odb_ffi.specs.Returns as returns;
-ghost use Rattle.odb_ffi.specs.declared.outcome.NoOutcome.TheVariants as none;
 
-use crate::outcome::NoOutcome;
-use odb_engine::Ended;
+use odb_engine::{Ended, Halt};
 use odb_resolve::Refusal;
 use odb_sched::{ReportRefusal, StartRefusal};
 
@@ -36,14 +34,13 @@ pub fn of_end(ended: Ended) -> u32
     }
 }
 
-/// Returns the status of a report that has no outcome.
-pub fn of_no_outcome(cause: NoOutcome) -> u32
-    ensures refused { cause ≡ none.Refused → result ≡ 1 }
-    ensures memory { cause ≡ none.OutOfMemory → result ≡ 4 }
+/// Returns the status of a halt: of a refused document, or of an allocation that failed, since no read of memory does.
+pub fn of_halt(halt: Halt) -> u32
+    ensures { result ≡ returns.halt_status halt }
 {
-    match cause {
-        NoOutcome::Refused => REFUSED,
-        NoOutcome::OutOfMemory => OUT_OF_MEMORY,
+    match halt {
+        Halt::Refused(_) => REFUSED,
+        Halt::Read | Halt::OutOfMemory => OUT_OF_MEMORY,
     }
 }
 

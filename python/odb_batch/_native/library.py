@@ -14,6 +14,9 @@ VARIABLE = "ODB_BATCH_LIBRARY"
 DONE, REFUSED, WRONG_OPTION, OUT_OF_MEMORY, SMALL_BUFFER = 0, 1, 2, 4, 5
 UNREADABLE, OUTSIDE = 31, 32
 
+# Longer than the line of a fault.
+_LINE = 256
+
 # Where a part of a request starts that it does not have.
 NONE = 2 ** (8 * ctypes.sizeof(ctypes.c_size_t)) - 1
 
@@ -74,12 +77,14 @@ _PARAMETERS: dict[str, list[Any]] = {
     "odb_run_undone": [*_RUN, *_POSITIONS],
     "odb_run_next_unit": [*_RUN, *_POSITIONS],
     "odb_run_part": [*_RUN, *_BYTES, *_NUMBER, *_TEXT, *_POSITIONS, ctypes.c_uint64],
+    "odb_run_take": [*_RUN, *_BYTES, *_BYTES, *_NUMBER, *_SEEDED],
     "odb_run_state": [*_RUN, *_NUMBER, _PLACE, _PLACE],
     "odb_run_stop": [*_RUN],
     "odb_run_ids": [*_RUN, *_TEXT],
     "odb_run_start": [*_RUN, *_NUMBER],
     "odb_run_start_unit": [*_RUN, *_NUMBER],
     "odb_run_report": [*_RUN, *_NUMBER * 2, *_BYTES, *_BYTES],
+    "odb_report_fault": [*_BYTES, *_BYTES, *_TEXT],
     "odb_run_finished": [*_RUN],
     "odb_run_response": [*_RUN, *_TEXT],
     "odb_run_close": [Handle],
@@ -237,6 +242,11 @@ def call_part(run: Any, batch: bytes, limit: int, room: int, positions: Any) -> 
         if status != SMALL_BUFFER:
             return status, ctypes.string_at(text, length.value), positions[: count.value]
         room = length.value
+
+
+def call_take(run: Any, part: bytes, responses: bytes, mode: int) -> tuple[int, bytes]:
+    """The status of a call that takes the responses to a part of a run, and the line of a fault."""
+    return call("odb_run_take", (), (run, part, len(part), responses, len(responses), mode), _LINE)
 
 
 def call_where(document: bytes, place: bytes) -> tuple[int, list[int]]:

@@ -40,6 +40,7 @@ use Rattle.odb_ffi.specs.Live.{Responds}
 use Rattle.odb_ffi.specs.Sessions.{Call, IsSession, KeepsSession}
 use Rattle.odb_ffi.proofs.ReportedLemmas.{answer-statuses, answered-as, shallow-answer}
 use Rattle.odb_ffi.proofs.SessionLemmas.{driven}
+use Rattle.odb_ffi.proofs.StepLemmas.{session-joined}
 use Rattle.odb_ffi.proofs.laws.every_session.Goals as goal
 
 -- the clauses of the laws of odb_check and of odb_sched
@@ -154,6 +155,7 @@ returns c =
     keeps in
     record {
       kept = kept;
+      joined = λ first middle last before after. session-joined before after first middle last;
       matched = λ policy strict mode batch events text first last calls opens session responds short allows.
           let keeps = kept policy batch events first last calls opens session in
           let requests = keeps.holds.batch in

@@ -1,24 +1,25 @@
 use Rattle.std.proofs.Common.{◌≡◌, ◌≢◌, ℕ, List, [], Err, ap, refl}
+use Rattle.odb_doc.specs.Refusals as refusals
 use Rattle.odb_doc.specs.declared.recorded.outcome.Outcome.{Outcome}
+use Rattle.odb_engine.specs.declared.halt.Halt.{Halt}
+use Rattle.odb_engine.specs.declared.halt.Halt.TheVariants as halts
 use Rattle.odb_engine.specs.declared.live.LiveRun.{LiveRun}
-use Rattle.odb_reply.specs.BodyTexts.{IsNoBody}
-use Rattle.odb_ffi.specs.declared.outcome.NoOutcome.{NoOutcome}
-use Rattle.odb_ffi.specs.declared.outcome.NoOutcome.TheVariants as none
+use Rattle.odb_engine.specs.Halts.{Halted}
 use Rattle.odb_ffi.specs.Live.{TakesBody}
 use Rattle.odb_ffi.specs.Live.TakesBody.{Taken, Refused, OutOfMemory}
+use Rattle.odb_ffi.specs.Refused.{RefusesBody}
+use Rattle.odb_ffi.specs.Returns.{halt_status}
 use Rattle.odb_ffi.proofs.live.take_body.Goals as goal
 
 -- there is no text
-unread : (live : LiveRun) (i : ℕ) (outcome : Outcome) (body : List ℕ) (cause : NoOutcome) (returned : ℕ) → (cause ≡ none.Refused → IsNoBody body) → (cause ≡ none.OutOfMemory → body ≢ [])
-    → (cause ≡ none.Refused → returned ≡ 1) → (cause ≡ none.OutOfMemory → returned ≡ 4) → TakesBody live live i outcome body returned
-unread live i outcome body none.Refused returned refused memory one four = Refused (refused refl) (one refl) refl
-unread live i outcome body none.OutOfMemory returned refused memory one four = OutOfMemory (memory refl) (four refl) refl
+unread : (live : LiveRun) (i : ℕ) (outcome : Outcome) (body : List ℕ) (halt : Halt) (returned : ℕ) → Halted (RefusesBody body) halt → (halt ≡ halts.OutOfMemory → body ≢ []) → halt ≢ halts.Read → returned ≡ halt_status halt
+    → TakesBody live live i outcome body returned
+unread live i outcome body (halts.Refused refusal) returned refused memory read is = Refused (refusals.printed refusal) refused is refl
+unread live i outcome body halts.OutOfMemory returned refused memory read is = OutOfMemory (memory refl) is refl
+unread live i outcome body halts.Read returned refused memory read is = absurd (read refl)
 
 pub returns-in-Ok : goal.returns-in-Ok
 returns-in-Ok c = Taken _ c.in-Ok.ensures.some c.take.ensures
 
 pub returns-in-Err : goal.returns-in-Err
-returns-in-Err c =
-    let status = c.of_no_outcome.ensures in
-    unread c.args.live.now c.args.position c.args.outcome c.args.body.now c.in-Err.cause c.of_no_outcome.result (λ same. c.in-Err.ensures.refused (ap Err same)) (λ same. c.in-Err.ensures.memory (ap Err same))
-    status.refused status.memory
+returns-in-Err c = unread c.args.live.now c.args.position c.args.outcome c.args.body.now c.in-Err.halt c.of_halt.result c.in-Err.ensures.refused (λ same. c.in-Err.ensures.memory (ap Err same)) (λ same. c.in-Err.ensures.read (ap Err same)) c.of_halt.ensures

@@ -6,5 +6,5 @@ use Rattle.odb_ffi.proofs.outcome.body_of.Goals as goal
 pub returns-then-is_empty-clause-some : goal.returns-then-is_empty-clause-some
 returns-then-is_empty-clause-some c = Absent (nil_from_length c.args.bytes.now (search rules)) refl
 
-pub returns-clause-some : goal.returns-clause-some
-returns-clause-some c = Present c.in_ok-read.ensures.body
+pub returns-in-Ok-clause-some : goal.returns-in-Ok-clause-some
+returns-in-Ok-clause-some c = Present c.in-Ok.ensures.body
