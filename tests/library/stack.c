@@ -220,6 +220,22 @@ static int live_after_events(void)
     return right;
 }
 
+/* Takes the responses in `second` to the one part of a run. */
+static int take(void)
+{
+    static const char none[] = "{\"events\":[]}";
+    odb_live_run opened;
+    uint32_t positions[1];
+    size_t count;
+    if (odb_run_open(bytes(batch), strlen(batch), bytes(none), strlen(none), ODB_STOP, 1, &opened, text, sizeof text, &length, 7))
+        return 0;
+    int right = is_done(odb_run_part(&opened, bytes(batch), strlen(batch), 1, text, sizeof text, &length, positions, 1, &count, 7))
+        && is_done(odb_run_take(&opened, bytes(batch), strlen(batch), bytes(second), strlen(second), ODB_STOP, text, sizeof text, &length, 7))
+        && odb_run_finished(&opened);
+    odb_run_close(opened);
+    return right;
+}
+
 /* Opens a run, and makes all of its calls: its one request is reported with the body in `second`. */
 static int live(void)
 {
@@ -237,6 +253,7 @@ static int live(void)
         && is_done(odb_run_part(&opened, bytes(batch), strlen(batch), 1, text, sizeof text, &length, positions, 1, &count, 7))
         && is_done(odb_run_start(&opened, 0)) && is_done(odb_run_state(&opened, 0, &state, &status))
         && is_done(odb_run_running(&opened, positions, 1, &count))
+        && is_done(odb_report_fault(bytes(headers), strlen(headers), bytes(second), strlen(second), text, sizeof text, &length))
         && is_done(odb_run_report(&opened, 0, 200, bytes(headers), strlen(headers), bytes(second), strlen(second)))
         && odb_run_finished(&opened) && is_done(odb_run_undone(&opened, positions, 1, &count))
         && is_done(odb_run_response(&opened, text, sizeof text, &length));
@@ -414,6 +431,7 @@ static void measure_deep(void)
     make(second, "{\"responses\":[{\"id\":\"a\",\"status\":200,\"body\":", DEEPEST, "}]}");
     measure("a match of a deep body", match);
     measure("a match of a deep body in JSON", match_in_json);
+    measure("an answer to a part with a deep body", take);
     make(second, "{\"responses\":[{\"id\":\"a\",\"status\":503,\"body\":", DEEPEST, "}]}");
     measure("the rest of a deep body", rest_in_json);
     make(second, "{\"outcomes\":[{\"id\":\"a\",\"status\":200,\"body\":", DEEPEST, "}]}");

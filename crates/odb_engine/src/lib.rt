@@ -36,7 +36,9 @@ pub use form::Form;
 pub use halt::Halt;
 pub use input::halt_at;
 pub use lines::{EachLine, LineCommand, LineInput, answer_lines};
-pub use live::{LiveRun, Opened, Part, Reply, open_run, open_with_requests, requests_in, responses_in};
+pub use live::{
+    LiveRun, Opened, Part, Reply, open_run, open_with_requests, requests_in, responses_in,
+};
 pub use rule::EngineRule;
 pub use setup::{Faults, Setup};
 pub use tasks::{

@@ -2,14 +2,17 @@
 use Rattle.std.proofs.Common.{◌≡◌, ◌∙◌, ℕ, List, [], ◌∷◌, ◌++◌, ap, append_assoc, refl}
 use Rattle.std.specs.List.{AllZip}
 use Rattle.odb_doc.specs.Headers as doc
+use Rattle.odb_doc.specs.Refusals.{printed}
+use Rattle.odb_engine.specs.Halts.{Halted}
+use Rattle.odb_engine.specs.declared.halt.Halt.{Halt}
+use Rattle.odb_engine.specs.declared.halt.Halt.TheVariants as halts
 use Rattle.odb_ffi.specs.declared.header.Header.{Header}
 use Rattle.odb_ffi.specs.declared.request.Part.{Part}
 use Rattle.odb_ffi.specs.Faults.{IsWord}
-use Rattle.odb_ffi.specs.declared.outcome.NoOutcome.{NoOutcome}
-use Rattle.odb_ffi.specs.declared.outcome.NoOutcome.TheVariants as none
 use Rattle.odb_ffi.specs.Headers.{GivesHeaders, IsPair}
 use Rattle.odb_ffi.specs.Headers.GivesHeaders.{OutOfMemory, Refused}
-use Rattle.odb_ffi.specs.Live.{HasNoHeaders}
+use Rattle.odb_ffi.specs.Refused.{RefusesHeaders}
+use Rattle.odb_ffi.specs.Returns.{halt_status}
 use Rattle.odb_ffi.proofs.FaultLemmas.{kept-word}
 
 -- a name and a value, which were appended one after the other
@@ -32,7 +35,7 @@ push-pair old more new (h ∷ headers) [] header pair is zip last = absurd zip
 push-pair old more new (h ∷ headers) (p ∷ pairs) header pair is zip last = (kept-pair old more new h p is zip.0, push-pair old more new headers pairs header pair is zip.1 last)
 
 -- there are no pairs
-pub not-given : (bytes : List ℕ) (cause : NoOutcome) (status : ℕ) (text : List ℕ) (pairs : List Header) → (cause ≡ none.Refused → status ≡ 1) → (cause ≡ none.OutOfMemory → status ≡ 4) → (cause ≡ none.Refused → HasNoHeaders bytes)
-    → GivesHeaders bytes status 0 0 text text pairs pairs
-not-given bytes none.Refused status text pairs refused memory not = Refused (not refl) (refused refl) refl refl refl refl
-not-given bytes none.OutOfMemory status text pairs refused memory not = OutOfMemory (record { is = memory refl; none = refl; same = refl }) refl refl
+pub not-given : (bytes : List ℕ) (halt : Halt) (status : ℕ) (text : List ℕ) (pairs : List Header) → status ≡ halt_status halt → Halted (RefusesHeaders bytes) halt → GivesHeaders bytes status 0 0 text text pairs pairs
+not-given bytes (halts.Refused refusal) status text pairs is refused = Refused (printed refusal) refused is refl refl refl refl
+not-given bytes halts.OutOfMemory status text pairs is refused = OutOfMemory (record { is = is; none = refl; same = refl }) refl refl
+not-given bytes halts.Read status text pairs is refused = OutOfMemory (record { is = is; none = refl; same = refl }) refl refl

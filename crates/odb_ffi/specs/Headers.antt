@@ -2,11 +2,13 @@
 use Rattle.std.specs.Prelude.{◌≡◌, ℕ, List, Option}
 use Rattle.std.specs.List.{AllZip}
 use Rattle.serde_json.specs.Data.{Data}
+use Rattle.odb_doc.specs.Refusals.{Printed}
 use Rattle.odb_doc.specs.Headers as doc
 use Rattle.odb_ffi.specs.declared.header.Header.{Header}
 use Rattle.odb_ffi.specs.Faults.{IsWord}
 use Rattle.odb_ffi.specs.Lists.{Gives}
-use Rattle.odb_ffi.specs.Live.{HasNoHeaders, IsPart}
+use Rattle.odb_ffi.specs.Live.{IsPart}
+use Rattle.odb_ffi.specs.Refused.{RefusesHeaders}
 use Rattle.odb_ffi.specs.Returns.{IsOutOfMemory}
 
 -- where the name of a header and its value lie in the text
@@ -26,5 +28,5 @@ pub record ArePairs (bytes text : List ℕ) (pairs : List Header) : Type 0 where
 -- what the call returns
 pub data GivesHeaders (bytes : List ℕ) (status text_length count : ℕ) (text new_text : List ℕ) (pairs new_pairs : List Header) : Type 0 where
   Given : (found : List ℕ) (headers : List Header) → ArePairs bytes found headers → Gives found headers 0 status text_length count text new_text pairs new_pairs → GivesHeaders bytes status text_length count text new_text pairs new_pairs
-  Refused : HasNoHeaders bytes → status ≡ 1 → text_length ≡ 0 → count ≡ 0 → new_text ≡ text → new_pairs ≡ pairs → GivesHeaders bytes status text_length count text new_text pairs new_pairs
+  Refused : (refusal : Printed) → RefusesHeaders bytes refusal → status ≡ 1 → text_length ≡ 0 → count ≡ 0 → new_text ≡ text → new_pairs ≡ pairs → GivesHeaders bytes status text_length count text new_text pairs new_pairs
   OutOfMemory : IsOutOfMemory status text_length text new_text → count ≡ 0 → new_pairs ≡ pairs → GivesHeaders bytes status text_length count text new_text pairs new_pairs

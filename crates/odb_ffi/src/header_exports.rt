@@ -5,7 +5,7 @@ ghost use Rattle.odb_ffi.specs.Headers.{GivesHeaders};
 use crate::buffer::give_list;
 use crate::header::Header;
 use crate::headers::headers_of;
-use crate::status::{DONE, of_no_outcome};
+use crate::status::{DONE, of_halt};
 use std::alloc::Global;
 
 /// Gives the headers of a JSON object as pairs, in byte order of their names: where the name of each, in lower case, and its value
@@ -38,6 +38,6 @@ pub extern "C" fn odb_headers(
             pairs,
             count,
         ),
-        Err(cause) => of_no_outcome(cause),
+        Err(halt) => of_halt(halt),
     }
 }

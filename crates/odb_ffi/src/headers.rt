@@ -1,16 +1,17 @@
 //! Headers as pairs in a text.
 
-ghost use Rattle.std.specs.Prelude.{◌≡◌, ◌++◌, Err, IfOk, OnOk, string_bytes};
+ghost use Rattle.std.specs.Prelude.{◌≡◌, ◌++◌, IfErr, IfOk, OnOk, string_bytes};
 ghost use Rattle.std.specs.List.{AllZip};
 ghost use Rattle.odb_doc.specs.Headers.{headers_in};
+ghost use Rattle.odb_engine.specs.Halts.{Halted};
 ghost use Rattle.odb_ffi.specs.Faults.{IsWord};
 ghost use Rattle.odb_ffi.specs.Headers.{ArePairs, IsPair};
-ghost use Rattle.odb_ffi.specs.Live.{HasNoHeaders};
-ghost use Rattle.odb_ffi.specs.declared.outcome.NoOutcome.TheVariants as none;
+ghost use Rattle.odb_ffi.specs.Refused.{RefusesHeaders};
 
 use crate::header::Header;
-use crate::outcome::{NoOutcome, outcome_of};
+use crate::outcome::outcome_of;
 use crate::request::Part;
+use odb_engine::Halt;
 use std::alloc::{AllocError, Global};
 use std::collections::BTreeMap;
 
@@ -60,14 +61,14 @@ fn paired(alloc: Global, headers: &BTreeMap<String, String>) -> Result<Headers, 
 }
 
 /// Returns the headers in these bytes as pairs. They are those that an outcome takes, which has to have a status.
-pub fn headers_of(alloc: Global, bytes: &[u8]) -> Result<Headers, NoOutcome>
+pub fn headers_of(alloc: Global, bytes: &[u8]) -> Result<Headers, Halt>
     ensures pairs { IfOk result (λ found. ArePairs bytes.now (string_bytes found.text)
         found.pairs.items) }
-    ensures refused { result ≡ Err none.Refused → HasNoHeaders bytes.now }
+    ensures refused { IfErr result (Halted (RefusesHeaders bytes.now)) }
 {
     let outcome = outcome_of(alloc, 200, bytes)?;
     match paired(alloc, &outcome.headers) {
         Ok(headers) => Ok(headers),
-        Err(_) => Err(NoOutcome::OutOfMemory),
+        Err(_) => Err(Halt::OutOfMemory),
     }
 }

@@ -1,5 +1,4 @@
 -- Headers as pairs, for C.
-use Rattle.std.proofs.Common.{Err, ap}
 use Rattle.odb_ffi.specs.Headers.GivesHeaders.{Given}
 use Rattle.odb_ffi.proofs.HeaderLemmas.{not-given}
 use Rattle.odb_ffi.proofs.header_exports.odb_headers.Goals as goal
@@ -8,5 +7,4 @@ pub returns-in-Ok : goal.returns-in-Ok
 returns-in-Ok c = Given c.as_str.result.now c.deref.result.now (rw (c.as_str.ensures.value, c.deref.ensures.value) c.in-Ok.ensures.pairs) c.give_list.ensures
 
 pub returns-in-Err : goal.returns-in-Err
-returns-in-Err c =
-    not-given c.args.headers.now c.in-Err.cause c.of_no_outcome.result c.args.text.now c.args.pairs.now c.of_no_outcome.ensures.refused c.of_no_outcome.ensures.memory (λ same. c.in-Err.ensures.refused (ap Err same))
+returns-in-Err c = not-given c.args.headers.now c.in-Err.halt c.of_halt.result c.args.text.now c.args.pairs.now c.of_halt.ensures c.in-Err.ensures.refused

@@ -1,7 +1,10 @@
 -- The headers of an outcome as pairs.
-use Rattle.std.proofs.Common.{rules, subst, sym}
+use Rattle.std.proofs.Common.{IfErr, subst, sym}
 use Rattle.odb_doc.specs.Headers.{HoldsHeaders, headers_in}
 use Rattle.odb_doc.specs.declared.recorded.outcome.Outcome.{Outcome}
+use Rattle.odb_engine.specs.Halts.{Halted}
+use Rattle.odb_engine.proofs.EngineLemmas.{exit-error}
+use Rattle.odb_ffi.specs.Refused.{RefusesHeaders}
 use Rattle.odb_ffi.proofs.headers.headers_of.Goals as goal
 
 pub returns-in-Ok-clause-pairs : goal.returns-in-Ok-clause-pairs
@@ -16,4 +19,4 @@ returns-in-Ok-clause-pairs c =
     }
 
 pub returns-in_err-outcome-clause-refused : goal.returns-in_err-outcome-clause-refused
-returns-in_err-outcome-clause-refused c = λ same. c.outcome_of.ensures.refused (search (rules, same, c.in_err-outcome.was, c.in_err-outcome.is, c.from_residual.ensures))
+returns-in_err-outcome-clause-refused c = exit-error (λ r. IfErr r (Halted (RefusesHeaders c.args.bytes.now))) _ _ c.from_residual.ensures.1 c.in_err-outcome.ensures.refused
