@@ -13,7 +13,7 @@ import pytest
 from support.program import ROOT
 
 PACK = os.path.join(ROOT, "bin", "odb_page")
-MOST_BYTES = 445_000
+MOST_BYTES = 455_000
 
 
 def test_the_file(page_file, wasm, tmp_path):
