@@ -51,7 +51,8 @@ from .driver.threads import Send, Transaction, perform
 from .driver.unit_tasks import Gate, SendAsync, SendGroup
 from .errors.faults import Fault, OdbError, Refused
 from .http.messages import Answer, Answered, GroupFailed, PreparedRequest, Refusal
-from .runs import Part, RequestState, Run
+from .run_parts import Part
+from .runs import RequestState, Run
 
 __all__ = [
     "Answer", "Answered", "Command", "Counts", "Document", "Events", "Fault", "Form", "Gate", "GroupFailed", "Journal",

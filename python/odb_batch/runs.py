@@ -1,18 +1,18 @@
 """Live runs: which requests may start now, by what has been reported so far."""
 
 import ctypes
+import json
+import threading
+import weakref
 from dataclasses import dataclass
-from typing import Any, Literal, Mapping, Optional, Union, get_args
+from typing import Any, Literal, Mapping, NoReturn, Optional, SupportsIndex, Union, get_args
 
 from ._native import library
-from ._native.calls import (
-    MAX_REQUESTS, MAX_WIDTH, MORE, Mode, mode_number, policy_numbers, read_fault, read_text, require_done, require_number,
-    status_error,
-)  # fmt: skip
-from ._native.handles import LiveHandle
-from .documents.encoding import Document, Events, body_json, document_bytes, events_bytes, headers_json
+from ._native.calls import MAX_WIDTH, MORE, Mode, policy_numbers, read_fault, read_text, require_done, status_error
+from .documents.encoding import Document, Events, body_json, document_bytes, events_bytes, json_bytes
 from .documents.requests import Request, open_requests, requests
 from .errors.faults import Fault
+from .run_parts import RunParts
 from .values import Value
 
 _MAX_NUMBER = 2**32 - 1
@@ -38,17 +38,7 @@ class RequestState(Value):
     status: Optional[int]
 
 
-@dataclass(frozen=True)
-class Part(Value):
-    """A part of the batch of a live run: requests that may be sent together."""
-
-    #: A batch of these requests, in which what others have been answered stands for references to them.
-    document: bytes
-    #: The ids of its requests, in the order of the batch.
-    ids: tuple[str, ...]
-
-
-class Run(LiveHandle):
+class Run(RunParts):
     """A live run of a batch: it says which requests may start now, and in the end what the batch is answered.
 
     The caller performs the requests. It starts those that are ``ready``, in any order, and reports what
@@ -89,23 +79,30 @@ class Run(LiveHandle):
         MemoryError: An allocation failed.
     """
 
-    __slots__ = ("_ids", "_at", "_size", "_batch")
+    __slots__ = (
+        "_lock", "_handle", "_pointer", "_release", "_is_open", "_ids", "_at", "_listed", "_count", "_batch",
+        "__weakref__",
+    )  # fmt: skip
 
     def __init__(
         self, batch: Document, *, mode: Mode = "continue", width: int = MAX_WIDTH, events: Events = ()
     ) -> None:
         options, given, happened = policy_numbers(mode, width), document_bytes(batch), events_bytes(events)
-        # How many bytes the response is made of.
         self._size = len(given) + len(happened)
         # The batch, or what is to be sent of its requests, once that was asked for.
         self._batch: Union[bytes, tuple[Request, ...]] = given
-        super().__init__()
+        self._lock = threading.Lock()
+        self._handle = library.Handle()
+        self._pointer = ctypes.byref(self._handle)
         self._open(given, happened, (*options, self._pointer))
-        self._hold()
+        self._release, self._is_open = weakref.finalize(self, library.LIBRARY.odb_run_close, self._handle), True
+        # A thread may still be in a call when the process ends, and then all memory goes.
+        self._release.atexit = False
         # The ids of the requests by their positions, and the positions by the ids.
         self._ids = self._list_ids(len(given))
         self._at = {request_id: position for position, request_id in enumerate(self._ids)}
-        self._make_room(len(self._ids))
+        # Room for all positions, so that a list of some always fits.
+        self._listed, self._count = (ctypes.c_uint32 * max(len(self._ids), 1))(), ctypes.c_size_t()
 
     def _open(self, batch: bytes, events: bytes, options: tuple[Any, ...]) -> None:
         read_text("odb_run_open", batch, events, options=options)
@@ -113,6 +110,10 @@ class Run(LiveHandle):
     def _list_ids(self, size: int) -> list[str]:
         """The ids of the requests of a batch of so many bytes."""
         return read_text("odb_run_ids", options=(self._pointer,), more=size // 8).decode().splitlines()
+
+    def __reduce_ex__(self, protocol: SupportsIndex) -> NoReturn:
+        # A copy would share the handle, and one of the two would free it under the other.
+        raise TypeError("a Run cannot be copied")
 
     def __repr__(self) -> str:
         if not hasattr(self, "_is_open"):
@@ -188,7 +189,8 @@ class Run(LiveHandle):
             ValueError: The run is closed.
         """
         status, positions = self._positions("odb_run_next_unit")
-        require_done("odb_run_next_unit", status)
+        if status != library.DONE:
+            require_done("odb_run_next_unit", status)
         return tuple(map(self._ids.__getitem__, positions)) or None
 
     def request(self, id: str) -> Request:
@@ -265,89 +267,13 @@ class Run(LiveHandle):
         """
         self._begin("odb_run_start_unit", id)
 
-    def part(self, batch: Document, limit: int = MAX_REQUESTS) -> Optional[Part]:
-        """Returns the next part of the batch, or None if nothing may be sent now: requests that may be sent together as a batch
-        of their own. None of them was in a part before, and what they depend on is in this part or has succeeded.
-
-        A group is whole. Dependencies on what has succeeded are left out, and ``$a`` in a URL is replaced by the Location
-        that was reported for ``a``. A run that is not finished has a part that is not reported, or gives one. Once a part is
-        answered, pass it to :meth:`take`; or start its units by `start_unit`, in the order of the batch, and report their requests.
-
-        >>> from odb_batch import Run
-        >>> batch = {"requests": [{"id": "a", "method": "post", "url": "Orders"},
-        ...                       {"id": "b", "method": "get", "url": "$a/Lines", "dependsOn": ["a"]}]}
-        >>> with Run(batch) as run:
-        ...     run.part(batch, 1).ids
-        ...     run.start("a")
-        ...     run.report("a", 201, {"location": "/Orders(7)"})
-        ...     run.part(batch, 1).document
-        ('a',)
-        b'{"requests":[{"id":"b","method":"get","url":"/Orders(7)/Lines"}]}'
-
-        Args:
-            batch: The batch of the run.
-            limit: How many requests the part may have, from 1 to 10,000.
-
-        Raises:
-            Fault: The batch is refused, or by F90 a request of the part, at its position in the batch: it refers to one for which
-                no Location was reported that its URL may have.
-            ValueError: A group has more requests than the limit, it is another batch than that of the run, or the run is closed.
-            MemoryError: An allocation failed.
-        """
-        require_number("limit", limit, MAX_REQUESTS)
-        given = document_bytes(batch)
-        with self._lock:
-            self._require_open()
-            status, text, positions = library.call_part(self._pointer, given, limit, len(given) + MORE, self._listed)
-        if status == library.REFUSED:
-            raise read_fault(text, given)
-        if status == library.WRONG_OPTION:
-            raise ValueError("it is another batch than that of the run, or a group has more requests than the limit")
-        require_done("odb_run_part", status)
-        return Part(text, tuple(map(self._ids.__getitem__, positions))) if positions else None
-
-    def take(self, part: Part, responses: Document, *, mode: Mode = "continue") -> None:
-        """Takes what a service has answered a part, at once: starts its requests, and reports each by the response with its id.
-
-        A request that does not start, since its unit has failed or the run was stopped before, is answered 424.
-
-        >>> from odb_batch import Run
-        >>> batch = {"requests": [{"id": "a", "method": "get", "url": "Books"}]}
-        >>> with Run(batch) as run:
-        ...     run.take(run.part(batch), {"responses": [{"id": "a", "status": 200, "body": 9.990}]})
-        ...     run.response()
-        b'{"responses":[{"body":9.99,"id":"a","status":200}]}'
-
-        Args:
-            part: What :meth:`part` returned.
-            responses: The response document of the service. Each body is taken as its bytes.
-            mode: What an error does to the service; if it stops, a request without a response is answered 424.
-
-        Raises:
-            Fault: The responses do not fit the part, as for :func:`odb_batch.match`; or by F70 a response has a status below
-                200, or headers that no report has. The run is as it was.
-            ValueError: A request is running, the part was not given by this run or has started, or the run is closed.
-            MemoryError: An allocation failed.
-        """
-        answered, number = document_bytes(responses), mode_number(mode)
-        with self._lock:
-            self._require_open()
-            status, line = library.call_take(self._pointer, part.document, answered, number)
-            if status == library.DONE:
-                self._size += len(answered)
-                return
-        if status == library.REFUSED:
-            raise read_fault(line, part.document, answered)
-        if status == library.WRONG_OPTION:
-            raise ValueError("a request is running, or the part was not given by this run or has started")
-        require_done("odb_run_take", status)
-
     def _begin(self, name: str, request_id: str) -> None:
         """Calls a function that starts a request or its unit."""
         position = self._at[request_id]
         with self._lock:
             status = self._call(name, position)
-        require_done(name, status, request_id)
+        if status != library.DONE:
+            require_done(name, status, request_id)
 
     def report(self, id: str, status: int, headers: Optional[Mapping[str, str]] = None, body: Any = None) -> None:
         """Reports what a running request was answered.
@@ -372,7 +298,7 @@ class Run(LiveHandle):
         if isinstance(status, bool) or not isinstance(status, int):
             raise TypeError(f"a status is a whole number, not {status!r}")
         position = self._at[id]
-        heads, text = headers_json(headers), body if type(body) is bytes else body_json(body)
+        heads, text = _headers_json(headers), body if type(body) is bytes else body_json(body)
         number = min(max(status, 0), _MAX_NUMBER)
         with self._lock:
             end = self._call("odb_run_report", position, number, heads, len(heads), text, len(text))
@@ -395,12 +321,39 @@ class Run(LiveHandle):
             self._require_open()
             return read_text("odb_run_response", options=(self._pointer,), more=self._size)[:-1]
 
+    def close(self) -> None:
+        """Frees the run, if it is not closed yet."""
+        with self._lock:
+            self._is_open = False
+            self._release()
+
+    def _require_open(self) -> None:
+        if not self._is_open:
+            raise ValueError("the run is closed")
+
+    def _call(self, name: str, *arguments: Any) -> int:
+        """Calls a function over the open run, by the thread that has the lock; returns its status."""
+        if not self._is_open:
+            raise ValueError("the run is closed")
+        status: int = getattr(library.LIBRARY, name)(self._pointer, *arguments)
+        return status
+
+    def _list_positions(self, name: str) -> tuple[int, list[int]]:
+        """The status that a function returns, and the positions that it lists, by the thread that has the lock."""
+        status = self._call(name, self._listed, len(self._listed), self._count)
+        return status, self._listed[: self._count.value]
+
     def _state(self) -> str:
         """How far the open run is, by the thread that has the lock."""
         if self._call("odb_run_finished"):
             return "finished"
         ready, running = (len(self._list_positions(name)[1]) for name in ("odb_run_ready", "odb_run_running"))
         return f"{ready} ready, {running} running"
+
+    def _positions(self, name: str) -> tuple[int, list[int]]:
+        """The status that a function returns, and the positions that it lists."""
+        with self._lock:
+            return self._list_positions(name)
 
     def _list(self, name: str) -> tuple[str, ...]:
         """The ids of the requests that a function lists, in the order of the batch."""
@@ -423,6 +376,21 @@ class ListedRun(Run):
 
     def _list_ids(self, size: int) -> list[str]:
         return [request.id for request in self.requests]
+
+
+# Writes a string; for an object json takes several times as long as for its strings.
+_encode = json.JSONEncoder(ensure_ascii=False).encode
+
+
+def _headers_json(headers: Optional[Mapping[str, str]]) -> bytes:
+    """The JSON text of the headers of a report; nothing without them."""
+    if headers is None:
+        return b""
+    given = dict(headers)
+    if not {*map(type, given), *map(type, given.values())} <= {str}:
+        return json_bytes(given)
+    texts = ",".join([f"{_encode(name)}:{_encode(value)}" for name, value in given.items()])
+    return f"{{{texts}}}".encode("utf-8", "surrogatepass")
 
 
 def _report_error(headers: bytes, body: bytes) -> Exception:

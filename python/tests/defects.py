@@ -15,7 +15,7 @@ DEFECTS = {
     "success-before-the-commit": (
         "driver/execution", "if answer.is_success:\n                return", "", PERFORM, "commit",
     ),
-    "a-commit-without-a-body": ("driver/execution", "answer, _ = write_body(self._requests[unit.ids[-1]], answer)", "pass", PERFORM, "cannot_be_written"),
+    "a-commit-without-a-body": ("driver/execution", "answer, _ = self._write_body(unit.ids[-1], answer)", "pass", PERFORM, "cannot_be_written"),
     "success-without-an-answer": (
         "driver/threads", "with transaction(unit.group):\n", "answer = Answer(200)\n        with transaction(unit.group):\n",
         PERFORM, "swallows_all",
@@ -50,7 +50,7 @@ DEFECTS = {
     "any-status": ("http/messages", "if 200 <= status <= 599 else 502", "", PERFORM, "an_answer_that_is_none"),
     "a-late-stop": ("driver/execution", "except Refused:\n                continue", "except KeyError:\n                continue", PERFORM, "while_a_unit_begins"),
     "no-stop": ("driver/execution", "if not self._is_stopped and is_to_stop():", "if False:", PERFORM, "a_stop_answers"),
-    "broken-json-ends-all": ("driver/reports", "except Fault:\n        headers", "except KeyError:\n        headers", PERFORM_REQUESTS, "of_answers"),
+    "broken-json-ends-all": ("driver/execution", "except Fault:\n            headers", "except KeyError:\n            headers", PERFORM_REQUESTS, "of_answers"),
     "a-place-that-stays-free": ("driver/unit_tasks", "self._begin_units()\n        except", "self._out or self._begin_units()\n        except", PERFORM_ORDER, "place"),
     "any-number-of-requests": ("driver/execution", "if len(run.requests) > limit:", "if False:", PERFORM, "that_is_refused"),
     "a-cancelled-batch-goes-on": ("driver/unit_tasks", 'return self._is_cancelled or getattr(asyncio.current_task(), "cancelling", int)() > 0', "return False", PERFORM_ORDER, "cancellation"),

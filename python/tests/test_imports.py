@@ -17,7 +17,7 @@ LAYERS = [
     {"values", "arguments", "documents.encoding", "errors"},
     {"_native"},
     {"documents"},
-    {"commands", "runs"},
+    {"commands", "run_parts", "runs"},
     {"http"},
     {"driver"},
     {""},

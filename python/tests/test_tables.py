@@ -8,7 +8,7 @@ from odb_batch import commands, runs
 from odb_batch._native import calls, library
 from odb_batch.client import _builder
 from odb_batch.documents import encoding
-from odb_batch.driver import reports
+from odb_batch.driver import execution
 from odb_batch.http import batch_request
 from odb_batch.testing import _strategies
 
@@ -23,7 +23,7 @@ def test_the_names_of_numbers():
 def test_limits():
     assert CONSTANTS["limits"] == {
         "body_levels": 124,
-        "document_bytes": reports.MAX_BODY_BYTES,
+        "document_bytes": execution.MAX_BODY_BYTES,
         "document_levels": encoding._MAX_LEVELS,
         "requests": calls.MAX_REQUESTS,
         "width": calls.MAX_WIDTH,
@@ -36,7 +36,7 @@ def test_headers():
         "allowed_prefixes": batch_request._ALLOWED_PREFIXES,
         "not_inherited": batch_request._NOT_INHERITED,
         "not_inherited_prefixes": batch_request._NOT_INHERITED_PREFIXES,
-        "not_shown": reports._NOT_SHOWN,
+        "not_shown": execution._NOT_SHOWN,
         "of_connection": batch_request._OF_CONNECTION,
         "usually_dropped": batch_request._USUALLY_DROPPED,
     }

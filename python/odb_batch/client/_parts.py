@@ -14,7 +14,8 @@ from ..errors.faults import Fault, Refused
 from ..http.batches import read_answers, replace_headers, responses_json
 from ..http.bodies import to_json
 from ..http.messages import BROKEN, LOG, TIMED_OUT, Answer, Answered, Refusal
-from ..runs import ListedRun, Part
+from ..run_parts import Part
+from ..runs import ListedRun
 from ._transports import Posted, is_timeout, read_response, to_answer
 
 # The library reads a batch for each part of it. One with more requests is cut into longer parts first, each a batch of its own.

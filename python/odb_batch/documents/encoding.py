@@ -77,8 +77,6 @@ def _to_dict(value: Any) -> dict[Any, Any]:
     raise TypeError(f"{type(value).__name__} has no JSON")
 
 
-# Writes a string; for an object json takes several times as long as for its strings.
-_encode_text = json.JSONEncoder(ensure_ascii=False).encode
 _ENCODER = json.JSONEncoder(ensure_ascii=False, separators=(",", ":"), default=_to_dict)
 # Of a body: a NaN or an infinity raises a ValueError, while one in a document is refused by the library.
 _BODY_ENCODER = json.JSONEncoder(ensure_ascii=False, allow_nan=False, separators=(",", ":"), default=_to_dict)
@@ -128,17 +126,6 @@ def body_json(body: Any) -> bytes:
     if isinstance(body, (bytes, bytearray, memoryview)):
         return document_bytes(body)
     return b"" if body is None else _json_bytes(body, _BODY_ENCODER)
-
-
-def headers_json(headers: Optional[Mapping[str, str]]) -> bytes:
-    """The JSON text of the headers of a report; nothing without them."""
-    if headers is None:
-        return b""
-    given = dict(headers)
-    if not {*map(type, given), *map(type, given.values())} <= {str}:
-        return json_bytes(given)
-    texts = ",".join([f"{_encode_text(name)}:{_encode_text(value)}" for name, value in given.items()])
-    return f"{{{texts}}}".encode("utf-8", "surrogatepass")
 
 
 def document_bytes(document: Document) -> bytes:

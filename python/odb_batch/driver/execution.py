@@ -4,10 +4,12 @@ from dataclasses import dataclass
 from typing import Callable, Generator, Optional, Sequence, Union
 
 from .._native.calls import MAX_WIDTH, Mode
+from .._native.constants import listed_names
 from ..commands import plan
 from ..documents.encoding import Report, Start
 from ..documents.requests import Request
 from ..errors.faults import Fault, Refused
+from ..http.bodies import text_json, to_json
 from ..http.messages import (
     FAILED, LOG, Answer, Answered, GroupFailed, PreparedRequest, Refusal, answer_for, validate_answer,
 )  # fmt: skip
@@ -15,7 +17,7 @@ from ..runs import ListedRun
 from .groups import SKIPPED, MemberRefused, PreparedGroup
 from .journal import Journal, JournalEvent, ReportUnit, StartUnit, Stop
 from .references import ReferenceResolver
-from .reports import Reported, report_answer, write_body
+from .replaying import replay_events
 
 
 @dataclass(eq=False)
@@ -40,6 +42,11 @@ class Unit:
         return self.ids[0] if self.group is None else f"the group {self.group}"
 
 
+# Headers of an answer that speak of its connection, or have no place in JSON: Set-Cookie may come several times.
+_NOT_SHOWN = frozenset(listed_names("headers", "not_shown"))
+# How many bytes of a body a live run takes.
+MAX_BODY_BYTES = 16_777_216
+TOO_LONG = Refusal(507, "TooLong", "The answer is too long for a batch").answer
 # The answer to what was out when a process ended, and is not sent again.
 LOST = Refusal(500, "Lost", "The gateway was ended: it is not known whether the request was performed").answer
 
@@ -99,7 +106,7 @@ class Execution:
         # How many requests are of units that have not begun.
         self._left = len(given)
         try:
-            self.resumed = self._resume(happened)
+            self.resumed = self._resume(happened) if happened else []
         except (Fault, Refused, LookupError, TypeError, ValueError) as error:
             self.close()
             raise ValueError(f"the journal has an event that is not one of this batch: {error}") from None
@@ -111,37 +118,16 @@ class Execution:
     def _resume(self, events: Sequence[JournalEvent]) -> list[Unit]:
         """Takes what has happened before; returns the units that were out and are sent again, which are GETs. The
         others that were out are lost."""
-        out: dict[str, None] = {}
-        for event in events:
-            if isinstance(event, (Report, ReportUnit)):
-                for report in event.reports if isinstance(event, ReportUnit) else (event,):
-                    self._replay_report(report)
-                    del out[report.id]
-            elif isinstance(event, Stop):
-                self._run.stop()
-            elif isinstance(event, StartUnit):
-                self._run.start_unit(event.ids[0])
-                out.update(dict.fromkeys(event.ids))
-                self._left -= len(event.ids)
+        begun, out = replay_events(events, self._run, self.resolver)
+        self._left -= begun
+        again = []
+        for request in map(self._requests.__getitem__, out):
+            if request.method == "GET" and request.group is None:
+                again.append(Unit((request.id,), None, request.id, is_noted=True))
             else:
-                self._run.start(event.id)
-                out[event.id] = None
-                self._left -= 1
-        again = {request_id for request_id in out if self._is_get(request_id)}
-        for request_id in [request_id for request_id in out if request_id not in again]:
-            LOG.error("%s was out when a process ended, and is lost", request_id)
-            self._report_and_note(request_id, LOST)
-        return [Unit((request_id,), None, request_id, is_noted=True) for request_id in out if request_id in again]
-
-    def _is_get(self, request_id: str) -> bool:
-        """Whether a request is a GET that is sent alone, so that it may be sent again."""
-        return self._requests[request_id].method == "GET" and self._requests[request_id].group is None
-
-    def _replay_report(self, event: Report) -> None:
-        headers = dict(event.headers or {})
-        self._run.report(event.id, event.status, headers or None, event.body)
-        if event.id in self.resolver.referred:
-            self.resolver.record(event.id, Answer(event.status, headers, event.body))
+                LOG.error("%s was out when a process ended, and is lost", request.id)
+                self._report_and_note(request.id, LOST)
+        return again
 
     def begin(self, count: int) -> list[Unit]:
         """Starts the first request of each unit that may begin, or all of them if it is a group that is sent as one; of so many
@@ -271,7 +257,7 @@ class Execution:
     def _report_member(self, unit: Unit, answer: Answer) -> None:
         """Reports the open request of a group; the last one only if it fails, since it is reported after the commit."""
         if unit.open == unit.ids[-1]:
-            answer, _ = write_body(self._requests[unit.ids[-1]], answer)
+            answer, _ = self._write_body(unit.ids[-1], answer)
             if answer.is_success:
                 return
         self.finish(unit, answer)
@@ -302,19 +288,64 @@ class Execution:
             request_id, unit.open = unit.open, None
             self._report_and_note(request_id, answer or FAILED)
 
+    def _write_body(self, request_id: str, answer: Answer) -> tuple[Answer, bytes]:
+        """Returns an answer to a request, and the text of its body; that of a failure if the body cannot be written. If it is
+        too long for a response a GET is refused; any other request was performed, so its answer loses the body."""
+        try:
+            text = to_json(answer, answer.headers)
+        except Exception as error:
+            LOG.error("the body of the answer to %s cannot be written", request_id, exc_info=error)
+            return FAILED, to_json(FAILED, {})
+        if len(text) <= MAX_BODY_BYTES:
+            return answer, text
+        LOG.error("the body of the answer to %s has more than %d bytes", request_id, MAX_BODY_BYTES)
+        if self._requests[request_id].method == "GET":
+            return TOO_LONG, to_json(TOO_LONG, TOO_LONG.headers)
+        return Answer(answer.status, answer.headers), b""
+
     def _report_and_note(self, request_id: str, answer: Answer) -> None:
         reported = self._report(request_id, answer)
         if self._journal is not None:
             self._journal.write(Report(request_id, *reported))
 
-    def _report(self, request_id: str, answer: Answer) -> Reported:
+    def _report(self, request_id: str, answer: Answer) -> tuple[int, dict[str, str], Optional[bytes]]:
         """Reports the answer to a request; returns the status, the headers and the body that the event has."""
-        answer, text = write_body(self._requests[request_id], answer)
+        answer, text = self._write_body(request_id, answer)
         if request_id in self.resolver.referred:
             self.resolver.record(request_id, answer)
         # Before the report, after which another thread may begin what it allows.
         self._has_failed = self._has_failed or (self._mode == "stop" and answer.status >= 400)
-        return report_answer(self._run, request_id, answer, text)
+        headers = dict(answer.headers)
+        if not _NOT_SHOWN.isdisjoint(headers):
+            headers = {name: value for name, value in headers.items() if name not in _NOT_SHOWN}
+        try:
+            self._run.report(request_id, answer.status, headers or None, text)
+        except Fault:
+            headers, text = self._report_unread(request_id, answer, headers, text)
+        return answer.status, headers, text or None
+
+    def _report_unread(
+        self, request_id: str, answer: Answer, headers: dict[str, str], text: bytes
+    ) -> tuple[dict[str, str], bytes]:
+        """Reports an answer that the run cannot read: with its body as a string, or else without the headers that are
+        not in ASCII, or both. Returns what it has reported."""
+        wire = bytes(answer.body) if isinstance(answer.body, (bytes, bytearray, memoryview)) else text
+        string = text_json(wire, {}) if wire else b""
+        string = string if len(string) <= MAX_BODY_BYTES else b""
+        plain = {name: value for name, value in headers.items() if name.isascii() and value.isascii()}
+        for heads, body in ((headers, string), (plain, text), (plain, string)):
+            try:
+                self._run.report(request_id, answer.status, heads or None, body)
+            except Fault:
+                if (heads, body) == (plain, string):
+                    raise
+                continue
+            if heads != headers:
+                LOG.warning("the answer to %s has a header that is not Unicode", request_id)
+            if body != text:
+                LOG.warning("the answer to %s has a body that is not JSON", request_id)
+            break
+        return heads, body
 
     def response(self) -> bytes:
         """Returns the response document of the finished run.

@@ -5,7 +5,7 @@ import sys
 from dataclasses import dataclass, field, fields
 from typing import Any, Callable, Optional, Sequence, Union
 
-from ..driver.reports import MAX_BODY_BYTES
+from ..driver.execution import MAX_BODY_BYTES
 from ..http.budget import DEFAULT_MEMORY
 from ..http.observation import OnRequest
 from . import _values as values

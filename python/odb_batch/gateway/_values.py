@@ -10,7 +10,7 @@ from urllib.parse import urlsplit
 from .. import arguments
 from .._native.calls import MAX_WIDTH
 from ..arguments import require
-from ..driver.reports import MAX_BODY_BYTES
+from ..driver.execution import MAX_BODY_BYTES
 from ..http.batch_request import is_of_connection
 from ..http.observation import OnRequest
 from ._credentials import is_own
