@@ -403,7 +403,7 @@ export class Run {
    * the responses do not fit the part, as for `match`, or by F70 if one has a status below 200 or headers that no report has; and a
    * `RangeError` if a request is running, or the part was not given by this run or has started. Then the run is as it was.
    */
-  take(part: Part, responses: Document, options?: { mode?: Mode }): void
+  take(part: Part, responses: Document, options?: { mode?: 'continue' | 'stop' }): void
 
   /**
    * Reports what a running request was answered. A request without any answer, as over a connection that

@@ -18,8 +18,6 @@ const { replaceHeaders } = require('./rest.js')
 const SKIPPED = { status: 424, headers: {}, body: Buffer.alloc(0) }
 // What is recorded of a request that is not sent any more: neither it nor what depends on it is left then.
 const SETTLED = 400
-// What stands for a status that may not be reported.
-const BROKEN = 502
 // The library reads a batch for each part of it. One with more requests is cut into longer parts first, each a batch of its own.
 const MANY = 1000
 
@@ -33,18 +31,16 @@ function onWire({ status, headers, body }) {
   return { status, headers, body: Buffer.from(typeof body === 'string' ? body : bodyBytes(body)) }
 }
 
-/** The ids of each unit, by the name of the group or the id of a request without one; or a RangeError for a group that is too long. */
-function unitsOf(groups, limit) {
-  const units = new Map()
-  for (const [id, group] of groups) {
-    const name = group ?? id
-    if (units.has(name)) units.get(name).push(id)
-    else units.set(name, [id])
+/** Throws unless a part may have as many requests as a limit, and each of the groups of some requests has a place in it. */
+function requireLimit(limit, groups) {
+  if (!Number.isInteger(limit) || limit < 1 || limit > MAX_REQUESTS) {
+    throw new RangeError(`limit must be a whole number from 1 to ${MAX_REQUESTS}, not ${String(limit)}`)
   }
-  for (const [group, { length }] of units) {
-    if (length > limit) throw new RangeError(`the group ${group} has ${length} requests, and a batch may have ${limit}`)
+  const sizes = new Map()
+  for (const group of groups) if (group !== null) sizes.set(group, (sizes.get(group) ?? 0) + 1)
+  for (const [group, size] of sizes) {
+    if (size > limit) throw new RangeError(`the group ${group} has ${size} requests, and a batch may have ${limit}`)
   }
-  return units
 }
 
 class Parts {
@@ -63,7 +59,6 @@ class Parts {
   #requests
   #run
   #groups
-  #units
   #references
   // The part that is out; the requests that are not sent any more, and whether what is left has some that never were.
   #part
@@ -73,17 +68,14 @@ class Parts {
 
   /** Throws a Fault for a batch that is refused, and a RangeError for a limit that cannot be kept. */
   constructor(document, { limit = MAX_REQUESTS, mode = 'continue' }) {
-    if (!Number.isInteger(limit) || limit < 1 || limit > MAX_REQUESTS) {
-      throw new RangeError(`limit must be a whole number from 1 to ${MAX_REQUESTS}, not ${String(limit)}`)
-    }
     this.#limit = limit
     this.#mode = mode
     this.document = document
     this.#open(document)
     this.#groups = new Map(this.#requests.map(({ id, group }) => [id, group]))
+    requireLimit(limit, this.#groups.values())
     const count = this.#groups.size
     this.#most = count <= Math.max(MANY, 4 * limit) ? limit : Math.floor(Math.sqrt(count * limit))
-    this.#units = unitsOf(this.#groups, limit)
     this.#references = new References(this.#requests)
     this.answers = new Map(this.#requests.map(({ id }) => [id, SKIPPED]))
   }
@@ -145,7 +137,7 @@ class Parts {
         headers.set(id, this.#references.headers(id, inside))
       } catch (error) {
         if (!(error instanceof Refusal)) throw error
-        this.#refuse(id, error.answer)
+        this.#refuse(new Map([[id, error.answer]]))
         break
       }
     }
@@ -160,18 +152,22 @@ class Parts {
     const [first, ...others] = this.#requests.slice(position)
     const lacks = (id) => isSuccess(this.answers.get(id)) && this.#recorded(id).headers.location === undefined
     const alike = this.#mode === 'stop' ? [] : others.filter(({ reference }) => reference !== null && lacks(reference))
-    for (const { id, reference } of [first, ...alike]) {
+    this.#refuse(new Map([first, ...alike].map(({ id, reference }) => {
       const message = `${reference} was answered without a URL that ${id} may have`
-      this.#refuse(id, new Refusal(424, 'NoLocation', message, { target: reference }).answer)
-    }
+      return [id, new Refusal(424, 'NoLocation', message, { target: reference }).answer]
+    })))
   }
 
-  /** Answers a request that cannot be sent, and its group. In mode stop nothing is sent that comes after it. */
-  #refuse(id, answer) {
-    const ids = this.#units.get(this.#groups.get(id) ?? id)
-    for (const other of ids) this.answers.set(other, onWire(answer))
-    const all = [...this.#groups.keys()]
-    for (const other of this.#mode === 'stop' ? [...ids, ...all.slice(all.indexOf(id))] : ids) this.#settled.add(other)
+  /** Answers requests that cannot be sent, by their ids, and their groups. In mode stop nothing is sent that comes after them. */
+  #refuse(refused) {
+    const units = new Map(Array.from(refused, ([id, answer]) => [this.#groups.get(id) ?? id, onWire(answer)]))
+    let isAfter = false
+    for (const [id, group] of this.#groups) {
+      const answer = units.get(group ?? id)
+      if (answer !== undefined) this.answers.set(id, answer)
+      isAfter ||= this.#mode === 'stop' && refused.has(id)
+      if (answer !== undefined || isAfter) this.#settled.add(id)
+    }
     this.#isToCut = true
   }
 
@@ -218,32 +214,31 @@ class Parts {
 
   /** Notes what the requests of the part that is out were answered, and reports it; one without an answer was skipped. */
   #settle(found) {
-    const names = new Set(this.#part.ids.map((id) => this.#groups.get(id) ?? id))
-    for (const ids of Array.from(names, (name) => this.#units.get(name))) {
-      for (const id of ids) {
-        const answer = found.get(id) ?? SKIPPED
-        this.answers.set(id, answer)
-        this.#settled.add(id)
-        if (isSuccess(answer) && this.#references.referred.has(id)) this.#references.keep(id, answer.headers, answer.body)
-      }
-      if (!this.#isStopped) this.#report(ids)
+    const { ids } = this.#part
+    for (const id of ids) {
+      const answer = found.get(id) ?? SKIPPED
+      this.answers.set(id, answer)
+      this.#settled.add(id)
+      if (isSuccess(answer) && this.#references.referred.has(id)) this.#references.keep(id, answer.headers, answer.body)
     }
+    if (this.#isStopped) return
+    const units = new Map(ids.map((id) => [this.#groups.get(id) ?? id, []]))
+    for (const id of ids) units.get(this.#groups.get(id) ?? id).push(this.#recorded(id))
+    for (const recorded of units.values()) this.#report(recorded)
   }
 
   /** Reports what the requests of a unit were answered, unless it was skipped, since what it needs has failed. */
-  #report(ids) {
-    const recorded = ids.map((id) => this.#recorded(id))
+  #report(recorded) {
     const failed = recorded.filter((response) => !isSuccess(response)).map(({ status }) => status)
     try {
-      this.#run.startUnit(ids[0])
+      this.#run.startUnit(recorded[0].id)
     } catch (error) {
       if (error instanceof Refused) return
       throw error
     }
     for (const { id, status, headers } of recorded) {
       // A 424 beside a 3xx is no error: it is that of a member that was undone.
-      const reported = status === SKIPPED.status ? Math.min(...failed) : status
-      this.#run.report(id, reported < 200 ? BROKEN : reported, headers)
+      this.#run.report(id, status === SKIPPED.status ? Math.min(...failed) : status, headers)
     }
   }
 

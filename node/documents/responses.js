@@ -5,7 +5,7 @@
 const { responses } = require('../calls/responses.js')
 const { Refusal } = require('../errors/refusals.js')
 const { isJson, mediaType, toWire } = require('../http/bodies.js')
-const { foldHeaders } = require('../http/messages.js')
+const { finalStatus, foldHeaders } = require('../http/messages.js')
 
 /** The headers of a response; what is not a text or a number is left out, since no rule asks for them. */
 function readHeaders(members) {
@@ -41,7 +41,7 @@ function readResponses(document) {
   return new Map(responses(document).map((response) => {
     const headers = readHeaders(response.headers && JSON.parse(response.headers.toString()))
     const body = response.body === undefined ? Buffer.alloc(0) : wireBytes(response.body, headers)
-    return [response.id, { status: response.status, headers, body }]
+    return [response.id, { status: finalStatus(response.status), headers, body }]
   }))
 }
 

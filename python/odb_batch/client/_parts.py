@@ -3,7 +3,7 @@
 import contextlib
 import itertools
 import math
-from collections import defaultdict
+from collections import Counter
 from typing import Awaitable, Callable, Mapping, Optional
 
 from .._native.calls import MAX_REQUESTS, Mode, require_number
@@ -48,13 +48,9 @@ class Parts:
         # What is left of the batch since something could not be sent, and the run of that.
         self._left, self._run = document, ListedRun(document, mode=mode)
         self._groups = {request.id: request.group for request in self._run.requests}
-        # The ids of each unit, by the name of the group or the id of a request without one.
-        self._units: "dict[str, list[str]]" = defaultdict(list)
-        for request_id, group in self._groups.items():
-            self._units[group or request_id].append(request_id)
-        for name, ids in self._units.items():
-            if len(ids) > limit:
-                raise ValueError(f"the group {name} has {len(ids)} requests, and a batch may have {limit}")
+        for group, size in Counter(self._groups.values()).items():
+            if group is not None and size > limit:
+                raise ValueError(f"the group {group} has {size} requests, and a batch may have {limit}")
         self._resolver = ReferenceResolver(self._run.requests)
         self.answers: dict[str, Answer] = dict.fromkeys(self._groups, SKIPPED)
         self.error: Optional[Exception] = None
@@ -102,7 +98,7 @@ class Parts:
             except Fault as fault:
                 self._refuse_from(int(fault.place.rpartition("/")[2]))
             except MemberRefused as refused:
-                self._refuse(refused.id, refused.answer)
+                self._refuse({refused.id: refused.answer})
         return False
 
     def _replace_tags(self, part: Part) -> bytes:
@@ -123,17 +119,20 @@ class Parts:
         done = (name for name in self._resolver.referred if self.answers[name].is_success)
         lacking = {name for name in done if "location" not in self._recorded(name).headers}
         alike = [request for request in others if request.reference in lacking] if self._mode == "continue" else []
-        for request in (first, *alike):
-            message = f"{request.reference} was answered without a URL that {request.id} may have"
-            self._refuse(request.id, Refusal(424, "NoLocation", message, request.reference).answer)
+        message = "%s was answered without a URL that %s may have"
+        self._refuse({
+            request.id: Refusal(424, "NoLocation", message % (request.reference, request.id), request.reference).answer
+            for request in (first, *alike)
+        })  # fmt: skip
 
-    def _refuse(self, request_id: str, answer: Answer) -> None:
-        """Answers a request that cannot be sent, and its group. In mode stop nothing is sent that comes after it."""
-        ids = self._units[self._groups[request_id] or request_id]
-        self.answers.update(dict.fromkeys(ids, answer))
-        self._settled.update(ids)
+    def _refuse(self, refused: Mapping[str, Answer]) -> None:
+        """Answers requests that cannot be sent, and their groups. In mode stop nothing is sent that comes after them."""
+        units = {self._groups[request_id] or request_id: answer for request_id, answer in refused.items()}
+        found = {name: units[group or name] for name, group in self._groups.items() if (group or name) in units}
+        self.answers.update(found)
+        self._settled.update(found)
         if self._mode == "stop":
-            self._settled.update(itertools.dropwhile(request_id.__ne__, self._groups))
+            self._settled.update(itertools.dropwhile(lambda name: name not in refused, self._groups))
         self._is_to_cut = True
 
     def _cut(self) -> None:
@@ -174,24 +173,23 @@ class Parts:
     def _settle(self, found: Mapping[str, Answer]) -> None:
         """Notes what the requests of the part that is out were answered, and reports it; one without an answer was skipped."""
         self._settled.update(self._part.ids)
-        for name in dict.fromkeys(self._groups[request_id] or request_id for request_id in self._part.ids):
-            ids = self._units[name]
-            for request_id in ids:
-                answer = self.answers[request_id] = found.get(request_id, SKIPPED)
-                if answer.is_success and request_id in self._resolver.referred:
-                    self._resolver.record(request_id, answer)
-            if not self._is_stopped:
-                self._report(ids)
+        for request_id in self._part.ids:
+            answer = self.answers[request_id] = found.get(request_id, SKIPPED)
+            if answer.is_success and request_id in self._resolver.referred:
+                self._resolver.record(request_id, answer)
+        if not self._is_stopped:
+            for _, unit in itertools.groupby(self._part.ids, lambda name: self._groups[name] or name):
+                self._report([*unit])
 
     def _report(self, ids: list[str]) -> None:
         """Reports what the requests of a unit were answered, unless it was skipped, since what it needs has failed."""
         failed = [self.answers[request_id].status for request_id in ids if not self.answers[request_id].is_success]
         with contextlib.suppress(Refused):
             self._run.start_unit(ids[0])
-            for answer, request_id in ((self._recorded(request_id), request_id) for request_id in ids):
+            for request_id in ids:
+                answer = self._recorded(request_id)
                 # A 424 beside a 3xx is no error: it is that of a member that was undone.
-                status = min(failed) if answer.status == 424 else answer.status
-                self._run.report(request_id, status if status >= 200 else BROKEN.status, answer.headers)
+                self._run.report(request_id, min(failed) if answer.status == 424 else answer.status, answer.headers)
 
     def _recorded(self, request_id: str) -> Answer:
         """Returns the status that a request was answered, with the URL and the ETag of what others refer to as headers."""

@@ -60,7 +60,8 @@ def responses_json(answers: Mapping[str, Answer], groups: Mapping[str, Optional[
 
 
 def read_answers(document: bytes) -> dict[str, Answer]:
-    """Returns what each request was answered, by its id: header names in lower case, the body as bytes on the wire.
+    """Returns what each request was answered, by its id: header names in lower case, the body as bytes on the wire. A status
+    below 200 becomes 502.
 
     Args:
         document: A response document (OData JSON Format 4.01, section 19.5) that :func:`odb_batch.match` accepts.
@@ -70,7 +71,8 @@ def read_answers(document: bytes) -> dict[str, Answer]:
     found = {}
     for response, own in zip(given, headers):
         body = response.body or b""
-        found[response.id] = Answer(response.status, own, body if is_json(own) or not body else _wire(body, own))
+        status = response.status if response.status >= 200 else 502
+        found[response.id] = Answer(status, own, body if is_json(own) or not body else _wire(body, own))
     return found
 
 
