@@ -252,7 +252,7 @@ reaches_live first sends ends last reached some going wide fresh can sendable fa
     let still : late.plan_graph ≡ first.plan_graph = plan_graph-after_all_live middle two.events ∙ same in
     let sized_late : size late ≡ n = ap (λ (plan : PlanGraph). length plan.units) still in
     let three : Reaches late (IsLate n last n) = all_late late n last n (le_refl n)
-        (record { events = []; run = tt; holds = late_from sends ends last count n late sized_late two.holds (subst (λ plan. EndInFailure plan sends ends last) (sym still) fail) }) in
+    (record { events = []; run = tt; holds = late_from sends ends last count n late sized_late two.holds (subst (λ plan. EndInFailure plan sends ends last) (sym still) fail) }) in
     let end : ReachesLive late (HasEnds n last) = by_singles late (HasEnds n last) (record { events = three.events; run = three.run; holds = λ i within. three.holds.below i within }) in
     let rest : ReachesLive middle (HasEnds n last) = further middle (IsSending sends (λ i. early (ends i)) count count) (HasEnds n last) two end in
     let live : ReachesLive first (λ state. state ≡ middle) = by_singles first (λ state. state ≡ middle) (record { events = one.events; run = one.run; holds = refl }) in

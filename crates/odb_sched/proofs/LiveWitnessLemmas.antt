@@ -300,8 +300,8 @@ module _ (plan : PlanGraph) (statuses : ℕ → ℕ) (laws : IsPlan plan) (possi
     is_over : (stopped : Bool) → (not (any_below (length plan.units) (λ i. is_running (get_or phases i Unstarted))) && (stopped || all_below (length plan.units) (λ i. is_reported (get_or phases i Unstarted) || failed_in plan phases (unit_of plan i)))) ≡ true
     is_over stopped = and_from _ _
         (not_from_false _ (false_from_ne_true _ (λ e.
-            let (i, within, runs) = (any_below-Decides (length plan.units) (λ j. is_running (get_or phases j Unstarted))).0 e in
-            both_ways _ (none_runs i within) runs)))
+        let (i, within, runs) = (any_below-Decides (length plan.units) (λ j. is_running (get_or phases j Unstarted))).0 e in
+        both_ways _ (none_runs i within) runs)))
         (or_right stopped _ ((all_below-Decides (length plan.units) (λ j. is_reported (get_or phases j Unstarted) || failed_in plan phases (unit_of plan j))).1 over_at))
 
 -- the ends in a state whose plan is the same

@@ -51,23 +51,23 @@ returns-clause-result g c =
       dependencies_first = ended;
       one_per_id = subst (λ rs. HasOnePerId rs (response_value trace.done)) c.in_ok-trace.ensures.plan c.every_response.ensures.one_per_id;
       read_again = λ recordable.
-        let listed : ListsFit batch (response_value trace.done) = subst (λ rs. ListsFit rs (response_value trace.done)) c.in_ok-trace.ensures.plan c.every_response.ensures.fits in
-        record {
-        value = response_value trace.done;
-        reads = c.every_response.ensures.line (readable-answers batch (entries c.args.outcomes) trace.done c.len-count.ensures.well_formed offers recordable);
-        document = c.every_response.ensures.document;
-        fits = listed;
-        possible = λ places statuses table. (c.every_possible.ensures c.args.replay.policy.mode (status_at statuses)).1 (record {
-          policy = c.args.replay.policy;
-          mode_is = refl;
-          events = course.events;
-          run = course.course.run;
-          finished = subst (λ (s : State). is_finished s ≡ true) course.last_is course.finished;
-          answered = λ i within. ap (λ (s : State). status_of (answer s i)) (sym course.last_is)
-              ∙ c.every_response.ensures.table listed.listed places statuses listed.says (subst (λ rs. IsTableOf rs listed.listed places statuses) (sym c.in_ok-trace.ensures.plan) table) i
-              (subst (λ (s : State). i < size s) (sym course.last_is) (subst (λ (plan : PlanGraph). i < length plan.units) (sym (plan_graph-after_all first course.events)) within));
-        });
-      };
+          let listed : ListsFit batch (response_value trace.done) = subst (λ rs. ListsFit rs (response_value trace.done)) c.in_ok-trace.ensures.plan c.every_response.ensures.fits in
+          record {
+            value = response_value trace.done;
+            reads = c.every_response.ensures.line (readable-answers batch (entries c.args.outcomes) trace.done c.len-count.ensures.well_formed offers recordable);
+            document = c.every_response.ensures.document;
+            fits = listed;
+            possible = λ places statuses table. (c.every_possible.ensures c.args.replay.policy.mode (status_at statuses)).1 (record {
+              policy = c.args.replay.policy;
+              mode_is = refl;
+              events = course.events;
+              run = course.course.run;
+              finished = subst (λ (s : State). is_finished s ≡ true) course.last_is course.finished;
+              answered = λ i within. ap (λ (s : State). status_of (answer s i)) (sym course.last_is)
+                  ∙ c.every_response.ensures.table listed.listed places statuses listed.says (subst (λ rs. IsTableOf rs listed.listed places statuses) (sym c.in_ok-trace.ensures.plan) table) i
+                  (subst (λ (s : State). i < size s) (sym course.last_is) (subst (λ (plan : PlanGraph). i < length plan.units) (sym (plan_graph-after_all first course.events)) within));
+            });
+          };
     }
 
 pub returns-clause-whole : goal.returns-clause-whole
