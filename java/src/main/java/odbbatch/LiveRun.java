@@ -274,18 +274,11 @@ public final class LiveRun implements AutoCloseable {
         RefusedException.settle(end, id);
     }
 
-    /** Why headers or a body are refused: the fault that the same report has as a recorded event. */
+    /** Why headers or a body are refused. */
     private static FaultException whyRefused(byte[] heads, byte[] body) {
-        byte[] events = Bodies.joined("{\"events\":[{\"report\":\"\",\"status\":200,\"headers\":", heads.length == 0 ? "null" : heads,
-            ",\"body\":", body.length == 0 ? "null" : body, "}]}");
-        try {
-            Odb.run(bytes("{\"requests\":[]}"), events, Mode.CONTINUE, 1);
-        } catch (FaultException fault) {
-            if (!fault.code().equals("F65")) { // they were read, so one is JSON only together with what is around it here
-                return new FaultException(new Fault(fault.code(), fault.name(), "report", null, null));
-            }
-        }
-        return new FaultException(new Fault("F02", "NotJson", "report", null, null));
+        Fault fault = Fault.of(write(256, (text, room, length) -> odb_report_fault(
+            some(heads), heads.length, some(body), body.length, text, room, length)).string().trim(), null, null);
+        return new FaultException(new Fault(fault.code(), fault.name(), "report", null, null));
     }
 
     /**

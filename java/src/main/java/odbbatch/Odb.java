@@ -251,8 +251,22 @@ public final class Odb {
      * @throws FaultException a document is refused, or they do not fit
      */
     public static Map<String, Integer> match(byte[] batch, byte[] responses, Mode mode, boolean isStrict) {
+        return match(batch, responses, mode, isStrict ? 1 : 0);
+    }
+
+    /**
+     * Matches the response document of a service against a batch.
+     *
+     * @param batch the batch
+     * @param responses the response document
+     * @param mode STOP if the service stops at its first error: what it left out is 424 then
+     * @param strictness 1 if some run has to answer these statuses, too; 2 if some run may that starts groups as one; else 0
+     * @return the status of each request by its id, in the order of the batch
+     * @throws FaultException a document is refused, or they do not fit
+     */
+    public static Map<String, Integer> match(byte[] batch, byte[] responses, Mode mode, int strictness) {
         List<String> lines = writeOver(batch, responses, (text, room, length) -> odb_match_with(some(batch), batch.length,
-            some(responses), responses.length, mode.ordinal(), isStrict ? 1 : 0, 0, text, room, length, SEED)).lines();
+            some(responses), responses.length, mode.ordinal(), strictness, 0, text, room, length, SEED)).lines();
         Map<String, Integer> found = new LinkedHashMap<>();
         for (String line : lines.subList(1, lines.size())) { found.put(line.split(" ")[0], Integer.valueOf(line.split(" ")[1])); }
         return found;

@@ -69,6 +69,7 @@ final class OdbLibrary {
     static native int odb_run_start_unit(Pointer run, int position);
     static native int odb_run_state(Pointer run, int position, int[] state, int[] status);
     static native int odb_run_report(Pointer run, int position, int status, byte[] headers, long headersSize, byte[] body, long bodySize);
+    static native int odb_report_fault(byte[] headers, long headersSize, byte[] body, long bodySize, byte[] text, long room, long[] length);
     static native int odb_run_finished(Pointer run);
     static native int odb_run_response(Pointer run, byte[] text, long room, long[] length);
     static native void odb_run_stop(Pointer run);

@@ -66,7 +66,7 @@ public final class Tries {
             case 2:
                 return text(Odb.canon(it.batch)) + "\n";
             case 3:
-                Map<String, Integer> found = Odb.match(it.batch, it.second, mode, n[5] == 1);
+                Map<String, Integer> found = Odb.match(it.batch, it.second, mode, n[5]);
                 out.append("ok " + found.size() + " responses\n");
                 found.forEach((id, status) -> out.append(id + " " + status + "\n"));
                 return out.toString();
