@@ -1,5 +1,5 @@
 -- What a service has answered a part.
-use Rattle.std.proofs.Common.{◌≡◌, ◌∙◌, ◌+◌, ◌<◌, ℕ, zero, suc, Bool, true, false, not, List, [], ◌∷◌, ◌++◌, All, length, map, take, Option, Some, None, option_and_then, slice_get, refl, sym, ap, subst, arith}
+use Rattle.std.proofs.Common.{◌≡◌, ◌∙◌, ◌+◌, ◌<◌, ℕ, zero, suc, Bool, true, List, [], ◌∷◌, ◌++◌, All, length, map, take, Option, Some, None, option_and_then, slice_get, sym, ap, subst, arith}
 use Rattle.std.specs.List.{AllZip}
 use Rattle.std.proofs.lemmas.List.{take_more}
 use Rattle.std.proofs.lemmas.List.Elements.{All-push}
@@ -12,7 +12,6 @@ use Rattle.odb_dense.specs.Lists.{ListsOnce}
 use Rattle.odb_sched.proofs.ChoiceLemmas.{listed-in}
 use Rattle.odb_spans.specs.Spans.{HasMemberAt, IsWithin}
 use Rattle.odb_spans.specs.declared.span.Span.{Span}
-use Rattle.odb_send.specs.ResponseParts.{bodies_of, headers_of}
 use Rattle.odb_send.specs.declared.responses.ResponseParts.{ResponseParts}
 
 -- ---- the requests of the part

@@ -1,10 +1,8 @@
 -- Sessions whose calls that are taken are the same end alike.
-use Rattle.std.proofs.Common.{◌≡◌, ◌∙◌, ◌==◌, ℕ, ◌<◌, ◌+◌, ◌≢◌, refl, sym, ap, subst, arith, Bool, true, false, cond, eq-eqb, eqb-true, List, [], ◌∷◌, filter, Option, None, Some, inl, inr, codes}
+use Rattle.std.proofs.Common.{◌≡◌, ◌∙◌, ◌==◌, ℕ, ◌≢◌, refl, sym, ap, subst, arith, true, false, eq-eqb, eqb-true, List, [], ◌∷◌, filter, Option, None, Some, inl, inr, codes}
 use Rattle.std.proofs.lemmas.Bool.{cases_Bool, both_ways, true≢false}
-use Rattle.std.proofs.lemmas.Option.{none-some}
 use Rattle.std.specs.Prelude.{slice_set}
 use Rattle.serde_json.specs.Data.{Data, null, string, number, unsigned, array, item, no_items, object, put, no_members}
-use Rattle.odb_doc.specs.Documents.{IsDocument}
 use Rattle.odb_doc.specs.Headers.{HoldsHeaders}
 use Rattle.odb_doc.specs.Members.{given}
 use Rattle.odb_doc.specs.recorded.Outcomes.{AreOutcomesOf, ReadsAs, Recorded}

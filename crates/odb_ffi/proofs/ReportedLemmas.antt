@@ -1,9 +1,8 @@
 -- What a request of a session is answered, and that its response is read again.
-use Rattle.std.proofs.Common.{◌≡◌, ◌∙◌, ◌⊎◌, ℕ, ◌<◌, refl, sym, ap, subst, arith, Bool, true, false, not, ◌&&◌, if◌then◌else◌, List, [], ◌∷◌, ◌++◌, map, Contains, All, Option, None, Some, inl, inr}
+use Rattle.std.proofs.Common.{◌≡◌, ◌∙◌, ◌⊎◌, ℕ, refl, sym, ap, subst, arith, Bool, true, false, not, ◌&&◌, if◌then◌else◌, List, [], ◌∷◌, ◌++◌, map, Contains, All, Option, None, Some, inl, inr}
 use Rattle.std.proofs.lemmas.Option.{same_Some}
 use Rattle.std.specs.List.{AllZip}
 use Rattle.std.proofs.lemmas.List.Elements.{All-head, All-tail}
-use Rattle.serde_json.specs.Data.{Data}
 use Rattle.odb_doc.specs.Statuses.{is_status, is_success}
 use Rattle.odb_doc.specs.batch.Records.{Record}
 use Rattle.odb_doc.specs.declared.recorded.outcome.Outcome.{Outcome}
@@ -20,7 +19,7 @@ use Rattle.odb_sched.specs.run.Answers.{HasStatuses, answer, answer_of, outcome_
 use Rattle.odb_sched.specs.run.LiveEvents.{LiveEvent, Single, singles}
 use Rattle.odb_sched.specs.run.LiveEvents as live_event
 use Rattle.odb_sched.specs.run.Resolving.{IsResolved}
-use Rattle.odb_sched.specs.run.State.{State, phase_at, size}
+use Rattle.odb_sched.specs.run.State.{State, phase_at}
 use Rattle.odb_sched.specs.run.Steps.{unit_succeeded}
 use Rattle.odb_reply.specs.BodyTexts.{text_at, value_body}
 use Rattle.odb_engine.specs.Live.{Live}

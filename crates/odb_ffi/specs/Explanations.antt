@@ -1,5 +1,5 @@
 -- What the call returns that explains a fault.
-use Rattle.std.specs.Prelude.{◌≡◌, ℕ, List, Option, None, Some}
+use Rattle.std.specs.Prelude.{◌≡◌, ℕ, List, None, Some}
 use Rattle.odb_explain.specs.Explanations.{explanation}
 use Rattle.odb_ffi.specs.Returns.{Fills, IsWrongOption}
 

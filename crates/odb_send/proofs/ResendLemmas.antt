@@ -1,5 +1,5 @@
 -- Responses that fit a batch, with those to its rest in place of the responses to the same requests, fit the batch.
-use Rattle.std.proofs.Common.{◌≡◌, ◌≢◌, ◌∙◌, ◌⊎◌, ◌+◌, ◌<◌, ℕ, zero, suc, Bool, true, false, not, cond, ◌||◌, List, [], ◌∷◌, ◌++◌, length, Option, None, Some, option_map, slice_get, get_or, inl, inr, refl, ap, sym, subst, arith, Contains, bytes_eq}
+use Rattle.std.proofs.Common.{◌≡◌, ◌≢◌, ◌∙◌, ◌⊎◌, ◌<◌, ℕ, zero, suc, Bool, true, false, not, cond, ◌||◌, List, [], ◌∷◌, ◌++◌, length, Option, None, Some, option_map, slice_get, get_or, inl, inr, refl, ap, sym, subst, arith, Contains, bytes_eq}
 use Rattle.std.specs.List.{AllZip, filter, list_any}
 use Rattle.std.proofs.lemmas.Bool.{cases_Bool, cases_eq, true≢false}
 use Rattle.std.proofs.lemmas.Slice.Eq.{bytes_eq-Decides}
@@ -18,7 +18,7 @@ use Rattle.odb_check.proofs.PlanLemmas.{has_positions, needs_before, needs_group
 use Rattle.odb_check.proofs.PositionLemmas.{id_within}
 use Rattle.odb_check.proofs.UnitLemmas.{has_units, unit_before}
 use Rattle.odb_reply.specs.Completed.{is_answered}
-use Rattle.odb_reply.specs.Fits.{Fits, IsOnlyOne, IsRow, IsSatisfied, IsTableOf, Responds, Succeeds, id_in}
+use Rattle.odb_reply.specs.Fits.{Fits, IsOnlyOne, IsSatisfied, IsTableOf, Responds, Succeeds, id_in}
 use Rattle.odb_reply.specs.Places.{IsOnce}
 use Rattle.odb_reply.specs.ResponseDocuments.{Entry}
 use Rattle.odb_reply.proofs.IdLemmas.{one_position}

@@ -1,4 +1,4 @@
-use Rattle.std.proofs.Common.{true, false}
+use Rattle.std.proofs.Common.{true}
 use Rattle.odb_ffi.specs.Steps as specs
 use Rattle.odb_ffi.proofs.StepLemmas.{adds-if, adds-none}
 use Rattle.odb_ffi.proofs.steps.push_report_if.Goals as goal

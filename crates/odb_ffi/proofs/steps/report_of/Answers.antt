@@ -1,5 +1,4 @@
-use Rattle.std.proofs.Common.{inl, inr, sym, subst, List, ℕ}
-use Rattle.odb_doc.specs.Refusals.{Printed}
+use Rattle.std.proofs.Common.{inl, inr, subst, List, ℕ}
 use Rattle.odb_ffi.specs.Refused.{RefusesBody, RefusesHeaders}
 use Rattle.odb_ffi.proofs.StepLemmas.{bad-response}
 use Rattle.odb_ffi.proofs.steps.report_of.Goals as goal

@@ -1,5 +1,5 @@
 use Rattle.std.proofs.Common.{[], List, subst}
-use Rattle.odb_ffi.specs.Steps.{Adds, AreSteps, attempts}
+use Rattle.odb_ffi.specs.Steps.{Adds, attempts}
 use Rattle.odb_ffi.specs.declared.steps.Step.{Step}
 use Rattle.odb_sched.specs.declared.policy.Mode.TheVariants.{Continue, Stop}
 use Rattle.odb_ffi.proofs.steps.steps_of.Goals as goal

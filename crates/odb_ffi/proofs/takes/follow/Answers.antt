@@ -1,6 +1,5 @@
-use Rattle.std.proofs.Common.{◌≡◌, ◌∙◌, ap, arith, length, refl, subst, sym, List}
+use Rattle.std.proofs.Common.{◌∙◌, ap, arith, length, refl, subst, sym, List}
 use Rattle.std.proofs.lemmas.List.{nil_from_length}
-use Rattle.std.specs.Vec.Iter.{into_iter_items}
 use Rattle.odb_ffi.specs.Follows.{FollowsAll}
 use Rattle.odb_ffi.specs.declared.steps.Step.{Step}
 use Rattle.odb_ffi.proofs.takes.follow.Goals as goal

@@ -1,5 +1,5 @@
 -- Whether each unit fits into a part.
-use Rattle.std.proofs.Common.{◌≡◌, ◌-◌, ◌<◌, ◌≤◌, ℕ, subst, sym, arith, inl, inr}
+use Rattle.std.proofs.Common.{◌<◌, ◌≤◌, subst, sym, arith, inl, inr}
 use Rattle.std.proofs.lemmas.Bool.{cases_eq, false≢true}
 use Rattle.odb_check.specs.Plans.{plan_records}
 use Rattle.odb_check.specs.Units.{unit_count}

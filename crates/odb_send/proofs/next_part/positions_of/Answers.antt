@@ -1,9 +1,7 @@
 -- The positions of a part.
-use Rattle.std.proofs.Common.{◌≡◌, ◌∙◌, ◌<◌, List, length, All, sym, arith}
+use Rattle.std.proofs.Common.{◌<◌, length, sym, arith}
 use Rattle.std.proofs.lemmas.List.Elements.{All-push}
-use Rattle.odb_check.specs.Firsts.{joined_below}
 use Rattle.odb_check.specs.Plans.{plan_records}
-use Rattle.odb_doc.specs.batch.Records.{Record}
 use Rattle.odb_send.specs.Rests.{kept}
 use Rattle.odb_send.proofs.NextPartLemmas.{positions_more, positions_same}
 use Rattle.odb_send.proofs.next_part.positions_of.Goals as goal

@@ -1,11 +1,10 @@
-use Rattle.std.proofs.Common.{◌≡◌, ◌<◌, ℕ, List, IfSome, length, true, false, arith, refl, rules, sym, subst, ap, ◌∙◌}
+use Rattle.std.proofs.Common.{◌<◌, ℕ, length, arith, refl, sym, subst, ◌∙◌}
 use Rattle.std.specs.List.{AllZip}
 use Rattle.std.proofs.lemmas.Bool.{true≢false}
 use Rattle.odb_doc.specs.batch.Records.{Record}
 use Rattle.odb_check.specs.Plans.{plan_records}
 use Rattle.odb_sched.specs.run.State.{is_running, phase_at, size}
 use Rattle.odb_engine.specs.Live.{Live}
-use Rattle.odb_engine.specs.LiveRuns.{live_of}
 use Rattle.odb_engine.specs.Replies.{IsOutAt, MayTake}
 use Rattle.odb_engine.proofs.ReplyLemmas.{partner, some-listed, zipped-more}
 use Rattle.odb_engine.proofs.live.LiveRun.out_positions.Goals as goal
