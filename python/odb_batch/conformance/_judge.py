@@ -72,11 +72,11 @@ class Judge:
 
     def _check_by_match(self) -> Iterator[Check]:
         """What `match` says. A batch that ends with an error may leave out the responses to what was not performed; of
-        one that goes on, some finished run has to answer the statuses."""
+        one that goes on, some finished run has to answer the statuses: also one that sends each group as one."""
         asked = ["once", *(["named"] if "groups" in self.stage.features() else [])]
         try:
             mode: Mode = "stop" if self.stops else "continue"
-            match(self.stage.document(), self.answer.text, mode=mode, strict=not self.stops)
+            match(self.stage.document(), self.answer.text, mode=mode, strict=not self.stops and "units")
         except Fault as fault:
             promise = FAULTS.get(fault.code, "answered")
             text = " ".join(fault.explanation.split())
