@@ -50,9 +50,10 @@ namespace OdbBatch {
         /// <param name="responses">The response document.</param>
         /// <param name="mode">Stop, if the service stops at the first error: then a missing response is 424.</param>
         /// <param name="strict">Whether some finished run has to answer these statuses.</param>
-        public static IReadOnlyList<KeyValuePair<string, int>> Match(Document batch, Document responses, RunMode mode = RunMode.Continue, bool strict = false) =>
+        /// <param name="units">With strict: whether a run will do that starts each group as one.</param>
+        public static IReadOnlyList<KeyValuePair<string, int>> Match(Document batch, Document responses, RunMode mode = RunMode.Continue, bool strict = false, bool units = false) =>
             Lines(Native.Answer(Room(batch), batch, responses, (byte[] to, ulong room, out ulong length) =>
-                Native.odb_match_with(batch.At, batch.Size, responses.At, responses.Size, (uint)mode, strict ? 1u : 0u, 0, ref to[0], room, out length, Native.Seed)))
+                Native.odb_match_with(batch.At, batch.Size, responses.At, responses.Size, (uint)mode, strict ? units ? 2u : 1u : 0u, 0, ref to[0], room, out length, Native.Seed)))
                 .Skip(1).Select(line => line.Split(' ')).Select(it => new KeyValuePair<string, int>(it[0], int.Parse(it[1]))).ToArray();
 
         /// <summary>What may be sent again by the responses of a service, as a batch of its own.</summary>

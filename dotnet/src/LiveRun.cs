@@ -142,15 +142,12 @@ namespace OdbBatch {
             Settle(end, id);
         }
 
-        /// <summary>Why headers or a body are refused: the fault that the same report has as a recorded event. F65 is that they were read,
-        /// so one of them is JSON only together with what is around it here.</summary>
+        /// <summary>Why headers or a body are refused.</summary>
         private static Fault ReportFault(Document headers, Document body) {
-            Document none = "null", events = Json.Joined("{\"events\":[{\"report\":\"\",\"status\":200,\"headers\":", headers.Size == 0 ? none : headers,
-                ",\"body\":", body.Size == 0 ? none : body, "}]}");
-            try { Odb.Run("{\"requests\":[]}", events); }
-            catch (FaultException error) when (error.Code != "F65") { return Fault.OfRun(error.Code, error.Name, "report"); }
-            catch (FaultException) { }
-            return Fault.OfRun("F02", "NotJson", "report");
+            uint status = Native.Write(64, (byte[] to, ulong room, out ulong length) =>
+                Native.odb_report_fault(headers.At, headers.Size, body.At, body.Size, ref to[0], room, out length), out byte[] text);
+            Fault fault = Native.FaultIn(status, text, headers, body) ?? throw Native.Failure(status);
+            return Fault.OfRun(fault.Code, fault.Name, "report");
         }
 
         /// <summary>The response document of the finished run.</summary>

@@ -35,6 +35,7 @@ namespace OdbBatch {
         [DllImport(Library)] internal static extern uint odb_faults(byte[] batch, ulong size, ref byte text, ulong room, out ulong length, ref FoundFault faults, ulong most, out ulong count, ulong seed);
         [DllImport(Library)] internal static extern uint odb_requests(byte[] batch, ulong size, ref byte text, ulong room, out ulong length, ref Request requests, ulong most, out ulong count, ulong seed);
         [DllImport(Library)] internal static extern uint odb_responses(byte[] document, ulong size, ref byte text, ulong room, out ulong length, ref Response responses, ulong most, out ulong count);
+        [DllImport(Library)] internal static extern uint odb_report_fault(byte[] headers, ulong size, byte[] body, ulong bodySize, ref byte text, ulong room, out ulong length);
         [DllImport(Library)] internal static extern uint odb_headers(byte[] headers, ulong size, ref byte text, ulong room, out ulong length, ref Header pairs, ulong most, out ulong count);
         [DllImport(Library)] internal static extern uint odb_resolve(byte[] root, ulong rootSize, byte[] roots, ulong rootsSize, byte[] url, ulong urlSize, byte[] sent, ulong sentSize, byte[] location, ulong locationSize, uint post, ref byte text, ulong room, out ulong length);
         [DllImport(Library)] internal static extern uint odb_run_open_requests(byte[] batch, ulong size, byte[] events, ulong eventsSize, uint mode, uint width, RunHandle run, ref byte text, ulong room, out ulong length, ref Request requests, ulong most, out ulong count, ulong seed);

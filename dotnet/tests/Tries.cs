@@ -45,7 +45,7 @@ public static class Tries {
                     + " needs " + (p.Needs.Count == 0 ? "*" : string.Join(",", p.Needs)) + "\n"));
             case 2: return Of(Odb.Canon(it.Batch)) + "\n";
             case 3: {
-                var found = Odb.Match(it.Batch, it.Second, mode, n[5] == 1);
+                var found = Odb.Match(it.Batch, it.Second, mode, n[5] > 0, n[5] == 2);
                 return "ok " + found.Count + " responses\n" + string.Concat(found.Select(s => s.Key + " " + s.Value + "\n"));
             }
             case 4: return Of(Odb.Run(it.Batch, it.Second, mode, n[2])) + "\n";
