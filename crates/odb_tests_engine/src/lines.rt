@@ -3,7 +3,6 @@
 ghost use Rattle.std.specs.Prelude.{◌≡◌, false, IfSome};
 ghost use Rattle.odb_engine.specs.lines.Answers.{AnswersEach, OfAnyLine};
 ghost use Rattle.odb_engine.specs.lines.Lines.{lines_of};
-ghost use Rattle.odb_engine.specs.Tasks.{takes_bytes};
 ghost use Rattle.odb_testing.specs.Readings.{AreOne};
 
 use odb_engine::lines::laws::one_text;
@@ -135,7 +134,6 @@ fn written<C: LineCommand>(alloc: Global, log: &[u8], command: &C) -> Option<Wri
 }
 
 fn written_twice(alloc: Global, log: &[u8], task: Task, form: Form) -> Two<Written>
-    requires { takes_bytes task ≡ false }
     ensures { AreOne result.0 result.1 }
 {
     let command = on_each_line(task, form);
@@ -145,9 +143,6 @@ fn written_twice(alloc: Global, log: &[u8], task: Task, form: Form) -> Two<Writt
 }
 
 fn is_written_again(alloc: Global, log: &[u8], task: Task, form: Form) -> bool {
-    if task.takes_bytes() {
-        return false;
-    }
     match &written_twice(alloc, log, task, form) {
         (Some(one), Some(other)) => one == other,
         _ => false,

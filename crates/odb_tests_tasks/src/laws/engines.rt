@@ -8,7 +8,7 @@ ghost use Rattle.odb_engine.specs.Contents.Given.{ByReader, InMemory};
 ghost use Rattle.odb_engine.specs.Inputs.{SomeDocument};
 ghost use Rattle.odb_reply.specs.declared.strictness.Strictness.TheVariants.{Requests};
 ghost use Rattle.odb_engine.specs.ReadAgain.{IsReadAgain};
-ghost use Rattle.odb_engine.specs.Tasks.{OfDocuments, OfWholeLine, takes_bytes};
+ghost use Rattle.odb_engine.specs.Tasks.{OfDocuments, OfWholeLine};
 ghost use Rattle.odb_engine.specs.declared.ending.Ended.TheVariants.{Done};
 ghost use Rattle.odb_engine.specs.declared.form.Form.TheVariants.{Lines};
 ghost use Rattle.odb_testing.specs.Readings.{AreOne};
@@ -43,7 +43,7 @@ pub fn written(alloc: Global, batch: &[u8], second: &[u8], task: Task) -> Option
 }
 
 fn written_twice(alloc: Global, batch: &[u8], second: &[u8], task: Task) -> Two<Written>
-    ensures { takes_bytes task ≡ false → AreOne result.0 result.1 }
+    ensures { AreOne result.0 result.1 }
 {
     one_document();
     one_text();
@@ -89,7 +89,7 @@ fn answered_twice(
     task: Task,
     form: Form,
 ) -> Two<Written>
-    ensures { takes_bytes task ≡ false → AreOne result.0 result.1 }
+    ensures { AreOne result.0 result.1 }
 {
     one_text();
     (
@@ -109,7 +109,7 @@ pub fn line_answered(alloc: Global, line: &[u8], task: Task, form: Form) -> Opti
 }
 
 fn line_answered_twice(alloc: Global, line: &[u8], task: Task, form: Form) -> Two<Written>
-    ensures { takes_bytes task ≡ false → AreOne result.0 result.1 }
+    ensures { AreOne result.0 result.1 }
 {
     one_text();
     (

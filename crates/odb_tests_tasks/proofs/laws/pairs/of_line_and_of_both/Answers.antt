@@ -15,4 +15,4 @@ returns c =
     let apart = subst (λ b. IsLineOf b (string_bytes c.in-Some.second) line) (sym c.as_bytes.ensures.value) c.in-Some.ensures in
     let pair = subst (λ s. IsLineOf batch s line) (sym c.as_bytes-2.ensures.value) apart in
     let of_line = IfSome_then c.line_answered.result c.line_answered.ensures (λ it. (c.every_pair.ensures.memory task form batch second line it.1.items it.0 c.requires.second c.requires.bytes pair).0) in
-    one_of (λ it. it.0) (λ it. it.1.items) (OfDocuments task (InMemory second) batch form) (c.one_text.ensures.memory task form batch second c.requires.bytes) c.line_answered.result c.answered.result of_line c.answered.ensures
+    one_of (λ it. it.0) (λ it. it.1.items) (OfDocuments task (InMemory second) batch form) (c.one_text.ensures.memory task form batch second) c.line_answered.result c.answered.result of_line c.answered.ensures

@@ -1,4 +1,4 @@
-use Rattle.std.proofs.Common.{true, refl}
+use Rattle.std.proofs.Common.{true}
 use Rattle.odb_sched.specs.declared.order.Order.TheVariants.{Wide}
 use Rattle.odb_sched.specs.run.Choosing.{AllowsOrder}
 use Rattle.odb_engine.specs.declared.form.Form.TheVariants.{Lines}
@@ -13,6 +13,6 @@ returns c =
     let events = c.args.events.now in
     let laws : AreLaws (AllowsOrder Wide) policy outcomes events = record {
       again = λ bytes text. c.every_replay.ensures Wide policy true Lines bytes outcomes text;
-      one = λ bytes. c.one_text.ensures.task (tasks.Run policy) Lines bytes events refl;
+      one = λ bytes. c.one_text.ensures.task (tasks.Run policy) Lines bytes events;
     } in
     both-written (AllowsOrder Wide) policy outcomes events (λ it. it.0) (λ it. it.1.items) c.args.batch.now (c.one_document.ensures c.args.batch.now) laws c.written.result c.written-2.result c.written.ensures c.written-2.ensures
