@@ -103,11 +103,7 @@ func (h *batchHandler) answered(w http.ResponseWriter, outer *http.Request) (Ans
 	if options.Mode = d.inherit(); options.Mode == Continue {
 		headers["preference-applied"] = "continue-on-error"
 	}
-	scheme := "http://"
-	if outer.TLS != nil {
-		scheme = "https://"
-	}
-	options.Base = scheme + outer.Host + (&url.URL{Path: folder(h.Path)}).EscapedPath()
+	options.Base = "http://" + outer.Host + (&url.URL{Path: folder(h.Path)}).EscapedPath()
 	options.Roots = rootsOf(outer, (&url.URL{Path: h.Root}).EscapedPath())
 	response, err := Perform(outer.Context(), batch, d.send, options)
 	return Answer{200, headers, response}, err
@@ -152,13 +148,12 @@ func (d *dispatch) inherit() Mode {
 		if name == "continue-on-error" && (value == "" || value == "true") {
 			mode = Continue
 		}
-		if name != "" && !contains(constants.Preferences, name) {
+		if name != "" && !isOne(name, constants.Preferences, nil) {
 			d.prefer = append(d.prefer, strings.TrimSpace(text))
 		}
 	}
 	for name, values := range d.outer.Header {
-		lower := strings.ToLower(name)
-		if !contains(constants.Headers["not_inherited"], lower) && !hasPrefix(lower, constants.Headers["not_inherited_prefixes"]) {
+		if !isOne(strings.ToLower(name), constants.Headers["not_inherited"], constants.Headers["not_inherited_prefixes"]) {
 			d.inherited[name] = values
 		}
 	}
@@ -168,24 +163,15 @@ func (d *dispatch) inherit() Mode {
 	return mode
 }
 
-func hasPrefix(name string, prefixes []string) bool {
-	for _, it := range prefixes {
-		if strings.HasPrefix(name, it) {
-			return true
-		}
-	}
-	return false
-}
-
 // headers returns the headers of a request with those that it has for itself, or a *Refusal.
 func (d *dispatch) headers(given map[string]string) (http.Header, error) {
 	found, known := d.inherited.Clone(), constants.Headers
 	for name, value := range given {
-		isAdded := contains(d.Allowed, name)
+		isAdded := isOne(name, d.Allowed, nil)
 		switch {
-		case contains(known["of_connection"], name) || contains(known["usually_dropped"], name) && !isAdded:
+		case isOne(name, known["of_connection"], nil) || isOne(name, known["usually_dropped"], nil) && !isAdded:
 			continue
-		case !isAdded && !contains(known["allowed"], name) && !hasPrefix(name, known["allowed_prefixes"]):
+		case !isAdded && !isOne(name, known["allowed"], known["allowed_prefixes"]):
 			return nil, &Refusal{400, "HeaderNotAllowed", "A request of a batch may not have the header " + name, name, nil}
 		case !isValue.MatchString(value):
 			return nil, &Refusal{400, "BadHeader", "The header " + name + " has a character that no header may have", name, nil}

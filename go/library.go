@@ -11,6 +11,7 @@ package odb
 import "C"
 
 import (
+	"bytes"
 	"crypto/rand"
 	"encoding/binary"
 	"encoding/json"
@@ -59,9 +60,7 @@ var constants = func() (found struct {
 	Preferences []string
 	ReservedIDs []string `json:"reserved_ids"`
 }) {
-	_, text := written(4096, func(to *C.uint8_t, room C.size_t, length *C.size_t) C.uint32_t {
-		return C.odb_constants(to, room, length)
-	})
+	_, text, _ := called(4096, func(to *textOut) C.uint32_t { return C.odb_constants(to.text, to.room, &to.length) })
 	_ = json.Unmarshal(text, &found)
 	return found
 }()
@@ -76,38 +75,39 @@ func at(bytes []byte) *C.uint8_t {
 
 func size(bytes []byte) C.size_t { return C.size_t(len(bytes)) }
 
-type writer = func(to *C.uint8_t, room C.size_t, length *C.size_t) C.uint32_t
-
-// written calls a function that writes a text, again if the room was too small; returns its status and the text.
-func written(room int, call writer) (C.uint32_t, []byte) {
-	status, text, _ := listed(room, func(to *C.uint8_t, room C.size_t, length *C.size_t, _ *byte, _ C.size_t, _ *C.size_t) C.uint32_t {
-		return call(to, room, length)
-	})
-	return status, text
+// out is where a call writes a text and a list, whose elements have no pointers, so that C may be given them.
+type out[T any] struct {
+	text          *C.uint8_t
+	items         *T
+	room, most    C.size_t // of the text and of the list
+	length, count C.size_t // what was written, or is needed
 }
 
-// listed calls a function that writes a text and a list, again if one of them had too little room. The elements of the lists have no
-// pointers, so that C may be given them.
-func listed[T any](room int, call func(to *C.uint8_t, room C.size_t, length *C.size_t, items *T, most C.size_t, count *C.size_t) C.uint32_t) (C.uint32_t, []byte, []T) {
-	var length, count C.size_t
-	most := C.size_t(room/32 + 1)
-	if most > MaxRequests {
-		most = MaxRequests
+type textOut = out[struct{}]
+
+// called makes a call, again if it had too little room; returns its status, the text and the list.
+func called[T any](room int, call func(to *out[T]) C.uint32_t) (C.uint32_t, []byte, []T) {
+	to := out[T]{room: C.size_t(room), most: C.size_t(room/32 + 1)}
+	if to.most > MaxRequests {
+		to.most = MaxRequests
 	}
 	for {
-		text, items := make([]byte, room), make([]T, most)
-		status := call(at(text), C.size_t(room), &length, &items[0], most, &count)
-		if status != C.ODB_SMALL_BUFFER {
-			return status, text[:length], items[:count]
+		text, items := make([]byte, to.room), make([]T, to.most)
+		to.text, to.items = at(text), &items[0]
+		if status := call(&to); status != C.ODB_SMALL_BUFFER {
+			return status, text[:to.length], items[:to.count]
 		}
-		room, most = room+int(length), most+count
+		to.room, to.most = to.room+to.length, to.most+to.count
 	}
 }
 
-// answer returns the text of a call over documents, or why there is none.
-func answer(call writer, documents ...[]byte) ([]byte, error) {
-	status, text := written(len(documents[0])+len(documents[len(documents)-1])+more, call)
-	return text, failure(status, text, documents...)
+// answer returns the text of a command over documents without the newline at its end, or why there is none.
+func answer(call func(to *textOut) C.uint32_t, documents ...[]byte) ([]byte, error) {
+	status, text, _ := called(len(documents[0])+len(documents[len(documents)-1])+more, call)
+	if err := failure(status, text, documents...); err != nil {
+		return nil, err
+	}
+	return bytes.TrimSuffix(text, []byte("\n")), nil
 }
 
 // failure returns the error for a status; text is the line of a fault, in one of the documents: the batch, and maybe a second.
@@ -130,8 +130,8 @@ func Version() int { return int(C.odb_version()) }
 
 // Explanation returns what a code means, as F41 or S4: what `odb_batch explain` prints. It is empty for any other text.
 func Explanation(code string) string {
-	_, text := written(2048, func(to *C.uint8_t, room C.size_t, length *C.size_t) C.uint32_t {
-		return C.odb_explain(at([]byte(code)), C.size_t(len(code)), to, room, length)
+	_, text, _ := called(2048, func(to *textOut) C.uint32_t {
+		return C.odb_explain(at([]byte(code)), C.size_t(len(code)), to.text, to.room, &to.length)
 	})
 	return string(text)
 }
@@ -146,7 +146,7 @@ func meaning(code string) string {
 // A Fault says why a document is refused. Its text is the code, the name and the place.
 type Fault struct {
 	Code, Name   string // as F41 and ForwardName
-	Place        string // the document, as batch, or its element, as /requests/0; report for a report of a live run
+	Place        string // the document, as batch, or its element, as /requests/0; events or /events/0 for a report of a live run
 	Line, Column int    // where the place begins, from 1, the column in characters; 0 for a report
 	Offset       int    // how many bytes are before it
 }
@@ -171,17 +171,17 @@ func faultOf(line string, documents [][]byte) *Fault {
 
 // Faults returns all faults of the first phase that has any, in one scan; none if the batch is accepted.
 func Faults(batch []byte) ([]*Fault, error) {
-	status, text, found := listed(len(batch)+more,
-		func(to *C.uint8_t, room C.size_t, length *C.size_t, items *C.odb_fault, most C.size_t, count *C.size_t) C.uint32_t {
-			return C.odb_faults(at(batch), size(batch), to, room, length, items, most, count, seed)
-		})
+	status, text, found := called(len(batch)+more, func(to *out[C.odb_fault]) C.uint32_t {
+		return C.odb_faults(at(batch), size(batch), to.text, to.room, &to.length, to.items, to.most, &to.count, seed)
+	})
 	if status != C.ODB_REFUSED {
-		return nil, failure(status, text, batch)
+		return nil, failure(status, text)
 	}
 	faults, words := make([]*Fault, len(found)), string(text)
 	for i, it := range found {
 		position := it.position
-		faults[i] = &Fault{part(words, it.code), part(words, it.name), part(words, it.place), int(position.line), int(position.column), int(position.offset)}
+		faults[i] = &Fault{part(words, it.code), part(words, it.name), part(words, it.place), int(position.line),
+			int(position.column), int(position.offset)}
 	}
 	return faults, nil
 }
@@ -249,21 +249,20 @@ type Counts struct{ Requests, Groups int }
 
 // Check checks a batch.
 func Check(batch []byte) (found Counts, err error) {
-	text, err := answer(func(to *C.uint8_t, room C.size_t, length *C.size_t) C.uint32_t {
-		return C.odb_check_as(at(batch), size(batch), C.ODB_LINES, to, room, length, seed)
-	}, batch)
-	if words := strings.Fields(string(text)); err == nil {
-		found = Counts{number(words[1]), number(words[3])}
+	status, text, _ := called(more, func(to *textOut) C.uint32_t {
+		return C.odb_check_as(at(batch), size(batch), C.ODB_LINES, to.text, to.room, &to.length, seed)
+	})
+	if status != C.ODB_DONE {
+		return found, failure(status, text, batch)
 	}
-	return found, err
+	words := strings.Fields(string(text))
+	return Counts{number(words[1]), number(words[3])}, nil
 }
 
 func number(word string) int {
 	value, _ := strconv.Atoi(word)
 	return value
 }
-
-func lines(text []byte) []string { return strings.Split(strings.TrimSuffix(string(text), "\n"), "\n") }
 
 // PlannedRequest is a request with what it depends on.
 type PlannedRequest struct {
@@ -276,36 +275,29 @@ type PlannedRequest struct {
 
 // Plan returns the requests of a batch in order.
 func Plan(batch []byte) (found []PlannedRequest, err error) {
-	text, err := answer(func(to *C.uint8_t, room C.size_t, length *C.size_t) C.uint32_t {
-		return C.odb_plan_as(at(batch), size(batch), C.ODB_LINES, to, room, length, seed)
+	text, err := answer(func(to *textOut) C.uint32_t {
+		return C.odb_plan_as(at(batch), size(batch), C.ODB_LINES, to.text, to.room, &to.length, seed)
 	}, batch)
-	if err != nil || len(text) == 0 {
-		return nil, err
-	}
 	for _, line := range lines(text) {
-		words := strings.Split(line, " ")
-		planned := PlannedRequest{number(words[0]), words[1], number(words[3]), strings.Trim(words[5], "*"), nil}
+		words := strings.Fields(line)
+		planned := PlannedRequest{len(found), words[1], number(words[3]), strings.Trim(words[5], "*"), nil}
 		if words[7] != "*" {
 			planned.Needs = strings.Split(words[7], ",")
 		}
 		found = append(found, planned)
 	}
-	return found, nil
+	return found, err
+}
+
+func lines(text []byte) []string {
+	return strings.FieldsFunc(string(text), func(it rune) bool { return it == '\n' })
 }
 
 // Canon returns the canonical text of a batch, which is one text for all documents of the same batch, without a newline.
 func Canon(batch []byte) ([]byte, error) {
-	return trimmed(answer(func(to *C.uint8_t, room C.size_t, length *C.size_t) C.uint32_t {
-		return C.odb_canon_as(at(batch), size(batch), C.ODB_LINES, to, room, length, seed)
-	}, batch))
-}
-
-// trimmed takes the newline off the end of a text.
-func trimmed(text []byte, err error) ([]byte, error) {
-	if err != nil {
-		return nil, err
-	}
-	return text[:len(text)-1], nil
+	return answer(func(to *textOut) C.uint32_t {
+		return C.odb_canon_as(at(batch), size(batch), C.ODB_LINES, to.text, to.room, &to.length, seed)
+	}, batch)
 }
 
 // Status is what a request was answered.
@@ -322,18 +314,16 @@ type MatchOptions struct {
 
 // Match matches the response document of a service against a batch; returns the statuses in the order of the batch.
 func Match(batch, responses []byte, options MatchOptions) (found []Status, err error) {
-	text, err := answer(func(to *C.uint8_t, room C.size_t, length *C.size_t) C.uint32_t {
-		return C.odb_match_with(at(batch), size(batch), at(responses), size(responses), C.uint32_t(options.Mode), bit[options.Strict],
-			C.ODB_LINES, to, room, length, seed)
+	text, err := answer(func(to *textOut) C.uint32_t {
+		return C.odb_match_with(at(batch), size(batch), at(responses), size(responses), C.uint32_t(options.Mode),
+			bit[options.Strict], C.ODB_LINES, to.text, to.room, &to.length, seed)
 	}, batch, responses)
-	if err != nil {
-		return nil, err
+	for i, line := range lines(text) {
+		if id, status, _ := strings.Cut(line, " "); i > 0 {
+			found = append(found, Status{id, number(status)})
+		}
 	}
-	for _, line := range lines(text)[1:] {
-		id, status, _ := strings.Cut(line, " ")
-		found = append(found, Status{id, number(status)})
-	}
-	return found, nil
+	return found, err
 }
 
 // bit has the numbers of the library for whether something is.
@@ -341,17 +331,17 @@ var bit = map[bool]C.uint32_t{true: 1}
 
 // Rest returns what may be sent again by the responses of a service, as a batch of its own. If nothing may, it has no requests.
 func Rest(batch, responses []byte, mode Mode) ([]byte, error) {
-	return trimmed(answer(func(to *C.uint8_t, room C.size_t, length *C.size_t) C.uint32_t {
-		return C.odb_rest(at(batch), size(batch), at(responses), size(responses), C.uint32_t(mode), C.ODB_LINES, to, room, length, seed)
-	}, batch, responses))
+	return answer(func(to *textOut) C.uint32_t {
+		return C.odb_rest(at(batch), size(batch), at(responses), size(responses), C.uint32_t(mode), C.ODB_LINES, to.text, to.room, &to.length, seed)
+	}, batch, responses)
 }
 
 // Run runs a batch by recorded events; returns the response document. A run on its way is a LiveRun.
 func Run(batch, events []byte, policy Policy) ([]byte, error) {
 	mode, width := policy.numbers()
-	return trimmed(answer(func(to *C.uint8_t, room C.size_t, length *C.size_t) C.uint32_t {
-		return C.odb_run_as(at(batch), size(batch), at(events), size(events), mode, width, C.ODB_LINES, to, room, length, seed)
-	}, batch, events))
+	return answer(func(to *textOut) C.uint32_t {
+		return C.odb_run_as(at(batch), size(batch), at(events), size(events), mode, width, C.ODB_LINES, to.text, to.room, &to.length, seed)
+	}, batch, events)
 }
 
 // Step is a step of a replay: start, report or undo.
@@ -370,19 +360,16 @@ type ReplayOptions struct {
 // Replay replays a batch by recorded outcomes; returns the response document and, if they are asked for, the steps.
 func Replay(batch, outcomes []byte, options ReplayOptions) (response []byte, steps []Step, err error) {
 	mode, width := options.numbers()
-	text, err := answer(func(to *C.uint8_t, room C.size_t, length *C.size_t) C.uint32_t {
+	text, err := answer(func(to *textOut) C.uint32_t {
 		return C.odb_replay_as(at(batch), size(batch), at(outcomes), size(outcomes), mode, width, C.uint32_t(options.Order),
-			bit[options.Trace], C.ODB_LINES, to, room, length, seed)
+			bit[options.Trace], C.ODB_LINES, to.text, to.room, &to.length, seed)
 	}, batch, outcomes)
-	if err != nil {
-		return nil, nil, err
-	}
-	found := lines(text)
-	for _, line := range found[:len(found)-1] {
-		words := append(strings.Split(line, " "), "")
+	end := bytes.LastIndexByte(text, '\n') + 1
+	for _, line := range lines(text[:end]) {
+		words := append(strings.Fields(line), "")
 		steps = append(steps, Step{words[0], words[1], number(words[2])})
 	}
-	return []byte(found[len(found)-1]), steps, nil
+	return text[end:], steps, err
 }
 
 // Request is a request of a batch, as it is to be sent.
@@ -397,10 +384,9 @@ type Request struct {
 
 // Requests returns what is to be sent of each request of a batch. Bodies are slices of the document, without a copy.
 func Requests(batch []byte) ([]Request, error) {
-	status, text, found := listed(len(batch)+more,
-		func(to *C.uint8_t, room C.size_t, length *C.size_t, items *C.odb_request, most C.size_t, count *C.size_t) C.uint32_t {
-			return C.odb_requests(at(batch), size(batch), to, room, length, items, most, count, seed)
-		})
+	status, text, found := called(len(batch)+more, func(to *out[C.odb_request]) C.uint32_t {
+		return C.odb_requests(at(batch), size(batch), to.text, to.room, &to.length, to.items, to.most, &to.count, seed)
+	})
 	return requestsOf(batch, string(text), found), failure(status, text, batch)
 }
 
@@ -424,24 +410,16 @@ func headersOf(text []byte) (found map[string]string) {
 	return found
 }
 
-// Response is what a service has answered a request, as it is in its document.
-type Response struct {
-	ID, Group string // the group is empty if it names none
-	Status    int
-	Headers   map[string]string // as they are written; nil if it has none
-	Body      []byte            // the bytes of the document; nil if it has none
-}
-
-// Responses returns the responses in the document of a service, in its order; they need not fit a batch. Bodies are slices of the
-// document.
-func Responses(document []byte) ([]Response, error) {
-	status, text, found := listed(len(document)+more,
-		func(to *C.uint8_t, room C.size_t, length *C.size_t, items *C.odb_response, most C.size_t, count *C.size_t) C.uint32_t {
-			return C.odb_responses(at(document), size(document), to, room, length, items, most, count)
-		})
-	responses, words := make([]Response, len(found)), string(text)
+// Responses returns the responses in the document of a service, in its order; they need not fit a batch. Headers are as they are
+// written, and bodies are slices of the document.
+func Responses(document []byte) ([]Result, error) {
+	status, text, found := called(len(document)+more, func(to *out[C.odb_response]) C.uint32_t {
+		return C.odb_responses(at(document), size(document), to.text, to.room, &to.length, to.items, to.most, &to.count)
+	})
+	responses, words := make([]Result, len(found)), string(text)
 	for i, it := range found {
-		responses[i] = Response{part(words, it.id), part(words, it.group), int(it.status), headersOf(slice(document, it.headers)), slice(document, it.body)}
+		answer := Answer{int(it.status), headersOf(slice(document, it.headers)), slice(document, it.body)}
+		responses[i] = Result{part(words, it.id), answer}
 	}
 	return responses, failure(status, text, document)
 }

@@ -44,11 +44,7 @@ func (r *Refusal) Answer() Answer {
 		detail["target"] = r.Target
 	}
 	body, _ := encoded(map[string]any{"error": detail})
-	headers := map[string]string{"content-type": "application/json"}
-	for name, value := range r.Headers {
-		headers[name] = value
-	}
-	return Answer{r.Status, headers, body}
+	return Answer{r.Status, joined(map[string]string{"content-type": "application/json"}, r.Headers), body}
 }
 
 // answerTo returns the answer that stands for an error.
@@ -70,11 +66,7 @@ func answerTo(err error) Answer {
 
 // whole returns an answer with a final status, and with names of headers in lower case.
 func (a Answer) whole() Answer {
-	headers := make(map[string]string, len(a.Headers))
-	for name, value := range a.Headers {
-		headers[strings.ToLower(name)] = value
-	}
-	if a.Headers = headers; a.Status < 200 || a.Status > 599 {
+	if a.Headers = joined(a.Headers); a.Status < 200 || a.Status > 599 {
 		a.Status = 502
 	}
 	return a
@@ -175,11 +167,26 @@ func (a Answer) place(sent string) string {
 	return place
 }
 
-func contains(names []string, name string) bool {
-	for _, it := range names {
-		if it == name {
-			return true
+// isOne returns whether a name is one of some, or begins with one of some prefixes.
+func isOne(name string, of, prefixes []string) (is bool) {
+	for _, it := range of {
+		is = is || it == name
+	}
+	for _, it := range prefixes {
+		is = is || strings.HasPrefix(name, it)
+	}
+	return is
+}
+
+// joined returns headers with their names in lower case, of which later ones come first. An empty Location is none.
+func joined(all ...map[string]string) map[string]string {
+	found := map[string]string{}
+	for _, headers := range all {
+		for name, value := range headers {
+			if name = strings.ToLower(name); name != "location" || value != "" {
+				found[name] = value
+			}
 		}
 	}
-	return false
+	return found
 }

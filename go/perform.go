@@ -263,9 +263,10 @@ func (p *performance) report(id string, answer Answer) {
 	err := p.run.Report(id, answer.Status, answer.Headers, toJSON(answer.Body, answer.Headers["content-type"]))
 	if errors.As(err, new(*Fault)) {
 		p.Log(err, "the body of the answer to "+id)
-		if err = p.run.Report(id, answer.Status, answer.Headers, asText(answer.Body)); errors.As(err, new(*Fault)) { // it is too long
-			err = p.run.Report(id, answer.Status, answer.Headers, nil)
-		}
+		err = p.run.Report(id, answer.Status, answer.Headers, asText(answer.Body))
+	}
+	if errors.As(err, new(*Fault)) { // it is too long
+		err = p.run.Report(id, answer.Status, answer.Headers, nil)
 	}
 	if err != nil {
 		p.Log(err, "the answer to "+id)
@@ -293,10 +294,7 @@ func (p *performance) prepared(id string) (*Request, error) {
 	if err != nil {
 		return nil, err
 	}
-	request.URL, p.sent[id], request.Headers = url, url, map[string]string{}
-	for name, value := range p.run.Request(id).Headers {
-		request.Headers[name] = value
-	}
+	request.URL, p.sent[id], request.Headers = url, url, joined(request.Headers)
 	for _, name := range conditions {
 		if to := strings.TrimPrefix(request.Headers[name], "$"); to != request.Headers[name] && p.run.Request(to) != nil {
 			if request.Headers[name] = p.answers[to].etag(); request.Headers[name] == "" {
@@ -318,9 +316,9 @@ func noETag(id string) error {
 // resolved asks the library where a request is sent.
 func (p *performance) resolved(url, sent, location string, isPost bool) (string, error) {
 	base, roots, own, from, place := []byte(p.Base), []byte(strings.Join(p.Roots, "\n")), []byte(url), []byte(sent), []byte(location)
-	status, text := written(len(base)+len(own)+len(from)+len(place)+more, func(to *C.uint8_t, room C.size_t, length *C.size_t) C.uint32_t {
-		return C.odb_resolve(at(base), size(base), at(roots), size(roots), at(own), size(own), at(from), size(from), at(place), size(place),
-			bit[isPost], to, room, length)
+	status, text, _ := called(len(base)+len(own)+len(from)+len(place)+more, func(to *textOut) C.uint32_t {
+		return C.odb_resolve(at(base), size(base), at(roots), size(roots), at(own), size(own), at(from), size(from), at(place),
+			size(place), bit[isPost], to.text, to.room, &to.length)
 	})
 	switch status {
 	case C.ODB_UNREADABLE, C.ODB_OUTSIDE:

@@ -340,6 +340,26 @@ func TestReferences(t *testing.T) {
 	}
 }
 
+// An empty Location is none.
+func TestAnEmptyLocation(t *testing.T) {
+	batch := []byte(`{"requests":[{"id":"a","method":"post","url":"A"},{"id":"b","method":"get","url":"$a/x","dependsOn":["a"]}]}`)
+	send := func(ctx context.Context, request *odb.Request) (odb.Answer, error) {
+		return odb.Answer{Status: 201, Headers: map[string]string{"Location": "", "X": ""}}, nil
+	}
+	response, err := odb.Perform(context.Background(), batch, send, silent(1, nil))
+	if err != nil || bytes.Contains(response, []byte(`"location"`)) || !bytes.Contains(response, []byte(`"x":""`)) {
+		t.Error(err, string(response))
+	}
+	if found := statuses(t, batch, response); found != "[{a 201} {b 424}]" {
+		t.Error(found)
+	}
+	url, _ := posts(t, func(part int, ids []string) (int, string) { return 200, all(ids, 201, `,"headers":{"Location":""}`) })
+	results, err := odb.Send(context.Background(), nil, url, batch, odb.SendOptions{Limit: 1})
+	if _, isNamed := results.Of("a").Headers["location"]; isNamed || !isFault(err, "F90") || found(results) != "a 201, b 424" {
+		t.Error(results.Of("a"), err)
+	}
+}
+
 func TestBodies(t *testing.T) {
 	for _, it := range []struct{ kind, wire, wanted string }{
 		{"application/json", "\xef\xbb\xbf[9.990]", "[9.990]"},

@@ -6,8 +6,8 @@ package odb
 import "C"
 
 import (
+	"bytes"
 	"encoding/json"
-	"errors"
 	"fmt"
 	"runtime"
 	"sort"
@@ -38,16 +38,13 @@ func Open(batch, events []byte, policy Policy) (*LiveRun, error) {
 		events = []byte(`{"events":[]}`)
 	}
 	mode, width := policy.numbers()
-	var handle C.odb_live_run
-	status, text, found := listed(len(batch)+more,
-		func(to *C.uint8_t, room C.size_t, length *C.size_t, items *C.odb_request, most C.size_t, count *C.size_t) C.uint32_t {
-			return C.odb_run_open_requests(at(batch), size(batch), at(events), size(events), mode, width, &handle, to, room, length,
-				items, most, count, seed)
-		})
+	status, text, found := called(len(batch)+more, func(to *out[C.odb_request]) C.uint32_t {
+		return C.odb_run_open_requests(at(batch), size(batch), at(events), size(events), mode, width, &run.handle,
+			to.text, to.room, &to.length, to.items, to.most, &to.count, seed)
+	})
 	if err := failure(status, text, batch, events); err != nil {
 		return nil, err
 	}
-	run.handle = handle
 	open.Add(1)
 	runtime.SetFinalizer(run, (*LiveRun).Close)
 	run.requests, run.listed = requestsOf(batch, string(text), found), make([]C.uint32_t, len(found)+1)
@@ -80,52 +77,52 @@ func (r *LiveRun) use(call func() error) error {
 	return call()
 }
 
-// list returns the ids of the requests whose positions a call lists, in the order of the batch if they are to be sorted.
-func (r *LiveRun) list(isSorted bool, call func(to *C.uint32_t, most C.size_t, count *C.size_t) C.uint32_t) (ids []string, err error) {
+// list returns the ids of the requests in a state, or of the next unit.
+func (r *LiveRun) list(state State) (ids []string, err error) {
 	err = r.use(func() error {
+		var status C.uint32_t
 		var count C.size_t
-		status := call(&r.listed[0], C.size_t(len(r.listed)), &count)
+		to, most := &r.listed[0], C.size_t(len(r.listed))
+		switch state {
+		case Ready:
+			status = C.odb_run_ready(&r.handle, to, most, &count)
+		case Running:
+			status = C.odb_run_running(&r.handle, to, most, &count)
+		case Undone:
+			status = C.odb_run_undone(&r.handle, to, most, &count)
+		case nextUnit:
+			status = C.odb_run_next_unit(&r.handle, to, most, &count)
+		}
 		found := r.listed[:count]
-		if isSorted {
+		if state == Ready || state == Running {
 			sort.Slice(found, func(i, k int) bool { return found[i] < found[k] })
 		}
-		for _, position := range found {
-			ids = append(ids, r.requests[position].ID)
-		}
+		ids = r.ids(found)
 		return failure(status, []byte("fault F66 Unfinished events"))
 	})
 	return ids, err
 }
 
-// Ready returns the ids of the requests that may start now, in the order of the batch.
-func (r *LiveRun) Ready() ([]string, error) {
-	return r.list(true, func(to *C.uint32_t, most C.size_t, count *C.size_t) C.uint32_t {
-		return C.odb_run_ready(&r.handle, to, most, count)
-	})
+func (r *LiveRun) ids(positions []C.uint32_t) (ids []string) {
+	for _, position := range positions {
+		ids = append(ids, r.requests[position].ID)
+	}
+	return ids
 }
 
+// Ready returns the ids of the requests that may start now, in the order of the batch.
+func (r *LiveRun) Ready() ([]string, error) { return r.list(Ready) }
+
 // Running returns the ids of the requests that have started and not reported yet, in the order of the batch.
-func (r *LiveRun) Running() ([]string, error) {
-	return r.list(true, func(to *C.uint32_t, most C.size_t, count *C.size_t) C.uint32_t {
-		return C.odb_run_running(&r.handle, to, most, count)
-	})
-}
+func (r *LiveRun) Running() ([]string, error) { return r.list(Running) }
 
 // Undone returns the ids of the requests of the finished run that have to be undone, in this order. Of a run that is not finished the
 // error is a *Fault, F66.
-func (r *LiveRun) Undone() ([]string, error) {
-	return r.list(false, func(to *C.uint32_t, most C.size_t, count *C.size_t) C.uint32_t {
-		return C.odb_run_undone(&r.handle, to, most, count)
-	})
-}
+func (r *LiveRun) Undone() ([]string, error) { return r.list(Undone) }
 
 // NextUnit returns the ids of the first unit that may begin, a group or a request without one; none if no unit may. Start its
 // requests one after another, or all by StartUnit.
-func (r *LiveRun) NextUnit() ([]string, error) {
-	return r.list(false, func(to *C.uint32_t, most C.size_t, count *C.size_t) C.uint32_t {
-		return C.odb_run_next_unit(&r.handle, to, most, count)
-	})
-}
+func (r *LiveRun) NextUnit() ([]string, error) { return r.list(nextUnit) }
 
 // Part returns the next part of the run as a batch of its own, and the ids of its requests; none if nothing may be sent now. It has
 // limit requests at most, none of which was in a part before, and what they need is in it or has succeeded: $a in a URL is the
@@ -135,15 +132,14 @@ func (r *LiveRun) Part(limit int) (document []byte, ids []string, err error) {
 	if limit < 1 || limit > MaxRequests {
 		return nil, nil, ErrOption
 	}
-	ids, err = r.list(false, func(to *C.uint32_t, most C.size_t, count *C.size_t) (status C.uint32_t) {
-		status, document = written(len(r.batch)+more, func(text *C.uint8_t, room C.size_t, length *C.size_t) C.uint32_t {
-			return C.odb_run_part(&r.handle, at(r.batch), size(r.batch), C.uint32_t(limit), text, room, length, to, most, count, seed)
+	err = r.use(func() error {
+		status, text, found := called(len(r.batch)+more, func(to *out[C.uint32_t]) C.uint32_t {
+			return C.odb_run_part(&r.handle, at(r.batch), size(r.batch), C.uint32_t(limit), to.text, to.room, &to.length,
+				to.items, to.most, &to.count, seed)
 		})
-		return status
+		document, ids = text, r.ids(found)
+		return failure(status, text, r.batch)
 	})
-	if errors.As(err, new(*Fault)) {
-		err = faultOf(string(document), [][]byte{r.batch})
-	}
 	return document, ids, err
 }
 
@@ -168,6 +164,8 @@ const (
 	Reported State = C.ODB_STATE_REPORTED
 	Skipped  State = C.ODB_STATE_SKIPPED // it never starts any more
 	Undone   State = C.ODB_STATE_UNDONE  // the run is finished, and the request has to be undone
+
+	nextUnit State = Undone + 1 // for list alone
 )
 
 // State returns the state of a request, and the status that it has reported or, once the run is finished, is answered; or 0.
@@ -186,7 +184,7 @@ func (r *LiveRun) event(id string, call func(position C.uint32_t) C.uint32_t) er
 	return r.use(func() error {
 		status := call(position)
 		if status < C.ODB_ALREADY_STARTED || status > C.ODB_BAD_STATUS {
-			return failure(status, []byte("fault F02 NotJson report"))
+			return failure(status, []byte("fault F02 NotJson events"))
 		}
 		code := fmt.Sprintf("%c%d", " SP"[status/10], status%10)
 		var name string
@@ -215,41 +213,33 @@ func (r *LiveRun) Report(id string, status int, headers map[string]string, body 
 	if status < 0 || status > 1000 {
 		status = 0
 	}
+	isRefused := false
 	err := r.event(id, func(position C.uint32_t) C.uint32_t {
 		found := C.odb_run_report(&r.handle, position, C.uint32_t(status), at(heads), size(heads), at(body), size(body))
-		if found == C.ODB_DONE {
+		if isRefused = found == C.ODB_REFUSED; found == C.ODB_DONE {
 			r.size += len(heads) + len(body)
 		}
 		return found
 	})
-	if errors.As(err, new(*Fault)) {
-		return reportFault(heads, body)
+	if isRefused {
+		end, text, _ := called(more, func(to *textOut) C.uint32_t {
+			return C.odb_report_fault(at(heads), size(heads), at(body), size(body), to.text, to.room, &to.length)
+		})
+		err = failure(end, text)
 	}
 	return err
-}
-
-// reportFault returns why headers or a body are refused: the fault that the same report has as a recorded event.
-func reportFault(heads, body []byte) error {
-	event := fmt.Sprintf(`"headers":%s,"body":%s`, or(string(heads), "null"), or(string(body), "null"))
-	events := `{"events":[{"report":"","status":200,` + event + `}]}`
-	_, err := Run([]byte(`{"requests":[]}`), []byte(events), Policy{})
-	var fault *Fault
-	if errors.As(err, &fault) && fault.Code != "F65" { // by which both were read
-		return &Fault{Code: fault.Code, Name: fault.Name, Place: "report"}
-	}
-	return &Fault{Code: "F02", Name: "NotJson", Place: "report"}
 }
 
 // Response returns the response document of the finished run. Of one that is not finished the error is a *Fault, F66.
 func (r *LiveRun) Response() (text []byte, err error) {
 	err = r.use(func() error {
-		var end C.uint32_t
-		end, text = written(r.size, func(to *C.uint8_t, room C.size_t, length *C.size_t) C.uint32_t {
-			return C.odb_run_response(&r.handle, to, room, length)
+		end, written, _ := called(r.size, func(to *textOut) C.uint32_t {
+			return C.odb_run_response(&r.handle, to.text, to.room, &to.length)
 		})
-		return failure(end, text)
+		text = bytes.TrimSuffix(written, []byte("\n"))
+		return failure(end, written)
 	})
-	return trimmed(text, err)
+	return text, err
 }
 
 // Requests returns what is to be sent of the requests, in the order of the batch. They must not be changed.

@@ -123,8 +123,8 @@ func TestRefusedEvents(t *testing.T) {
 		{run.StartUnit("p"), "S5 WidthReached p"},
 		{run.Report("a", 99, nil, nil), "P2 BadStatus a"},
 		{run.Report("a", -1, nil, nil), "P2 BadStatus a"},
-		{run.Report("a", 200, map[string]string{"A": "1", "a": "2"}, nil), "F64 BadReport report"},
-		{run.Report("a", 200, nil, []byte("{")), "F02 NotJson report"},
+		{run.Report("a", 200, map[string]string{"A": "1", "a": "2"}, nil), "F64 BadEvents /events/0"},
+		{run.Report("a", 200, nil, []byte("{")), "F02 NotJson events"},
 		{run.Report("a", 200, map[string]string{"x": "<"}, []byte(" [1.50, 2e3]")), "<nil>"},
 	} {
 		if found := fmt.Sprint(it.err); !strings.HasPrefix(found, it.wanted[:4]) {
