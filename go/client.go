@@ -188,12 +188,12 @@ func (b *Batch) Document() ([]byte, error) {
 }
 
 // Check checks the batch as it is.
-func (b *Batch) Check() (Counts, error) {
+func (b *Batch) Check() (found Counts, err error) {
 	document, err := b.Document()
-	if err != nil {
-		return Counts{}, err
+	if err == nil {
+		found, err = Check(document)
 	}
-	return Check(document)
+	return found, err
 }
 
 // SendOptions says how a batch is sent. Its zero value is the default.
@@ -271,14 +271,8 @@ func (r *Results) tagged(text []byte) ([]byte, error) {
 	inside := map[string]bool{}
 	for _, it := range batch.Requests {
 		inside[it.ID] = true
-		for _, name := range conditions {
-			id := strings.TrimPrefix(it.Headers[name], "$")
-			if id == it.Headers[name] || inside[id] || !r.answers[id].OK() {
-				continue
-			}
-			if it.Headers[name] = r.answers[id].etag(); it.Headers[name] == "" {
-				return nil, noETag(id)
-			}
+		if err := tag(it.Headers, r.answers, func(id string) bool { return r.answers[id].OK() && !inside[id] }); err != nil {
+			return nil, err
 		}
 	}
 	return encoded(batch)
@@ -301,10 +295,7 @@ func (b *Batch) Send(ctx context.Context, client *http.Client, url string, optio
 // whole: its requests have that answer, 504 for a timeout and 502 for another failure, and what comes after it was not sent. What was
 // answered 502 or 504 may have been performed.
 func Send(ctx context.Context, client *http.Client, url string, document []byte, options SendOptions) (*Results, error) {
-	if client == nil {
-		client = http.DefaultClient
-	}
-	options.Limit, options.MaxSize = or(options.Limit, MaxRequests), or(options.MaxSize, MaxDocument)
+	client, options.Limit, options.MaxSize = or(client, http.DefaultClient), or(options.Limit, MaxRequests), or(options.MaxSize, MaxDocument)
 	run, err := Open(document, nil, Policy{Mode: options.Mode})
 	if err != nil {
 		return nil, err

@@ -12,8 +12,6 @@ import "C"
 
 import (
 	"bytes"
-	"crypto/rand"
-	"encoding/binary"
 	"encoding/json"
 	"errors"
 	"fmt"
@@ -48,11 +46,7 @@ const (
 )
 
 // seed is drawn once, and kept secret: nobody can choose names that make a call slow. Without random bytes it is 0, which is as safe.
-var seed = func() C.uint64_t {
-	var bytes [8]byte
-	_, _ = rand.Read(bytes[:])
-	return C.uint64_t(binary.LittleEndian.Uint64(bytes[:]))
-}()
+var seed = C.odb_seed()
 
 // constants is what the library says of itself.
 var constants = func() (found struct {
@@ -279,7 +273,7 @@ func Plan(batch []byte) (found []PlannedRequest, err error) {
 		return C.odb_plan_as(at(batch), size(batch), C.ODB_LINES, to.text, to.room, &to.length, seed)
 	}, batch)
 	for _, line := range lines(text) {
-		words := strings.Fields(line)
+		words := strings.Split(line, " ")
 		planned := PlannedRequest{len(found), words[1], number(words[3]), strings.Trim(words[5], "*"), nil}
 		if words[7] != "*" {
 			planned.Needs = strings.Split(words[7], ",")
@@ -366,7 +360,7 @@ func Replay(batch, outcomes []byte, options ReplayOptions) (response []byte, ste
 	}, batch, outcomes)
 	end := bytes.LastIndexByte(text, '\n') + 1
 	for _, line := range lines(text[:end]) {
-		words := append(strings.Fields(line), "")
+		words := append(strings.Split(line, " "), "")
 		steps = append(steps, Step{words[0], words[1], number(words[2])})
 	}
 	return text[end:], steps, err

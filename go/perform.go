@@ -295,12 +295,8 @@ func (p *performance) prepared(id string) (*Request, error) {
 		return nil, err
 	}
 	request.URL, p.sent[id], request.Headers = url, url, joined(request.Headers)
-	for _, name := range conditions {
-		if to := strings.TrimPrefix(request.Headers[name], "$"); to != request.Headers[name] && p.run.Request(to) != nil {
-			if request.Headers[name] = p.answers[to].etag(); request.Headers[name] == "" {
-				return nil, noETag(to)
-			}
-		}
+	if err := tag(request.Headers, p.answers, func(id string) bool { return p.run.Request(id) != nil }); err != nil {
+		return nil, err
 	}
 	if request.Body != nil && request.Headers["content-type"] == "" {
 		request.Headers["content-type"] = "application/json"
@@ -309,8 +305,18 @@ func (p *performance) prepared(id string) (*Request, error) {
 	return &request, err
 }
 
-func noETag(id string) error {
-	return &Refusal{Status: 424, Code: "NoETag", Message: id + " was answered without an ETag", Target: id}
+// tag puts the ETag of an answer in place of $ and an id, if that is to be replaced; an answer without one is a *Refusal.
+func tag(headers map[string]string, answers map[string]Answer, isReplaced func(id string) bool) error {
+	for _, name := range conditions {
+		id := strings.TrimPrefix(headers[name], "$")
+		if id == headers[name] || !isReplaced(id) {
+			continue
+		}
+		if headers[name] = answers[id].etag(); headers[name] == "" {
+			return &Refusal{Status: 424, Code: "NoETag", Message: id + " was answered without an ETag", Target: id}
+		}
+	}
+	return nil
 }
 
 // resolved asks the library where a request is sent.
