@@ -304,13 +304,14 @@ type Status struct {
 type MatchOptions struct {
 	Mode   Mode // Stop for one that stops at its first error
 	Strict bool // whether some finished run has to answer the statuses, too
+	Units  bool // whether that run may also send a group as one, as StartUnit does; for Strict alone
 }
 
 // Match matches the response document of a service against a batch; returns the statuses in the order of the batch.
 func Match(batch, responses []byte, options MatchOptions) (found []Status, err error) {
 	text, err := answer(func(to *textOut) C.uint32_t {
 		return C.odb_match_with(at(batch), size(batch), at(responses), size(responses), C.uint32_t(options.Mode),
-			bit[options.Strict], C.ODB_LINES, to.text, to.room, &to.length, seed)
+			bit[options.Strict]*(1+bit[options.Units]), C.ODB_LINES, to.text, to.room, &to.length, seed)
 	}, batch, responses)
 	for i, line := range lines(text) {
 		if id, status, _ := strings.Cut(line, " "); i > 0 {

@@ -79,7 +79,7 @@ func answered(it call) (int, string) {
 		found, err := odb.Canon(it.batch)
 		return text(string(found)+"\n", err)
 	case 3:
-		found, err := odb.Match(it.batch, it.second, odb.MatchOptions{Mode: mode, Strict: n[5] == 1})
+		found, err := odb.Match(it.batch, it.second, odb.MatchOptions{Mode: mode, Strict: n[5] > 0, Units: n[5] == 2})
 		fmt.Fprintf(&out, "ok %d responses\n", len(found))
 		for _, s := range found {
 			fmt.Fprintf(&out, "%s %d\n", s.ID, s.Status)
