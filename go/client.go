@@ -295,7 +295,8 @@ func (b *Batch) Send(ctx context.Context, client *http.Client, url string, optio
 // whole: its requests have that answer, 504 for a timeout and 502 for another failure, and what comes after it was not sent. What was
 // answered 502 or 504 may have been performed.
 func Send(ctx context.Context, client *http.Client, url string, document []byte, options SendOptions) (*Results, error) {
-	client, options.Limit, options.MaxSize = or(client, http.DefaultClient), or(options.Limit, MaxRequests), or(options.MaxSize, MaxDocument)
+	client = or(client, http.DefaultClient)
+	options.Limit, options.MaxSize = or(options.Limit, MaxRequests), or(options.MaxSize, MaxDocument)
 	run, err := Open(document, nil, Policy{Mode: options.Mode})
 	if err != nil {
 		return nil, err

@@ -86,10 +86,7 @@ func Perform(ctx context.Context, batch []byte, send SendFunc, options Options) 
 	var workers sync.WaitGroup
 	for i := 1; i < options.Width && i < len(run.Requests()); i++ {
 		workers.Add(1)
-		go func() {
-			defer workers.Done()
-			p.work(ctx)
-		}()
+		go func() { defer workers.Done(); p.work(ctx) }()
 	}
 	p.work(ctx)
 	workers.Wait()
