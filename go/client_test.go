@@ -211,6 +211,7 @@ func TestAServiceThatIsBad(t *testing.T) {
 		"a redirect": {307, "", "r0 502, r1 502, r2 424", 3},
 		"no JSON":    {200, "{", "r0 502, r1 502, r2 424", 3},
 		"other ids":  {200, `{"responses":[{"id":"x","status":200},{"id":"r1","status":200}]}`, "r0 502, r1 502, r2 424", 3},
+		"blanks":     {200, all([]string{"r0", "r1"}, 200, "") + strings.Repeat(" ", 1000), "r0 502, r1 502, r2 424", 3},
 		"too long":   {200, all([]string{"r0", "r1"}, 200, `,"body":"`+strings.Repeat("x", 1000)+`"`), "r0 502, r1 502, r2 424", 3},
 	} {
 		url, came := posts(t, func(part int, ids []string) (int, string) { return it.status, it.answer })
