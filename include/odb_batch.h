@@ -401,8 +401,8 @@ uint32_t odb_run_start_unit(odb_live_run *run, uint32_t position);
  * has reported. Each body is the bytes of `batch`, which is the document of the run. `*count` is set to the number of positions; it is
  * 0 if nothing may be sent now. A run that is not finished gives a part with a request, or has one that is not reported yet.
  * Returns ODB_DONE, and from now on the requests are in a part: once it is answered, pass it with its responses to `odb_run_take`,
- * or start its units one after another by `odb_run_start_unit`, and report their requests. Otherwise the run and `positions` are as they were: returns
- * ODB_SMALL_BUFFER if one of the buffers has too little room, and `*text_length` and `*count` say how much is needed. Else `*count`
+ * or start its units one after another by `odb_run_start_unit`, and report their requests. Otherwise the run and `positions` are as
+ * they were: returns ODB_SMALL_BUFFER if one of the buffers has too little room, and `*text_length` and `*count` say how much is needed. Else `*count`
  * is 0, and it returns ODB_WRONG_OPTION if `batch` has not the ids and groups of the run's batch, or if one of its groups has more
  * than `limit` requests; what `odb_check_as` does if the batch is refused, or by F90 if a request refers to one that has reported no
  * Location of use; or ODB_OUT_OF_MEMORY. A handle as above. Takes O(n log n) time for n bytes of the document. */
@@ -414,11 +414,12 @@ uint32_t odb_run_part(odb_live_run *run, const uint8_t *batch, size_t batch_size
  * its id: status, headers, and the bytes of the body. `part` is the text of the part, `responses` the response document, and `mode` what
  * an error does to the service: in ODB_STOP a request without a response is answered 424. What does not start, as its unit has failed or
  * the run was stopped before, is answered 424. In ODB_STOP the requests with errors start before one of them is reported: with a width
- * of ODB_MAX_WIDTH all of these are kept. Returns ODB_DONE, with no text; or, with the run as it was,
- * ODB_REFUSED if `odb_match_with` refuses the part or the responses, or by F70 if a status is below 200 or headers are not those of a
- * report: the text is the line of the fault; ODB_SMALL_BUFFER if the line does not fit; ODB_WRONG_OPTION unless `mode` is one of these
- * two, if a request is running, or if one of the part is in none that was given or has started; or ODB_OUT_OF_MEMORY. A handle as
- * above. Takes O(n log n) time for n bytes of the documents. */
+ * of ODB_MAX_WIDTH all of these are kept; but in a group without an error a 3xx becomes 424 if it depends on a member that is answered
+ * 424, as that this one was undone does not show. Returns ODB_DONE, with no text; or, with the run as it was, ODB_REFUSED if
+ * `odb_match_with` refuses the part or the responses, or by F70 if a status is below 200 or headers are not those of a report: the text
+ * is the line of the fault; ODB_SMALL_BUFFER if the line does not fit; ODB_WRONG_OPTION unless `mode` is one of these two, if a request
+ * is running, or if one of the part is in none that was given or has started; or ODB_OUT_OF_MEMORY. A handle as above. Takes
+ * O(n log n) time for n bytes of the documents. */
 uint32_t odb_run_take(odb_live_run *run, const uint8_t *part, size_t part_size,
                       const uint8_t *responses, size_t responses_size, uint32_t mode,
                       uint8_t *text, size_t text_size, size_t *text_length, uint64_t seed);

@@ -399,9 +399,11 @@ export class Run {
   /**
    * Takes what a service has answered a part, at once: starts its requests, and reports each by the response with its id, whose body
    * is taken as its bytes. A request that does not start, since its unit has failed or the run was stopped before, is answered 424.
-   * `mode` is what an error does to the service; if it stops, a request without a response is answered 424. Throws a {@link Fault} if
-   * the responses do not fit the part, as for `match`, or by F70 if one has a status below 200 or headers that no report has; and a
-   * `RangeError` if a request is running, or the part was not given by this run or has started. Then the run is as it was.
+   * `mode` is what an error does to the service. If it stops, a request without a response is answered 424; and in a group without an
+   * error a 3xx becomes 424 if it depends on a member that is answered 424: that this one was undone does not show. Throws a
+   * {@link Fault} if the responses do not fit the part, as for `match`, or by F70 if one has a status below 200 or headers that no
+   * report has; and a `RangeError` if a request is running, or the part was not given by this run or has started. Then the run is as
+   * it was.
    */
   take(part: Part, responses: Document, options?: { mode?: 'continue' | 'stop' }): void
 

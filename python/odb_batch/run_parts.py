@@ -91,7 +91,9 @@ class RunParts:
         Args:
             part: What :meth:`part` returned.
             responses: The response document of the service. Each body is taken as its bytes.
-            mode: What an error does to the service; if it stops, a request without a response is answered 424.
+            mode: What an error does to the service. If it stops, a request without a response is answered 424; and in a group
+                without an error a 3xx becomes 424 if it depends on a member that is answered 424: that this one was undone does
+                not show.
 
         Raises:
             Fault: The responses do not fit the part, as for :func:`odb_batch.match`; or by F70 a response has a status below

@@ -77,6 +77,16 @@ def test_a_batch_in_parts_is_answered_as_the_whole(take, drawn):
         assert statuses_of(run.response()) == wanted
 
 
+def lost(batch, statuses):
+    """What is neither a success nor an error and depends on a member of its group that was undone, which does not show."""
+    groups = {it["id"]: it.get("atomicityGroup") for it in batch["requests"]}
+    with_error = {groups[it] for it, status in statuses.items() if status >= 400 and status != 424}
+    for it in plan(batch):
+        undone = [need for need in it.needs if groups.get(need) == it.group and statuses.get(need) == 424]
+        if it.group is not None and it.group not in with_error and 300 <= statuses[it.id] < 400 and undone:
+            yield it.id
+
+
 @pytest.mark.parametrize("mode", ["continue", "stop"])
 @share(4)
 @given(scripted())
@@ -89,6 +99,8 @@ def test_a_run_has_the_answers_that_it_takes(mode, drawn):
         answered = Scripted(script, mode=mode).post(part.document)[2]
         run.take(part, answered, mode=mode)
         wanted = dict.fromkeys(part.ids, 424) | statuses_of(answered)
+        if mode == "stop":
+            wanted |= dict.fromkeys(lost(batch, wanted), 424)
         assert run.finished and statuses_of(run.response()) == wanted
 
 

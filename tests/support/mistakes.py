@@ -183,15 +183,21 @@ def members_stand_alone(batch, i):
 
 
 @mistake(rules_of_runs, "can_have_started", "match")
-def started_after_failures(batch, statuses):
+def started_after_failures(batch, statuses, units):
     """A request can have started whatever it needs was answered."""
     return [True] * len(batch)
 
 
 @mistake(rules_of_runs, "can_have_started", "match")
-def undone_without_start(batch, statuses):
+def undone_without_start(batch, statuses, units):
     """What is answered 424 in the group of a request counts as undone, though it cannot have started."""
     return [all(may_have_succeeded(batch, statuses, i, j) for j in needed_by(batch, i)) for i in range(len(batch))]
+
+
+@mistake(rules_of_runs, "can_have_been_sent", "match")
+def never_sent_as_one(batch, statuses, i):
+    """No unit has started as one, though `--units` says that units may."""
+    return False
 
 
 @mistake(rules_of_runs, "completed", "match")
