@@ -17,7 +17,7 @@ CONTENT_TYPES = """\
 RELATIONSHIPS = """\
 <?xml version="1.0" encoding="utf-8"?>
 <Relationships xmlns="http://schemas.openxmlformats.org/package/2006/relationships">
-  <Relationship Type="http://schemas.microsoft.com/packaging/2010/07/manifest" Target="/OdbBatch.nuspec" Id="R1" />
+  <Relationship Type="http://schemas.microsoft.com/packaging/2010/07/manifest" Target="/OdbBatch.nuspec" Id="Nuspec" />
 </Relationships>
 """
 
