@@ -32,7 +32,7 @@ ROOT = os.path.dirname(os.path.dirname(os.path.realpath(__file__)))
 # other work, is without the proof of the crate that its edits are tried over, which all of them together double. A crate
 # without a number counts as the dearest did.
 EDITS = 60
-MINUTES = 31
+MINUTES = 20
 SECONDS = {
     "odb_dense": 11, "odb_names": 13, "odb_io": 16, "odb_doc": 28, "odb_check": 26, "odb_sched": 26, "odb_exec": 30,
     "odb_reply": 24, "odb_engine": 40,
