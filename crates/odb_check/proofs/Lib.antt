@@ -13,4 +13,4 @@ pub mod WalkLemmas
 pub mod PhaseLemmas
 pub mod LevelLemmas
 pub mod PlanLemmas
-pub mod PartLemmas
+pub mod PassingLemmas

@@ -17,7 +17,6 @@ pub mod Starts
 pub mod Laws
 -- What serves invariants and private clauses: no public clause cites it.
 pub mod Tables
-pub mod Parts
 pub mod Resolved
 pub mod Walks
 pub mod PhaseFaults

@@ -1,5 +1,5 @@
 -- A plan as data, its laws, and what the names of a batch have to do with it.
-use Rattle.std.specs.Prelude.{◌≡◌, ◌≢◌, ◌↔◌, ◌⊎◌, ◌<◌, ◌≤◌, ℕ, List, [], length, Some, Contains, slice_index_or, AllPairs}
+use Rattle.std.specs.Prelude.{◌≡◌, ◌≢◌, ◌↔◌, ◌⊎◌, ◌<◌, ◌≤◌, ℕ, Bool, true, false, List, [], length, Some, Contains, slice_index_or, AllPairs}
 use Rattle.odb_doc.specs.batch.Records.{Record}
 use Rattle.odb_check.specs.declared.need.Need.{Need}
 use Rattle.odb_check.specs.declared.need.Need.TheVariants.{One, Group}
@@ -48,10 +48,25 @@ IsNeedAmong requests units (Group u) = u < units
 abbrev pub IsNeed : PlanGraph → Need → Type 0
 IsNeed plan need = IsNeedAmong (length plan.units) plan.unit_count need
 
+-- the unit that a need is about, by the unit of each position
+abbrev pub unit_needed : (ℕ → ℕ) → Need → ℕ
+unit_needed unit (One r) = unit r
+unit_needed unit (Group u) = u
+
 -- what the request at i needs precedes it: an earlier position, or an earlier unit
 abbrev pub IsEarlier : PlanGraph → ℕ → Need → Type 0
 IsEarlier plan i (One r) = r < i
 IsEarlier plan i (Group u) = u < unit_of plan i
+
+-- of each unit, whether all its members among the first n positions pass a test
+pub record ArePassing (plan : PlanGraph) (test : ℕ → Bool) (n : ℕ) (units : List Bool) : Type 0 where
+  pub count : length units ≡ plan.unit_count
+  pub passed : (u i : ℕ) → slice_index_or units u false ≡ true → i < n → unit_of plan i ≡ u → test i ≡ true
+  pub failed : (u : ℕ) → u < plan.unit_count → slice_index_or units u false ≡ false → (i : ℕ) × (i < length plan.units) × (unit_of plan i ≡ u) × (test i ≡ false)
+
+-- what the calls at the first n positions answer is this test
+abbrev pub AreAnswers : ℕ → (ℕ → Bool → Type 0) → (ℕ → Bool) → Type 0
+AreAnswers n post test = (i : ℕ) (answer : Bool) → i < n → post i answer → answer ≡ test i
 
 -- no other position is in the unit of this one
 abbrev pub IsAlone : PlanGraph → ℕ → Type 0

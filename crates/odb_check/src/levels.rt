@@ -8,8 +8,8 @@ ghost use Rattle.odb_check.specs.Requests.{requests};
 ghost use Rattle.odb_check.specs.PlanGraph.{IsNeedAmong};
 
 use crate::need::Need;
-use crate::needs::Needs;
 use crate::tables::Tables;
+use odb_dense::Rows;
 use std::alloc::{AllocError, Global};
 
 /// The level of what is needed.
@@ -43,7 +43,7 @@ fn next_level(needs: &[Need], levels: &[u32], unit_levels: &[u32]) -> u32
 pub(crate) fn levels_of(
     alloc: Global,
     tables: &Tables<'_>,
-    needs: &Needs,
+    needs: &Rows<Need>,
 ) -> Result<Vec<u32>, AllocError>
     requires good { HasGoodNames (requests tables.now) }
     requires needs { needs.now ≡ needs_of_each (requests tables.now) }

@@ -140,7 +140,7 @@ impl Resolved<'_, '_> {
     fn referred(&self) -> Option<u32>
         ensures { result ≡ referred_by self.now }
     {
-        self.tables.position_of(self.tables.reference(self.i)?)
+        self.tables.referred(self.i)
     }
 
     /// F41: whether `dependsOn` lists a request or a group that does not precede.

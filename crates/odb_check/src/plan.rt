@@ -1,6 +1,6 @@
 //! The plan of a batch: its units, and what each request needs.
 
-ghost use Rattle.std.specs.Prelude.{◌==◌, ◌≡◌, ◌≤◌, ◌<◌, length, slice_get, All, Some};
+ghost use Rattle.std.specs.Prelude.{◌==◌, ◌≡◌, ◌≤◌, ◌<◌, ℕ, Bool, length, slice_get, All, Some, IfOk};
 ghost use Rattle.odb_doc.specs.batch.Records.{IsWellFormedRecord, record_of};
 ghost use Rattle.odb_check.specs.LeastNameFault.{HasGoodNames};
 ghost use Rattle.odb_check.specs.Levels.{level_at, levels_below};
@@ -9,9 +9,10 @@ ghost use Rattle.odb_check.specs.Requests.{requests};
 ghost use Rattle.odb_check.specs.Units as units;
 
 use crate::need::Need;
-use crate::needs::Needs;
 use crate::tables::Tables;
+use odb_dense::Rows;
 use odb_doc::Request;
+use std::alloc::{AllocError, Global};
 use std::ops::Range;
 
 /// The plan of a batch whose names fit together: its units, and what each request needs before it may
@@ -22,7 +23,7 @@ use std::ops::Range;
 #[derive(Drop)]
 pub struct Plan<'b> {
     pub(crate) tables: Tables<'b>,
-    pub(crate) needs: Needs,
+    pub(crate) needs: Rows<Need>,
     pub(crate) levels: Vec<u32>,
     ghost good: { HasGoodNames (requests tables) },
     ghost needed: { needs ≡ needs_of_each (requests tables) },
@@ -33,7 +34,7 @@ impl<'b> Plan<'b> {
     ghost use Rattle.odb_check.specs.Units.{groups_of};
     ghost use Rattle.odb_check.specs.Needs.{needs_at};
     ghost use Rattle.odb_check.specs.Plans.{plan_records, plan_graph};
-    ghost use Rattle.odb_check.specs.PlanGraph.{IsNeed, IsSpan};
+    ghost use Rattle.odb_check.specs.PlanGraph.{AreAnswers, ArePassing, IsNeed, IsSpan};
     ghost use Rattle.odb_check.specs.PlanGraph as plan_graphs;
 
     /// Returns the number of requests: 10,000 at most.
@@ -90,6 +91,30 @@ impl<'b> Plan<'b> {
         self.tables.unit_of(i)
     }
 
+    /// Returns for each unit whether all its requests pass a test.
+    ///
+    /// # Errors
+    ///
+    /// If memory for the units cannot be allocated.
+    pub fn passing_units<F: Fn(u32) -> bool>(
+        &self,
+        alloc: Global,
+        passes: F,
+    ) -> Result<Vec<bool>, AllocError>
+        requires { (i : ℕ) → i < length (plan_graph self.now).units → F.pre passes i }
+        ensures { (test : ℕ → Bool) → AreAnswers (length (plan_graph self.now).units) (F.post passes) test
+            → IfOk result (λ units. ArePassing (plan_graph self.now) test
+            (length (plan_graph self.now).units) units.items) }
+    {
+        let mut units = vec![in alloc; true; self.unit_count() as usize]?;
+        for i in 0..self.len() {
+            if !passes(i) {
+                units[self.unit_of(i) as usize] = false;
+            }
+        }
+        Ok(units)
+    }
+
     /// Returns the positions of a unit, which are adjacent.
     pub fn members(&self, u: u32) -> Range<u32>
         requires { u < (plan_graph self.now).unit_count }
@@ -117,7 +142,7 @@ impl<'b> Plan<'b> {
     }
 
     /// Returns the dependencies of each request.
-    pub fn all_needs(&self) -> &Needs
+    pub fn all_needs(&self) -> &Rows<Need>
         ensures { result.now ≡ (plan_graph self.now).needs }
     {
         &self.needs
@@ -147,9 +172,6 @@ impl<'b> Plan<'b> {
         requires { i < length (plan_records self.now) }
         ensures { result ≡ units.referred_at (plan_records self.now) i }
     {
-        match &self.request(i).reference {
-            Some(id) => self.position_of(id.as_str()),
-            None => None,
-        }
+        self.tables.referred(i)
     }
 }

@@ -260,6 +260,14 @@ impl<'b> Tables<'b> {
         self.all.ids.get(id)
     }
 
+    /// The request that the URL of the request refers to, if the batch has it.
+    pub(crate) fn referred(&self, i: u32) -> Option<u32>
+        requires { i < length (requests self.now) }
+        ensures { result ≡ spec.referred_at (requests self.now) i }
+    {
+        self.position_of(self.reference(i)?)
+    }
+
     /// Whether two requests have one identifier.
     pub(crate) fn has_repeated_id(&self) -> bool
         ensures { result ≡ false → AreIdsDistinct (requests self.now) (length (requests self.now)) }

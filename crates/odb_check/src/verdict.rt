@@ -12,16 +12,20 @@ ghost use Rattle.odb_check.specs.Seeds.{IsSeeded};
 use crate::fault::CheckFault;
 use crate::ids::check_ids;
 use crate::levels::levels_of;
-use crate::needs::Needs;
+use crate::need::Need;
 use crate::plan::Plan;
 use crate::seed::Seed;
 use crate::tables::{Tables, tables_of};
 use crate::walk::all_needs;
+use odb_dense::Rows;
 use odb_doc::Batch;
 use std::alloc::Global;
 
 /// The needs and the levels of a batch whose names fit together.
-fn needs_and_levels(alloc: Global, tables: &Tables<'_>) -> Result<(Needs, Vec<u32>), CheckFault>
+fn needs_and_levels(
+    alloc: Global,
+    tables: &Tables<'_>,
+) -> Result<(Rows<Need>, Vec<u32>), CheckFault>
     ensures good { OnOk result (HasGoodNames (requests tables.now)) }
     ensures needs { IfOk result (λ found. found.0 ≡ needs_of_each (requests tables.now)) }
     ensures levels { IfOk result (λ found. found.1.items

@@ -15,8 +15,8 @@ use crate::fault::CheckFault;
 use crate::marks::Marks;
 use crate::names::Resolved;
 use crate::need::Need;
-use crate::needs::Needs;
 use crate::tables::Tables;
+use odb_dense::Rows;
 use std::alloc::{AllocError, Global};
 
 /// Makes `row` what the names of the request at `i` resolve to, marks it, and returns whether one of
@@ -95,14 +95,14 @@ fn resolve_needs(
 }
 
 /// The needs of the requests, or the first of them that breaks a rule on names and references.
-pub(crate) fn all_needs(alloc: Global, tables: &Tables<'_>) -> Result<Needs, CheckFault>
+pub(crate) fn all_needs(alloc: Global, tables: &Tables<'_>) -> Result<Rows<Need>, CheckFault>
     requires { HasValidIds (requests tables.now) }
     ensures good { OnOk result (HasGoodNames (requests tables.now)) }
     ensures needs { IfOk result (λ needs. needs ≡ needs_of_each (requests tables.now)) }
     ensures least { IfErr result (λ fault. RefusesNames fault (requests tables.now)) }
 {
     let mut marks = Marks::new(alloc, tables)?;
-    let mut needs = Needs::new(alloc);
+    let mut needs = Rows::new(alloc);
     let mut row = Vec::new(alloc);
     for i in 0..tables.len() {
         resolve_needs(tables, i, &mut row, &mut marks)?;

@@ -5,3 +5,4 @@ pub mod QueuedLemmas
 pub mod MarkLemmas
 pub mod KeyLemmas
 pub mod RowLemmas
+pub mod PartLemmas

@@ -5,7 +5,7 @@ pub mod Lists
 pub mod Marks
 -- What invariants and private clauses cite: nothing to believe.
 pub mod Bits
+pub mod Parts
 pub mod Places
 pub mod Queue
-pub mod Split
 pub mod Starts

@@ -1,7 +1,7 @@
-//! Sets, lists by key and worklists over the numbers below a bound.
+//! Sets and worklists over the numbers below a bound, and rows of values.
 //!
-//! Only `new`, `of` and [`none_for_each`] allocate. After that `least` and `greatest` look at one word for each 4,096
-//! numbers of the bound and at one word more, whatever the set holds, and every other call takes
+//! Only `new`, [`none_for_each`] and the calls that make or lengthen [`Rows`] allocate. `least` and `greatest` look at one
+//! word for each 4,096 numbers of the bound and at one word more, whatever the set holds, and the other calls take
 //! constant time: `as_slice` and `row` borrow what is there.
 #![tactic(auto)]
 

@@ -1,90 +1,145 @@
-//! Lists of numbers by key, in one list.
+//! Rows of values, in one list.
 
-ghost use Rattle.std.specs.Prelude.{◌≡◌, ◌<◌, ◌+◌, ◌-◌, ℕ, [], length, slice_index_or, IfOk};
+ghost use Rattle.std.specs.Prelude.{◌≡◌, ◌<◌, ◌++◌, ◌∷◌, ℕ, [], length, slice_index_or, IfOk, OnOk};
 ghost use Rattle.odb_dense.specs.ByKey.{of_key, HaveKeys};
-ghost use Rattle.odb_dense.specs.Starts.{AreStarts, AreRowsOf};
+ghost use Rattle.odb_dense.specs.Starts.{AreParts};
 
 use std::alloc::{AllocError, Global};
 use std::marker::Model;
 
-/// Lists of numbers, one for each key below a bound, in one flat list (compressed sparse rows): the
-/// row of a key goes from its start to that of the next key.
+/// Rows of values, one after the other in one flat list (compressed sparse rows).
 #[derive(Drop)]
-pub struct Rows {
-    starts: Vec<usize>,
-    flat: Vec<u32>,
+pub struct Rows<T> {
+    flat: Vec<T>,
+    /// Where each row begins and ends in the flat list.
+    parts: Vec<(usize, usize)>,
 }
 
-impl Model for Rows {
-    ghost use Rattle.std.specs.Prelude.{ℕ, List};
+impl<T> Model for Rows<T> {
+    ghost use Rattle.std.specs.Prelude.{List};
+    ghost use Rattle.std.specs.Coded.{coded_list};
 
-    ghost Value = { List (List ℕ) };
+    ghost Value = { List (List T) };
 
-    ghost use Rattle.odb_dense.specs.Split.{rows_of, IsSplit};
+    ghost coded = { coded_list (coded_list T.code) };
 
-    ghost view = { rows_of };
+    ghost use Rattle.odb_dense.specs.Parts.{rows_of, HasParts};
 
-    ghost invariant = { IsSplit };
+    ghost view = { λ rows. rows_of rows.flat.items rows.parts.items };
+
+    ghost invariant = { λ rows. HasParts rows.flat.items rows.parts.items };
 }
 
-/// Returns where the row of each key starts, and where the last one ends.
-fn starts_of(alloc: Global, keys: usize, pairs: &[(u32, u32)]) -> Result<Vec<usize>, AllocError>
+/// Returns an empty row for each key, with room for its numbers up to the row of the next key.
+fn empty_rows(
+    alloc: Global,
+    keys: usize,
+    pairs: &[(u32, u32)],
+) -> Result<Vec<(usize, usize)>, AllocError>
     requires { HaveKeys keys pairs.now }
-    ensures len { IfOk result (λ starts. length starts.items ≡ keys + 1) }
-    ensures starts { IfOk result (λ starts. AreStarts pairs.now starts.items) }
+    ensures len { IfOk result (λ parts. length parts.items ≡ keys) }
+    ensures empty { IfOk result (λ parts. AreParts pairs.now [] parts.items) }
 {
-    let count = keys.checked_add(1).ok_or(AllocError)?;
-    let mut starts = vec![in alloc; 0_usize; count]?;
+    let mut counts = vec![in alloc; 0_usize; keys]?;
     for &(key, _) in pairs {
-        starts[key as usize + 1] += 1;
+        counts[key as usize] += 1;
     }
+    let mut parts = Vec::with_capacity(alloc, keys)?;
+    let mut from = 0;
     for key in 0..keys {
-        starts[key + 1] += starts[key];
+        parts.push((from, from))?;
+        from += counts[key];
     }
-    Ok(starts)
+    Ok(parts)
 }
 
-/// Returns the second parts of the pairs, grouped by key, in the order of the pairs within a key.
-fn flat_of(alloc: Global, pairs: &[(u32, u32)], starts: &[usize]) -> Result<Vec<u32>, AllocError>
-    requires keys { HaveKeys (length starts.now - 1) pairs.now }
-    requires starts { AreStarts pairs.now starts.now }
-    ensures len { IfOk result (λ flat. length flat.items ≡ length pairs.now) }
-    ensures rows { IfOk result (λ flat. AreRowsOf pairs.now starts.now flat.items) }
+/// Returns the rows, once the second part of each pair is put at the end of the row of its key.
+fn filled(
+    alloc: Global,
+    pairs: &[(u32, u32)],
+    mut parts: Vec<(usize, usize)>,
+) -> Result<Rows<u32>, AllocError>
+    requires keys { HaveKeys (length parts.items) pairs.now }
+    requires empty { AreParts pairs.now [] parts.items }
+    ensures len { IfOk result (λ rows. length rows ≡ length parts.items) }
+    ensures rows { IfOk result (λ rows. (k : ℕ) → k < length parts.items
+        → slice_index_or rows k [] ≡ of_key k pairs.now) }
 {
-    let mut next = starts.to_vec(alloc)?;
     let mut flat = vec![in alloc; 0_u32; pairs.len()]?;
     for &(key, number) in pairs {
-        let place = next[key as usize];
+        let (from, place) = parts[key as usize];
         flat[place] = number;
-        next[key as usize] = place + 1;
+        parts[key as usize] = (from, place + 1);
     }
-    Ok(flat)
+    Ok(Rows { flat, parts })
 }
 
-impl Rows {
-    /// Returns the second parts of pairs by their first parts, each list in the order of the pairs.
+impl Rows<u32> {
+    /// Returns the second parts of pairs by their first parts, each row in the order of the pairs.
     ///
-    /// The first parts are below `keys`, the number of lists.
+    /// The first parts are below `keys`, the number of rows.
     ///
     /// # Errors
     ///
     /// If memory for the keys and the pairs cannot be allocated.
-    pub fn of(alloc: Global, keys: usize, pairs: &[(u32, u32)]) -> Result<Rows, AllocError>
+    pub fn of(alloc: Global, keys: usize, pairs: &[(u32, u32)]) -> Result<Rows<u32>, AllocError>
         requires { HaveKeys keys pairs.now }
         ensures len { IfOk result (λ rows. length rows ≡ keys) }
         ensures rows { IfOk result (λ rows. (k : ℕ) → k < keys
             → slice_index_or rows k [] ≡ of_key k pairs.now) }
     {
-        let starts = starts_of(alloc, keys, pairs)?;
-        let flat = flat_of(alloc, pairs, &starts)?;
-        Ok(Rows { starts, flat })
+        let parts = empty_rows(alloc, keys, pairs)?;
+        filled(alloc, pairs, parts)
+    }
+}
+
+impl<T: Copy> Rows<T> {
+    /// Returns no rows.
+    pub fn new(alloc: Global) -> Rows<T>
+        ensures { result ≡ [] }
+    {
+        Rows {
+            flat: Vec::new(alloc),
+            parts: Vec::new(alloc),
+        }
     }
 
-    /// Returns the numbers of a key, which is below the number of lists.
-    pub fn row(&self, key: u32) -> &[u32]
-        requires { key < length self.now }
-        ensures { result.now ≡ slice_index_or self.now key [] }
+    /// Adds a row after the others.
+    ///
+    /// # Errors
+    ///
+    /// If memory for the row cannot be allocated.
+    pub fn push(&mut self, row: &[T]) -> Result<(), AllocError>
+        ensures { OnOk result (self.new ≡ self.old ++ row.now ∷ []) }
     {
-        &self.flat[self.starts[key as usize]..self.starts[key as usize + 1]]
+        let from = self.flat.len();
+        self.flat.extend_from_slice(row)?;
+        self.parts.push((from, self.flat.len()))?;
+        Ok(())
+    }
+
+    /// Returns the same rows, in memory of their own.
+    ///
+    /// # Errors
+    ///
+    /// If memory for the rows cannot be allocated.
+    pub fn copied(&self, alloc: Global) -> Result<Rows<T>, AllocError>
+        ensures { IfOk result (λ copy. copy ≡ self.now) }
+    {
+        Ok(Rows {
+            flat: Vec::from_slice(alloc, &self.flat)?,
+            parts: Vec::from_slice(alloc, &self.parts)?,
+        })
+    }
+}
+
+impl<T> Rows<T> {
+    /// Returns the row with this number, which is below the number of rows.
+    pub fn row(&self, i: u32) -> &[T]
+        requires { i < length self.now }
+        ensures { result.now ≡ slice_index_or self.now i [] }
+    {
+        let (from, to) = self.parts[i as usize];
+        &self.flat[from..to]
     }
 }

@@ -31,12 +31,12 @@ use Rattle.odb_doc.proofs.RepeatLemmas.{less_from}
 -- ---- names in order
 
 abbrev pub no_header : Lent
-no_header = (record { ref_ptr = (0, 0); now = [] }, record { ref_ptr = (0, 0); now = [] })
+no_header = record { written = record { ref_ptr = (0, 0); now = [] }; value = record { ref_ptr = (0, 0); now = [] } }
 
 by_name_total : IsTotalOrder by_name
-by_name_total = on_total (λ (x : Lent). str_to_ascii_lowercase x.0.now) nat_list_cmp_total
+by_name_total = on_total (λ (x : Lent). str_to_ascii_lowercase x.written.now) nat_list_cmp_total
 
-below_names : (x : Lent) (xs : List Lent) → AllByRecursion (λ y. by_name x y ≡ Less) xs → AllByRecursion (λ name. slice_cmp nat_cmp (str_to_ascii_lowercase x.0.now) name ≡ Less) (keys_of (map lent_header xs))
+below_names : (x : Lent) (xs : List Lent) → AllByRecursion (λ y. by_name x y ≡ Less) xs → AllByRecursion (λ name. slice_cmp nat_cmp (str_to_ascii_lowercase x.written.now) name ≡ Less) (keys_of (map lent_header xs))
 below_names x [] all = tt
 below_names x (y ∷ ys) all = (all.0, below_names x ys all.1)
 
@@ -62,7 +62,7 @@ tied Greater Less turned here back = cc
 tied Greater Equal turned here back = cc
 tied Greater Greater turned here back = cc
 
-name_at : (xs : List Lent) (k : ℕ) (d : Lent) → k < length xs → get_or (keys_of (map lent_header xs)) k [] ≡ str_to_ascii_lowercase (get_or xs k d).0.now
+name_at : (xs : List Lent) (k : ℕ) (d : Lent) → k < length xs → get_or (keys_of (map lent_header xs)) k [] ≡ str_to_ascii_lowercase (get_or xs k d).written.now
 name_at xs k d within =
     let longer : k < length (map lent_header xs) = omega (arith, length-map xs lent_header) in
     get_or-map (λ (h : Header). h.0) (map lent_header xs) k ([], []) [] longer ∙ ap (λ (h : Header). h.0) (get_or-map lent_header xs k d ([], []) within)
@@ -74,11 +74,11 @@ twice_from_unordered xs sorted unordered apart =
     let y = get_or xs (k + 1) no_header in
     let here : false ≡ is_lt (by_name x y) = unordered.2 no_header in
     let back : is_lt (by_name y x) ≡ false = sorted k no_header (omega arith) unordered.1 in
-    let same = sym (is_eq-slice_cmp (str_to_ascii_lowercase x.0.now) (str_to_ascii_lowercase y.0.now)) ∙ tied (by_name x y) (by_name y x) (by_name_total.antisymm x y) here back in
+    let same = sym (is_eq-slice_cmp (str_to_ascii_lowercase x.written.now) (str_to_ascii_lowercase y.written.now)) ∙ tied (by_name x y) (by_name y x) (by_name_total.antisymm x y) here back in
     let long : k + 1 < length (keys_of (map lent_header xs)) = omega (arith, length-map xs lent_header, length-map (map lent_header xs) (λ (h : Header). h.0), unordered.1) in
     let within : k + 1 < length xs = unordered.1 in
     let other : bytes_eq (get_or (keys_of (map lent_header xs)) k []) (get_or (keys_of (map lent_header xs)) (k + 1) []) ≡ false = apart_from_distinct bytes_eq (keys_of (map lent_header xs)) k (k + 1) [] apart (omega arith) long in
-    let names : bytes_eq (str_to_ascii_lowercase x.0.now) (str_to_ascii_lowercase y.0.now) ≡ false =
+    let names : bytes_eq (str_to_ascii_lowercase x.written.now) (str_to_ascii_lowercase y.written.now) ≡ false =
     rw (name_at xs k no_header (omega (arith, within)), name_at xs (k + 1) no_header within) at other in
     cc (same, names)
 
@@ -148,20 +148,20 @@ then_rest o rest is = rw is refl
 -- ---- a look-up by name
 
 pub find_more : (test : List ℕ → Bool) (hs : List Lent) (k : ℕ) (d : Lent) → k < length hs
-    → lookup test (map lent_header (drop k hs)) ≡ cond (test (str_to_ascii_lowercase (get_or hs k d).0.now)) (Some (get_or hs k d).1.now) (lookup test (map lent_header (drop (k + 1) hs)))
+    → lookup test (map lent_header (drop k hs)) ≡ cond (test (str_to_ascii_lowercase (get_or hs k d).written.now)) (Some (get_or hs k d).value.now) (lookup test (map lent_header (drop (k + 1) hs)))
 find_more test hs k d within = at_drop_more (λ (gs : List Lent). lookup test (map lent_header gs)) hs k d within
 
 -- ---- the names of an object
 
-pub names-more : (done : List Entry) (e : Entry) (hs more : List Lent) (h : Lent) → more ≡ hs ++ h ∷ [] → h.0.now ≡ string_bytes e.0
+pub names-more : (done : List Entry) (e : Entry) (hs more : List Lent) (h : Lent) → more ≡ hs ++ h ∷ [] → h.written.now ≡ string_bytes e.0
     → keys_of (map lent_header hs) ≡ map str_to_ascii_lowercase (names_of (members_view done))
     → keys_of (map lent_header more) ≡ map str_to_ascii_lowercase (names_of (members_view (done ++ e ∷ [])))
 names-more done e hs more h is name are =
-    let last : keys_of (map lent_header (hs ++ h ∷ [])) ≡ keys_of (map lent_header hs) ++ str_to_ascii_lowercase h.0.now ∷ [] =
+    let last : keys_of (map lent_header (hs ++ h ∷ [])) ≡ keys_of (map lent_header hs) ++ str_to_ascii_lowercase h.written.now ∷ [] =
     ap keys_of (map-append lent_header hs (h ∷ [])) ∙ map-append (λ (g : Header). g.0) (map lent_header hs) (lent_header h ∷ []) in
     let names : map str_to_ascii_lowercase (names_of (members_view (done ++ e ∷ []))) ≡ map str_to_ascii_lowercase (names_of (members_view done)) ++ str_to_ascii_lowercase (string_bytes e.0) ∷ [] =
     ap (map str_to_ascii_lowercase) (names_of-more done e) ∙ map-append str_to_ascii_lowercase (names_of (members_view done)) (string_bytes e.0 ∷ []) in
-    ap (λ (gs : List Lent). keys_of (map lent_header gs)) is ∙ last ∙ ap (λ names. names ++ str_to_ascii_lowercase h.0.now ∷ []) are
+    ap (λ (gs : List Lent). keys_of (map lent_header gs)) is ∙ last ∙ ap (λ names. names ++ str_to_ascii_lowercase h.written.now ∷ []) are
     ∙ ap (λ name. map str_to_ascii_lowercase (names_of (members_view done)) ++ str_to_ascii_lowercase name ∷ []) name ∙ sym names
 
 -- a list in which no name stands twice, and one in which two do

@@ -2,7 +2,6 @@
 use Rattle.std.specs.Prelude.{◌≡◌, ◌<◌, ◌+◌, ℕ, false, List, [], ◌∷◌, ◌++◌, length, slice_index_or, Some, string_bytes, String}
 use Rattle.std.specs.declared.alloc.Global.{Global}
 use Rattle.std.specs.declared.cmp.Ordering.{Ordering}
-use Rattle.std.specs.Borrow.{Bor}
 use Rattle.std.specs.BTreeMap.{BTreeMap}
 use Rattle.std.specs.Cmp.Lexicographic.{slice_cmp}
 use Rattle.std.specs.Ordering.{is_lt, nat_cmp}
@@ -10,6 +9,7 @@ use Rattle.std.specs.Str.{str_to_ascii_lowercase}
 use Rattle.serde_json.specs.Data.{Data, object}
 use Rattle.serde_json.specs.View.{view, members_view}
 use Rattle.serde_json.specs.declared.value.Value.{Value}
+use Rattle.odb_doc.specs.declared.batch.folded.Header as folded
 use Rattle.odb_doc.specs.Headers.{Header, HoldsHeaders, IsHeaders, headers_in}
 
 abbrev pub Entry : Type 0
@@ -39,15 +39,15 @@ RefusesMember name d old =
 -- ---- headers that are lent from an object
 
 abbrev pub Lent : Type 0
-Lent = Bor (List ℕ) × Bor (List ℕ)
+Lent = folded.Header
 
 -- the header as it is written
 abbrev pub written : Lent → Header
-written header = (header.0.now, header.1.now)
+written header = (header.written.now, header.value.now)
 
 -- the order of the names in lower case
 abbrev pub by_name : Lent → Lent → Ordering
-by_name x y = slice_cmp nat_cmp (str_to_ascii_lowercase x.0.now) (str_to_ascii_lowercase y.0.now)
+by_name x y = slice_cmp nat_cmp (str_to_ascii_lowercase x.written.now) (str_to_ascii_lowercase y.written.now)
 
 -- some name does not come before the next
 abbrev pub HasUnordered : List Lent → Type 0

@@ -2,7 +2,6 @@
 -- 9110, section 5).
 use Rattle.std.specs.Prelude.{◌≡◌, ℕ, List, [], ◌∷◌, map, Option, Some, None, IsSome, option_and_then, option_map, unwrap_or, codes, bytes_eq, string_bytes, String}
 use Rattle.std.specs.declared.alloc.Global.{Global}
-use Rattle.std.specs.Borrow.{Bor}
 use Rattle.std.specs.BTreeMap.{BTreeMap}
 use Rattle.std.specs.Cmp.Lexicographic.{slice_cmp}
 use Rattle.std.specs.List.{IsDistinct}
@@ -12,6 +11,8 @@ use Rattle.std.specs.Ordering.{nat_cmp}
 use Rattle.std.specs.Str.{str_to_ascii_lowercase}
 use Rattle.serde_json.specs.Data.{Data, null, Members, no_members, member}
 use Rattle.serde_json.specs.Find.{get, as_str, as_object}
+use Rattle.odb_doc.specs.declared.batch.folded.Header.{Header as Lent}
+use Rattle.odb_doc.specs.declared.batch.folded.Headers.{Headers as LentHeaders}
 use Rattle.odb_doc.specs.Members.{names_in, given}
 
 -- a name and a value
@@ -74,6 +75,9 @@ header_of entry = (string_bytes entry.0, string_bytes entry.1)
 abbrev pub headers_in : BTreeMap (String Global) (String Global) → List Header
 headers_in m = map header_of m.entries
 
--- a header as a request has it: its name as it is written, and its value
-abbrev pub lent_header : Bor (List ℕ) × Bor (List ℕ) → Header
-lent_header header = (str_to_ascii_lowercase header.0.now, header.1.now)
+-- a header as a request has it, and all of them in order
+abbrev pub lent_header : Lent → Header
+lent_header header = (str_to_ascii_lowercase header.written.now, header.value.now)
+
+abbrev pub lent_headers : LentHeaders → List Header
+lent_headers headers = map lent_header headers.entries.items

@@ -45,13 +45,17 @@ abbrev pub request_names : List (List ℕ)
 request_names =
     codes "id" ∷ codes "method" ∷ codes "url" ∷ codes "atomicityGroup" ∷ codes "dependsOn" ∷ codes "if" ∷ codes "headers" ∷ codes "body" ∷ []
 
+-- the names of the members of an outcome or a report, whose id is at this one
+abbrev pub outcome_names : List ℕ → List (List ℕ)
+outcome_names id_name = id_name ∷ codes "status" ∷ codes "headers" ∷ codes "body" ∷ []
+
 -- the names of the members that an object of recorded outcomes or events may have
 abbrev pub members_of : Object → List (List ℕ)
 members_of Outcomes = codes "outcomes" ∷ []
-members_of Outcome = codes "id" ∷ codes "status" ∷ codes "headers" ∷ codes "body" ∷ []
+members_of Outcome = outcome_names (codes "id")
 members_of Events = codes "events" ∷ []
 members_of Start = codes "start" ∷ []
-members_of Report = codes "report" ∷ codes "status" ∷ codes "headers" ∷ codes "body" ∷ []
+members_of Report = outcome_names (codes "report")
 
 -- the name contains `@`
 abbrev pub is_annotation : List ℕ → Bool

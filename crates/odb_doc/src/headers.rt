@@ -14,7 +14,7 @@ use std::alloc::Global;
 use std::collections::BTreeMap;
 
 /// Returns the text in lower case.
-fn lowercase(text: String) -> String
+pub(crate) fn lowercase(text: String) -> String
     ensures { string_bytes result ≡ str_to_ascii_lowercase (string_bytes text) }
 {
     let mut folded = text;

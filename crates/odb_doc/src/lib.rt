@@ -29,6 +29,7 @@ mod whole;
 
 pub use batch::Batch;
 pub use batch::all_faults::shape_faults;
+pub use batch::folded::{Header, Headers};
 pub use batch::request::Request;
 pub use document::{MAX_DOCUMENT_BYTES, parse};
 pub use fault::{DocFault, DocumentRule, Place, RequestRule, TextFault};

@@ -56,21 +56,21 @@ fails_not rs es places statuses r rows passes failed = failed.2 (ap is_success (
 
 -- ---- needs
 
-failed_from : (rs : List Record) (es : List Entry) (places statuses : List ℕ) (units : List Bool) (need : Need) → HasRows rs es places statuses → AreUnits rs statuses (length rs) units
+failed_from : (rs : List Record) (es : List Entry) (places statuses : List ℕ) (units : List Bool) (plan : PlanGraph) (need : Need) → HasRows rs es places statuses → AreUnits plan statuses units → IsPlanGraphOf rs plan
     → IsNeedAmong (length rs) (unit_count rs) need → is_satisfied statuses units need ≡ false → HasFailed rs es need
-failed_from rs es places statuses units (One r) rows known within failing = fails_from rs es places statuses r rows within failing
-failed_from rs es places statuses units (Group u) rows known within failing =
-    let inside : u < length units = omega (arith, known.count) in
-    let member = known.failed u (slice_get-get_or units u false inside ∙ ap Some failing) in
-    (member.0, member.2, fails_from rs es places statuses member.0 rows member.1 member.3)
+failed_from rs es places statuses units plan (One r) rows known same within failing = fails_from rs es places statuses r rows within failing
+failed_from rs es places statuses units plan (Group u) rows known same within failing =
+    let member = known.failed u (omega (arith, within, same.unit_count)) failing in
+    let inside : member.0 < length rs = omega (arith, member.1, same.size) in
+    (member.0, sym (same.units member.0 inside) ∙ member.2, fails_from rs es places statuses member.0 rows inside member.3)
 
-satisfied_from : (rs : List Record) (es : List Entry) (places statuses : List ℕ) (units : List Bool) (need : Need) → HasRows rs es places statuses → AreUnits rs statuses (length rs) units
-    → IsNeedAmong (length rs) (unit_count rs) need → is_satisfied statuses units need ≡ true → ¬ HasFailed rs es need
-satisfied_from rs es places statuses units (One r) rows known within satisfied failing = fails_not rs es places statuses r rows satisfied failing
-satisfied_from rs es places statuses units (Group u) rows known within satisfied failing =
-    let inside : u < length units = omega (arith, known.count) in
+satisfied_from : (rs : List Record) (es : List Entry) (places statuses : List ℕ) (units : List Bool) (plan : PlanGraph) (need : Need) → HasRows rs es places statuses → AreUnits plan statuses units → IsPlanGraphOf rs plan
+    → is_satisfied statuses units need ≡ true → ¬ HasFailed rs es need
+satisfied_from rs es places statuses units plan (One r) rows known same satisfied failing = fails_not rs es places statuses r rows satisfied failing
+satisfied_from rs es places statuses units plan (Group u) rows known same satisfied failing =
     let failed = failing.2 in
-    let passes = known.succeeded u failing.0 (slice_get-get_or units u false inside ∙ ap Some satisfied) (id_within rs failing.0 failed.0.id failed.1.id) failing.1 in
+    let inside : failing.0 < length rs = id_within rs failing.0 failed.0.id failed.1.id in
+    let passes = known.passed u failing.0 satisfied (omega (arith, inside, same.size)) (same.units failing.0 inside ∙ failing.1) in
     fails_not rs es places statuses failing.0 rows passes failed
 
 -- no element passes if `list_any` is false
@@ -124,7 +124,7 @@ not_differs rs es places statuses i k e rows place given group broken =
     broken.differs (ap (λ (r : Entry). r.group) (sym same) ∙ group)
 
 -- the response is a success, and a dependency has failed
-pub first_unsound : (rs : List Record) (es : List Entry) (places statuses : List ℕ) (units : List Bool) (plan : PlanGraph) (i : ℕ) → HasRows rs es places statuses → AreUnits rs statuses (length rs) units → IsPlanGraphOf rs plan → IsPlan plan
+pub first_unsound : (rs : List Record) (es : List Entry) (places statuses : List ℕ) (units : List Bool) (plan : PlanGraph) (i : ℕ) → HasRows rs es places statuses → AreUnits plan statuses units → IsPlanGraphOf rs plan → IsPlan plan
     → i < length rs → ¬ Breaks rs es GroupDiffers i → is_success (get_or statuses i 0) ≡ true → list_any (λ need. not (is_satisfied statuses units need)) (needs_at rs i) ≡ true → IsFirstIn 3 rs es i UnsoundSuccess
 first_unsound rs es places statuses units plan i rows known same laws within group passes some =
     let place = slice_get-some places i (omega (arith, rows.table.places_count)) in
@@ -139,7 +139,7 @@ first_unsound rs es places statuses units plan i rows known same laws within gro
           success = ap is_success row.status_is ∙ passes;
           need = failing.0;
           needed = failing.1;
-          fails = failed_from rs es places statuses units failing.0 rows known (need_within rs plan i failing.0 same laws within failing.1) (not-true (is_satisfied statuses units failing.0) failing.2);
+          fails = failed_from rs es places statuses units plan failing.0 rows known same (need_within rs plan i failing.0 same laws within failing.1) (not-true (is_satisfied statuses units failing.0) failing.2);
         },
       );
       least = λ other less broken. below_75 rs es i group other less broken.0 broken.1;
@@ -151,8 +151,8 @@ not_success rs es places statuses i rows failed broken =
     both_ways (is_success (get_or statuses i 0)) failed (ap is_success (status_of rs es places statuses i broken.response rows broken.responds) ∙ broken.success)
 
 -- each dependency is satisfied
-pub not_failed : (rs : List Record) (es : List Entry) (places statuses : List ℕ) (units : List Bool) (plan : PlanGraph) (i : ℕ) → HasRows rs es places statuses → AreUnits rs statuses (length rs) units → IsPlanGraphOf rs plan → IsPlan plan
+pub not_failed : (rs : List Record) (es : List Entry) (places statuses : List ℕ) (units : List Bool) (plan : PlanGraph) (i : ℕ) → HasRows rs es places statuses → AreUnits plan statuses units → IsPlanGraphOf rs plan → IsPlan plan
     → i < length rs → list_any (λ need. not (is_satisfied statuses units need)) (needs_at rs i) ≡ false → ¬ Breaks rs es UnsoundSuccess i
 not_failed rs es places statuses units plan i rows known same laws within none broken =
     let satisfied = any_none (λ need. not (is_satisfied statuses units need)) (needs_at rs i) broken.need none broken.needed in
-    satisfied_from rs es places statuses units broken.need rows known (need_within rs plan i broken.need same laws within broken.needed) (not-false (is_satisfied statuses units broken.need) satisfied) broken.fails
+    satisfied_from rs es places statuses units plan broken.need rows known same (not-false (is_satisfied statuses units broken.need) satisfied) broken.fails

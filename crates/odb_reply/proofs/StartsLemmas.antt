@@ -3,18 +3,14 @@ use Rattle.std.proofs.Common.{◌≡◌, ◌≢◌, ◌∙◌, ◌<◌, ◌≤�
 use Rattle.std.specs.List.{list_all}
 use Rattle.std.proofs.lemmas.Bool.{cases_Bool, cases_eq, cases_lt, both_ways, and_from, and_parts, or_left, or_right, or_cases, false≢true, false_from_ne_true, true_from_ne_false}
 use Rattle.std.proofs.lemmas.List.{get_or-replicate, get_or_past, length-replicate, length-set}
-use Rattle.std.proofs.lemmas.Option.{slice_get-get_or}
-use Rattle.odb_doc.specs.batch.Records.{Record}
 use Rattle.odb_doc.proofs.OneLeast.{one_first}
 use Rattle.odb_doc.specs.Statuses.{is_success, is_status}
 use Rattle.odb_check.specs.declared.need.Need.{Need}
 use Rattle.odb_check.specs.declared.need.Need.TheVariants.{One, Group}
-use Rattle.odb_check.specs.PlanGraph.{PlanGraph, IsPlan, IsPlanGraphOf, IsEarlier, unit_of, needs_of}
-use Rattle.odb_sched.specs.run.Failing.{unit_needed}
+use Rattle.odb_check.specs.PlanGraph.{PlanGraph, ArePassing, IsPlan, IsEarlier, unit_of, needs_of, unit_needed}
 use Rattle.odb_sched.specs.run.Possible.{CanHaveSucceeded}
 use Rattle.odb_sched.specs.run.PossibleLive.{CanHaveBeenSent, IsAnswered2xx}
 use Rattle.odb_sched.proofs.BelowLemmas.{list_all-from, list_all-each}
-use Rattle.odb_reply.specs.Fits.{AreUnits}
 use Rattle.odb_reply.specs.Starts.{can_have_succeeded, can_start, is_met_outside, met_outside, sends_units, AreSent, AreStarts, HaveStarts, IsSound, IsFirstAt}
 use Rattle.odb_reply.specs.StatusFaults.{status_at, BreaksStatus, CanHaveStartedBy, IsPossibleBy, status_number, status_row, RefusesStatuses, StatusFault}
 use Rattle.odb_doc.specs.declared.rule_fault.RuleFault.TheVariants as faults
@@ -22,30 +18,6 @@ use Rattle.odb_reply.specs.declared.strictness.Strictness.{Strictness}
 use Rattle.odb_reply.specs.declared.strictness.Strictness.TheVariants.{Requests, Units}
 use Rattle.odb_reply.specs.declared.status_fault.StatusRule.{StatusRule}
 use Rattle.odb_reply.specs.declared.status_fault.StatusRule.TheVariants.{NotFinal, PartialGroup, NotStarted}
-
--- ---- the flags of units
-
--- of each unit, whether all its members are answered with a success
-pub record AreGroups (plan : PlanGraph) (statuses : ℕ → ℕ) (units : List Bool) : Type 0 where
-  pub succeeded : (u r : ℕ) → get_or units u false ≡ true → r < length plan.units → unit_of plan r ≡ u → is_success (statuses r) ≡ true
-  pub failed : (u : ℕ) → u < plan.unit_count → get_or units u false ≡ false → (r : ℕ) × (r < length plan.units) × (unit_of plan r ≡ u) × (is_success (statuses r) ≡ false)
-
--- a flag that is set is there
-flag_within : (flags : List Bool) (u : ℕ) → get_or flags u false ≡ true → u < length flags
-flag_within flags u set = elim (cases_lt u (length flags)) [
-  | inl within ↦ within
-  | inr past ↦ absurd (both_ways _ (get_or_past flags u false past) set)
-]
-
-pub groups-from : (rs : List Record) (plan : PlanGraph) (statuses : List ℕ) (units : List Bool) → IsPlanGraphOf rs plan → AreUnits rs statuses (length rs) units → AreGroups plan (status_at statuses) units
-groups-from rs plan statuses units same known = record {
-  succeeded = λ u r set within here.
-      let inside : r < length rs = omega (arith, within, same.size) in
-      known.succeeded u r (slice_get-get_or units u false (flag_within units u set) ∙ ap Some set) inside (sym (same.units r inside) ∙ here);
-  failed = λ u counted clear.
-      let (r, inside, here, poor) = known.failed u (slice_get-get_or units u false (omega (arith, counted, known.count, same.unit_count)) ∙ ap Some clear) in
-      (r, omega (arith, inside, same.size), same.units r inside ∙ here, poor);
-}
 
 -- ---- the flags of requests
 
@@ -93,54 +65,26 @@ starts-push plan statuses units sent started flag n laws inside starts is = reco
 
 -- ---- the flags of units that may have been sent as one
 
-pub sent-none : (by : Strictness) (plan : PlanGraph) (statuses : ℕ → ℕ) (units : List Bool) → AreSent by plan statuses units 0 (replicate plan.unit_count (sends_units by))
-sent-none by plan statuses units = record {
-  count = length-replicate plan.unit_count (sends_units by);
-  asked = λ u set. elim (cases_lt u plan.unit_count) [
-    | inl within ↦ sym (get_or-replicate plan.unit_count u (sends_units by) false within) ∙ set
-    | inr past ↦ absurd (both_ways _ (get_or_past (replicate plan.unit_count (sends_units by)) u false (rw (length-replicate plan.unit_count (sends_units by)) past)) set)
-  ];
-  met = λ u i set below. absurd (omega (arith, below));
-  clear = λ u within clear. inl (sym (get_or-replicate plan.unit_count u (sends_units by) false within) ∙ clear);
-}
+pub sent-count : (by : Strictness) (plan : PlanGraph) (statuses : ℕ → ℕ) (units sent : List Bool) → AreSent by plan statuses units sent → length sent ≡ plan.unit_count
+sent-count Requests plan statuses units sent are = ap length are ∙ length-replicate plan.unit_count false
+sent-count Units plan statuses units sent are = are.count
 
--- one request more that bars nothing
-pub sent-kept : (by : Strictness) (plan : PlanGraph) (statuses : ℕ → ℕ) (units sent : List Bool) (n : ℕ) → AreSent by plan statuses units n sent → met_outside plan statuses units n ≡ true → AreSent by plan statuses units (n + 1) sent
-sent-kept by plan statuses units sent n are met = record {
-  count = are.count;
-  asked = are.asked;
-  met = λ u i set below here. elim (cases_eq i n) [
-    | inl last ↦ ap (met_outside plan statuses units) last ∙ met
-    | inr other ↦ are.met u i set (omega (arith, below, other)) here
-  ];
-  clear = are.clear;
-}
-
--- one that bars its unit
-pub sent-barred : (by : Strictness) (plan : PlanGraph) (statuses : ℕ → ℕ) (units sent : List Bool) (n : ℕ) → IsPlan plan → n < length plan.units → AreSent by plan statuses units n sent → met_outside plan statuses units n ≡ false
-    → AreSent by plan statuses units (n + 1) (set sent (unit_of plan n) false)
-sent-barred by plan statuses units sent n laws inside are unmet = record {
-  count = length-set sent (unit_of plan n) false ∙ are.count;
-  asked = λ u flag. are.asked u (before u flag).1;
-  met = λ u i flag below here. elim (cases_eq i n) [
-    | inl last ↦ absurd ((before u flag).0 (sym here ∙ ap (unit_of plan) last))
-    | inr other ↦ are.met u i (before u flag).1 (omega (arith, below, other)) here
-  ];
-  clear = λ u within clear. elim (cases_eq u (unit_of plan n)) [
-    | inl same ↦ inr (n, inside, sym same, unmet)
-    | inr other ↦ are.clear u within (sym (get_or-set_other sent (unit_of plan n) u false false other) ∙ clear)
-  ];
-}
+-- whose flag is set was sent as one: units may be, and what its members need of other units is answered 200 to 299
+sent-met : (by : Strictness) (plan : PlanGraph) (statuses : ℕ → ℕ) (units sent : List Bool) (u : ℕ) → AreSent by plan statuses units sent → get_or sent u false ≡ true
+    → (sends_units by ≡ true) × ((i : ℕ) → i < length plan.units → unit_of plan i ≡ u → met_outside plan statuses units i ≡ true)
+sent-met Requests plan statuses units sent u are flag = absurd (false≢true (sym (none-set plan.unit_count u) ∙ ap (λ flags. get_or flags u false) (sym are) ∙ flag))
   where
-    -- a unit whose flag is still set is another, and its flag was set
-    before : (u : ℕ) → get_or (set sent (unit_of plan n) false) u false ≡ true → (u ≢ unit_of plan n) × (get_or sent u false ≡ true)
-    before u flag = elim (cases_eq u (unit_of plan n)) [
-      | inl same ↦
-          let known : unit_of plan n < plan.unit_count = laws.counted n inside in
-          let count : length sent ≡ plan.unit_count = are.count in
-          absurd (both_ways _ (ap (λ v. get_or (set sent (unit_of plan n) false) v false) same ∙ get_or-set_same sent (unit_of plan n) false false (omega (arith, known, count))) flag)
-      | inr other ↦ (other, sym (get_or-set_other sent (unit_of plan n) u false false other) ∙ flag)
-    ]
+    none-set : (n u : ℕ) → get_or (replicate n false) u false ≡ false
+    none-set zero u = refl
+    none-set (suc n) zero = refl
+    none-set (suc n) (suc u) = none-set n u
+sent-met Units plan statuses units sent u are flag = (refl, λ i inside here. are.passed u i flag inside here)
+
+-- a flag that is not set has its reason
+sent-clear : (by : Strictness) (plan : PlanGraph) (statuses : ℕ → ℕ) (units sent : List Bool) (u : ℕ) → AreSent by plan statuses units sent → sends_units by ≡ true → u < plan.unit_count → get_or sent u false ≡ false
+    → (i : ℕ) × (i < length plan.units) × (unit_of plan i ≡ u) × (met_outside plan statuses units i ≡ false)
+sent-clear Requests plan statuses units sent u are asked within clear = absurd (false≢true asked)
+sent-clear Units plan statuses units sent u are asked within clear = are.failed u within clear
 
 -- ---- what is said of both kinds of runs
 
@@ -172,7 +116,7 @@ parts_of : (by : Strictness) (plan : PlanGraph) (statuses : ℕ → ℕ) → IsP
 parts_of Requests plan statuses possible = record { final = possible.final; all_or_none = possible.all_or_none; started = possible.started; others = possible.others; can_have = possible.can_have }
 parts_of Units plan statuses possible = record { final = possible.final; all_or_none = possible.all_or_none; started = possible.started; others = possible.others; can_have = possible.can_have }
 
-module _ (by : Strictness) (plan : PlanGraph) (statuses : ℕ → ℕ) (units started : List Bool) (laws : IsPlan plan) (groups : AreGroups plan statuses units) (have : HaveStarts by plan statuses units started) where
+module _ (by : Strictness) (plan : PlanGraph) (statuses : ℕ → ℕ) (units started : List Bool) (laws : IsPlan plan) (groups : ArePassing plan (λ i. is_success (statuses i)) (length plan.units) units) (have : HaveStarts by plan statuses units started) where
   -- the requests whose flag is set
   abbrev flagged : ℕ → Bool
   flagged i = get_or started i false
@@ -188,21 +132,21 @@ module _ (by : Strictness) (plan : PlanGraph) (statuses : ℕ → ℕ) (units st
         let (same, begun) = and_parts (unit_of plan r == unit_of plan i) (get_or started r false) own in
         inr (eqb-true _ _ same, begun, eqb-true _ _ status)
   ]
-  need-from i (Group u) can = λ j inside here. groups.succeeded u j can inside here
+  need-from i (Group u) can = λ j inside here. groups.passed u j can inside here
 
   -- what a request needs of another unit is answered 200 to 299
-  outside-from : (i : ℕ) (need : Need) → met_outside plan statuses units i ≡ true → Contains (needs_of plan i) need → unit_needed plan need ≢ unit_of plan i → IsAnswered2xx plan statuses need
+  outside-from : (i : ℕ) (need : Need) → met_outside plan statuses units i ≡ true → Contains (needs_of plan i) need → unit_needed (unit_of plan) need ≢ unit_of plan i → IsAnswered2xx plan statuses need
   outside-from i need met has other = by_need need other (list_all-each (is_met_outside plan statuses units i) (needs_of plan i) need met has)
     where
-      by_need : (need : Need) → unit_needed plan need ≢ unit_of plan i → is_met_outside plan statuses units i need ≡ true → IsAnswered2xx plan statuses need
+      by_need : (need : Need) → unit_needed (unit_of plan) need ≢ unit_of plan i → is_met_outside plan statuses units i need ≡ true → IsAnswered2xx plan statuses need
       by_need (One r) other passes = elim (or_cases (unit_of plan r == unit_of plan i) (is_success (statuses r)) passes) [
         | inl same ↦ absurd (other (eqb-true _ _ same))
         | inr good ↦ good
       ]
-      by_need (Group u) other passes = λ j inside here. groups.succeeded u j passes inside here
+      by_need (Group u) other passes = λ j inside here. groups.passed u j passes inside here
 
   sent-from : (u : ℕ) → get_or sent u false ≡ true → CanHaveBeenSent plan statuses u
-  sent-from u flag j need inside here has other = outside-from j need (have.are_sent.met u j flag inside here) has (λ own. other (own ∙ here))
+  sent-from u flag j need inside here has other = outside-from j need ((sent-met by plan statuses units sent u have.are_sent flag).1 j inside here) has (λ own. other (own ∙ here))
 
   alone-from : (i : ℕ) (need : Need) → list_all (can_have_succeeded plan statuses units started i) (needs_of plan i) ≡ true → Contains (needs_of plan i) need → CanHaveSucceeded plan statuses flagged i need
   alone-from i need all has = need-from i need (list_all-each (can_have_succeeded plan statuses units started i) (needs_of plan i) need all has)
@@ -210,7 +154,7 @@ module _ (by : Strictness) (plan : PlanGraph) (statuses : ℕ → ℕ) (units st
   -- these requests can have started
   can_have_with : CanStartBy by plan statuses flagged
   can_have_with i within begun = elim (or_cases (get_or sent (unit_of plan i) false) (list_all (can_have_succeeded plan statuses units started i) (needs_of plan i)) (sym (have.are_starts.each i within) ∙ begun)) [
-    | inl flag ↦ inl (have.are_sent.asked (unit_of plan i) flag, sent-from (unit_of plan i) flag)
+    | inl flag ↦ inl ((sent-met by plan statuses units sent (unit_of plan i) have.are_sent flag).0, sent-from (unit_of plan i) flag)
     | inr all ↦ inr (λ need has. alone-from i need all has)
   ]
 
@@ -240,10 +184,9 @@ module _ (by : Strictness) (plan : PlanGraph) (statuses : ℕ → ℕ) (units st
           group-to i u within has (can i (Group u) within refl has (λ same. absurd (omega (arith, lower, same))))
 
   sent-to : (i : ℕ) → i < length plan.units → sends_units by ≡ true → CanHaveBeenSent plan statuses (unit_of plan i) → get_or sent (unit_of plan i) false ≡ true
-  sent-to i within asked can = true_from_ne_false _ (λ clear. elim (have.are_sent.clear (unit_of plan i) (laws.counted i within) clear) [
-    | inl never ↦ both_ways _ never asked
-    | inr (j, inside, here, unmet) ↦ both_ways _ unmet (outside-to j inside (subst (CanHaveBeenSent plan statuses) (sym here) can))
-  ])
+  sent-to i within asked can = true_from_ne_false _ (λ clear.
+      let (j, inside, here, unmet) = sent-clear by plan statuses units sent (unit_of plan i) have.are_sent asked (laws.counted i within) clear in
+      both_ways _ unmet (outside-to j inside (subst (CanHaveBeenSent plan statuses) (sym here) can)))
 
   greatest : (others : ℕ → Bool) → CanStartBy by plan statuses others → (fuel i : ℕ) → i < fuel → i < length plan.units → others i ≡ true → flagged i ≡ true
   greatest others can zero i short within begun = absurd (omega (arith, short))
@@ -266,7 +209,7 @@ module _ (by : Strictness) (plan : PlanGraph) (statuses : ℕ → ℕ) (units st
   final_kept i good broken = broken.1 good
 
   group_kept : (i : ℕ) → (is_success (statuses i) ≡ true → get_or units (unit_of plan i) false ≡ true) → ¬ BreaksStatus by plan statuses PartialGroup i
-  group_kept i whole broken = broken.1.fails (groups.succeeded (unit_of plan i) broken.1.member (whole broken.1.success) broken.1.within broken.1.same)
+  group_kept i whole broken = broken.1.fails (groups.passed (unit_of plan i) broken.1.member (whole broken.1.success) broken.1.within broken.1.same)
 
   start_kept : (i : ℕ) → (statuses i ≢ 424 → flagged i ≡ true) → ¬ BreaksStatus by plan statuses NotStarted i
   start_kept i begun broken = both_ways _ (broken.1.1 flagged can_have) (begun broken.1.0)

@@ -7,7 +7,8 @@ use Rattle.odb_check.specs.declared.need.Need.{Need}
 use Rattle.odb_check.specs.declared.need.Need.TheVariants.{One, Group}
 use Rattle.odb_check.specs.Needs.{needs_at}
 use Rattle.odb_check.specs.Positions.{id_at, group_at, IsId}
-use Rattle.odb_check.specs.Units.{unit_at, unit_count}
+use Rattle.odb_check.specs.PlanGraph.{PlanGraph, ArePassing}
+use Rattle.odb_check.specs.Units.{unit_at}
 use Rattle.odb_doc.specs.Statuses.{is_success}
 use Rattle.odb_reply.specs.declared.table.Table.{Table}
 use Rattle.odb_reply.specs.ResponseDocuments.{Entry, ReadsAs, responses_in}
@@ -52,11 +53,9 @@ places table = table.places.items
 abbrev pub statuses : Table → List ℕ
 statuses table = table.statuses.items
 
--- of each unit, whether the statuses of all its members among the first n requests are successes
-pub record AreUnits (rs : List Record) (statuses : List ℕ) (n : ℕ) (units : List Bool) : Type 0 where
-  pub count : length units ≡ unit_count rs
-  pub succeeded : (u r : ℕ) → slice_get units u ≡ Some true → r < n → unit_at rs r ≡ u → is_success (slice_index statuses r) ≡ true
-  pub failed : (u : ℕ) → slice_get units u ≡ Some false → (r : ℕ) × (r < length rs) × (unit_at rs r ≡ u) × (is_success (slice_index statuses r) ≡ false)
+-- of each unit, whether the statuses of all its members are successes
+abbrev pub AreUnits : PlanGraph → List ℕ → List Bool → Type 0
+AreUnits plan statuses units = ArePassing plan (λ i. is_success (slice_index statuses i)) (length plan.units) units
 
 -- the response at place k is to the request at i, and has the status
 pub record IsRow (rs : List Record) (es : List Entry) (i k status : ℕ) : Type 0 where

@@ -1,11 +1,11 @@
 -- For invariants and private clauses: which requests can have started, by a flag for each and two for each unit.
-use Rattle.std.specs.Prelude.{◌≡◌, ◌⊎◌, ◌<◌, ◌==◌, ◌&&◌, ◌||◌, ℕ, Bool, true, false, List, length, slice_index_or}
+use Rattle.std.specs.Prelude.{◌≡◌, ◌⊎◌, ◌<◌, ◌==◌, ◌&&◌, ◌||◌, ℕ, Bool, true, false, List, length, replicate, slice_index_or}
 use Rattle.std.specs.List.{list_all}
 use Rattle.odb_doc.specs.LeastRules.{IsLeast}
 use Rattle.odb_doc.specs.Statuses.{is_success}
 use Rattle.odb_check.specs.declared.need.Need.{Need}
 use Rattle.odb_check.specs.declared.need.Need.TheVariants.{One, Group}
-use Rattle.odb_check.specs.PlanGraph.{PlanGraph, unit_of, needs_of}
+use Rattle.odb_check.specs.PlanGraph.{PlanGraph, ArePassing, unit_of, needs_of}
 use Rattle.odb_reply.specs.declared.status_fault.StatusRule.{StatusRule}
 use Rattle.odb_reply.specs.declared.strictness.Strictness.{Strictness}
 use Rattle.odb_reply.specs.declared.strictness.Strictness.TheVariants.{Requests, Units}
@@ -30,13 +30,10 @@ abbrev pub sends_units : Strictness → Bool
 sends_units Requests = false
 sends_units Units = true
 
--- the flags of the units: whether each may have been sent as one, by its members among the first n requests
-pub record AreSent (by : Strictness) (plan : PlanGraph) (statuses : ℕ → ℕ) (units : List Bool) (n : ℕ) (sent : List Bool) : Type 0 where
-  pub count : length sent ≡ plan.unit_count
-  pub asked : (u : ℕ) → slice_index_or sent u false ≡ true → sends_units by ≡ true
-  pub met : (u i : ℕ) → slice_index_or sent u false ≡ true → i < n → unit_of plan i ≡ u → met_outside plan statuses units i ≡ true
-  pub clear : (u : ℕ) → u < plan.unit_count → slice_index_or sent u false ≡ false
-      → (sends_units by ≡ false) ⊎ ((i : ℕ) × (i < length plan.units) × (unit_of plan i ≡ u) × (met_outside plan statuses units i ≡ false))
+-- the flags of the units: whether each may have been sent as one
+abbrev pub AreSent : Strictness → PlanGraph → (ℕ → ℕ) → List Bool → List Bool → Type 0
+AreSent Requests plan statuses units sent = sent ≡ replicate plan.unit_count false
+AreSent Units plan statuses units sent = ArePassing plan (met_outside plan statuses units) (length plan.units) sent
 
 -- whether a request can have started, with its unit or alone
 abbrev pub can_start : PlanGraph → (ℕ → ℕ) → List Bool → List Bool → List Bool → ℕ → Bool
@@ -50,7 +47,7 @@ pub record AreStarts (plan : PlanGraph) (statuses : ℕ → ℕ) (units sent : L
 -- of each request whether it can have started
 pub record HaveStarts (by : Strictness) (plan : PlanGraph) (statuses : ℕ → ℕ) (units started : List Bool) : Type 0 where
   pub sent : List Bool
-  pub are_sent : AreSent by plan statuses units (length plan.units) sent
+  pub are_sent : AreSent by plan statuses units sent
   pub are_starts : AreStarts plan statuses units sent (length plan.units) started
 
 -- no rule is broken at the position

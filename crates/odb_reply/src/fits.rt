@@ -4,7 +4,7 @@ ghost use Rattle.std.specs.Prelude.{◌≡◌, ◌<◌, ◌↔◌, ℕ, length, 
 ghost use Rattle.std.specs.List.{list_any};
 ghost use Rattle.odb_doc.specs.batch.Records.{record_of};
 ghost use Rattle.odb_check.specs.Needs.{needs_at};
-ghost use Rattle.odb_check.specs.Plans.{plan_records};
+ghost use Rattle.odb_check.specs.Plans.{plan_graph, plan_records};
 ghost use Rattle.odb_check.specs.PlanGraph.{IsNeedAmong};
 ghost use Rattle.odb_reply.specs.Fits as fits;
 ghost use Rattle.odb_reply.specs.LeastMatchFault.{RefusesMatch};
@@ -35,8 +35,7 @@ fn is_satisfied(table: &Table, units: &[bool], need: Need) -> bool
 fn has_failed_need(plan: &Plan<'_>, table: &Table, units: &[bool], i: u32) -> bool
     requires request { i < length (plan_records plan.now) }
     requires statuses { length (fits.statuses table.now) ≡ length (plan_records plan.now) }
-    requires units { fits.AreUnits (plan_records plan.now) (fits.statuses table.now)
-        (length (plan_records plan.now)) units.now }
+    requires units { fits.AreUnits (plan_graph plan.now) (fits.statuses table.now) units.now }
     ensures { result ≡ list_any (λ need. not (known.is_satisfied (fits.statuses table.now) units.now need))
         (needs_at (plan_records plan.now) i) }
 {
@@ -67,8 +66,7 @@ fn broken_rule(
     requires request { i < length (plan_records plan.now) }
     requires rows { known.HasRows (plan_records plan.now) (entries responses.now)
         (fits.places table.now) (fits.statuses table.now) }
-    requires units { fits.AreUnits (plan_records plan.now) (fits.statuses table.now)
-        (length (plan_records plan.now)) units.now }
+    requires units { fits.AreUnits (plan_graph plan.now) (fits.statuses table.now) units.now }
     ensures none { IfNone result (known.NoneIn 3 (plan_records plan.now) (entries responses.now) i) }
     ensures first { IfSome result (known.IsFirstIn 3 (plan_records plan.now) (entries responses.now) i) }
 {
@@ -92,8 +90,7 @@ fn check_requests(
 ) -> Result<(), MatchFault>
     requires rows { known.HasRows (plan_records plan.now) (entries responses.now)
         (fits.places table.now) (fits.statuses table.now) }
-    requires units { fits.AreUnits (plan_records plan.now) (fits.statuses table.now)
-        (length (plan_records plan.now)) units.now }
+    requires units { fits.AreUnits (plan_graph plan.now) (fits.statuses table.now) units.now }
     ensures none { OnOk result ((i : ℕ) → i < length (plan_records plan.now)
         → known.NoneIn 3 (plan_records plan.now) (entries responses.now) i) }
     ensures first { IfErr result (known.IsFirstOfLast (plan_records plan.now)

@@ -90,20 +90,22 @@ fn sent_units(
     requires statuses { length (statuses table.now) ≡ length (plan_records plan.now) }
     requires units { length units.now ≡ (plan_graph plan.now).unit_count }
     ensures { IfOk result (λ sent. starts.AreSent strictness (plan_graph plan.now)
-        (status_at (statuses table.now)) units.now (length (plan_graph plan.now).units) sent.items) }
+        (status_at (statuses table.now)) units.now sent.items) }
 {
     odb_check::laws::every_plan(plan);
-    let asked = match strictness {
-        Strictness::Requests => false,
-        Strictness::Units => true,
-    };
-    let mut sent = vec![in alloc; asked; plan.unit_count() as usize]?;
-    for i in 0..plan.len() {
-        if !met_outside(plan, table, units, i) {
-            sent[plan.unit_of(i) as usize] = false;
-        }
+    match strictness {
+        Strictness::Requests => vec![in alloc; false; plan.unit_count() as usize],
+        Strictness::Units => plan.passing_units(
+            alloc,
+            |i|
+                requires request { i < length (plan_graph plan.now).units }
+                requires statuses { length (statuses table.now) ≡ length (plan_records plan.now) }
+                requires units { length units.now ≡ (plan_graph plan.now).unit_count }
+                ensures { result ≡ starts.met_outside (plan_graph plan.entry.now)
+                    (status_at (statuses table.entry.now)) units.entry.now i }
+            { met_outside(plan, table, units, i) },
+        ),
     }
-    Ok(sent)
 }
 
 /// Returns whether request `i` can have started, with its unit or alone.
@@ -168,8 +170,7 @@ fn broken_status(
 ) -> Option<StatusRule>
     requires request { i < length (plan_graph plan.now).units }
     requires statuses { length (statuses table.now) ≡ length (plan_records plan.now) }
-    requires units { AreUnits (plan_records plan.now) (statuses table.now)
-        (length (plan_records plan.now)) units.now }
+    requires units { AreUnits (plan_graph plan.now) (statuses table.now) units.now }
     requires started { length started.now ≡ length (plan_graph plan.now).units }
     ensures none { (by : Strictness)
         → starts.HaveStarts by (plan_graph plan.now) (status_at (statuses table.now)) units.now started.now
@@ -200,8 +201,7 @@ fn check_each(
     started: &[bool],
 ) -> Result<(), StatusFault>
     requires statuses { length (statuses table.now) ≡ length (plan_records plan.now) }
-    requires units { AreUnits (plan_records plan.now) (statuses table.now)
-        (length (plan_records plan.now)) units.now }
+    requires units { AreUnits (plan_graph plan.now) (statuses table.now) units.now }
     requires started { length started.now ≡ length (plan_graph plan.now).units }
     ensures none { (by : Strictness)
         → starts.HaveStarts by (plan_graph plan.now) (status_at (statuses table.now)) units.now started.now

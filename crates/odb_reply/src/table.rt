@@ -1,7 +1,8 @@
 //! The responses of a service by the position of their request.
 
-ghost use Rattle.std.specs.Prelude.{◌≡◌, ◌<◌, length, slice_get, Some, IfOk, IfErr, OnOk};
-ghost use Rattle.odb_check.specs.Plans.{plan_records};
+ghost use Rattle.std.specs.Prelude.{◌≡◌, ◌<◌, length, slice_get, slice_index, Some, IfOk, IfErr, OnOk};
+ghost use Rattle.odb_check.specs.Plans.{plan_graph, plan_records};
+ghost use Rattle.odb_doc.specs.Statuses as words;
 ghost use Rattle.odb_reply.specs.LeastMatchFault.{RefusesMatch};
 ghost use Rattle.odb_reply.specs.Places.{AreNoted, HasAllPlaces, HasRows, IsOnce};
 ghost use Rattle.odb_reply.specs.ResponseDocuments.{entries};
@@ -9,6 +10,7 @@ ghost use Rattle.odb_reply.specs.ResponseDocuments.{entries};
 use crate::match_fault::{MatchFault, MatchRule};
 use crate::responses::Responses;
 use odb_check::Plan;
+use odb_check::laws::every_plan;
 use odb_doc::status::is_success;
 use std::alloc::{AllocError, Global};
 
@@ -44,16 +46,16 @@ impl Table {
     /// If memory for the units cannot be allocated.
     pub fn succeeded_units(&self, alloc: Global, plan: &Plan<'_>) -> Result<Vec<bool>, AllocError>
         requires { length (statuses self.now) ≡ length (plan_records plan.now) }
-        ensures { IfOk result (λ units. AreUnits (plan_records plan.now) (statuses self.now)
-            (length (plan_records plan.now)) units.items) }
+        ensures { IfOk result (λ units. AreUnits (plan_graph plan.now) (statuses self.now) units.items) }
     {
-        let mut units = vec![in alloc; true; plan.unit_count() as usize]?;
-        for i in 0..plan.len() {
-            if !is_success(self.status(i)) {
-                units[plan.unit_of(i) as usize] = false;
-            }
-        }
-        Ok(units)
+        every_plan(plan);
+        plan.passing_units(
+            alloc,
+            |i|
+                requires { i < length (statuses self.now) }
+                ensures { result ≡ words.is_success (slice_index (statuses self.entry.now) i) }
+            { is_success(self.status(i)) },
+        )
     }
 
     /// Returns the place of the response to the request at a position, both counted from 0.

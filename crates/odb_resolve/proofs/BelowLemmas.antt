@@ -13,7 +13,7 @@ use Rattle.odb_resolve.specs.Urls.{Url, read_url}
 use Rattle.odb_resolve.specs.Joins.{join, extended}
 use Rattle.odb_resolve.specs.Safety.{is_safe}
 use Rattle.odb_resolve.specs.Roots.{encode, is_in_url, is_root, is_same_origin, is_below, below, sent_with, sent_below, within}
-use Rattle.odb_resolve.specs.Resolutions.{allowed, is_unreadable, continues, place_by, below_place, below_answer, answer_of, url_by}
+use Rattle.odb_resolve.specs.Resolutions.{allowed, is_unreadable, continues, named_location, place_by, below_place, below_answer, answer_of, url_by}
 use Rattle.odb_resolve.specs.Below.{IsSentBelow}
 use Rattle.odb_resolve.proofs.EncodedLemmas.{encoded_in_url}
 use Rattle.odb_resolve.proofs.FolderLemmas.{folder_passes}
@@ -92,7 +92,7 @@ place_below roots rest (Ok place) text e =
 
 answer_below : (roots : List (Bor (List ℕ))) (rest : List ℕ) (answer : Option Answer) (text : List ℕ) → below_answer roots rest answer ≡ Ok text → IsSentBelow roots text
 answer_below roots rest None text e = absurd (cc)
-answer_below roots rest (Some answer) text e = place_below roots rest (place_by answer answer.location) text e
+answer_below roots rest (Some answer) text e = place_below roots rest (place_by answer (named_location answer.location)) text e
 
 -- the URL of each request that is sent
 pub url_below : (service : Service) (known : List Known) (url : List ℕ) (reference : Option (Bor (List ℕ))) (text : List ℕ) → url_by service known url reference ≡ Ok text → IsSentBelow service.roots.now text

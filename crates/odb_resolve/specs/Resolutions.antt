@@ -49,6 +49,11 @@ place_by answer None = cond answer.is_post (Err NoLocation) (Ok (read_url answer
 place_by answer (Some location) =
     cond (is_unreadable location.now) (Err Unreadable) (Ok (join (read_url answer.url.now) (read_url location.now)))
 
+-- the Location of an answer: an empty one names nothing, and is as none
+abbrev pub named_location : Option (Bor (List ℕ)) → Option (Bor (List ℕ))
+named_location None = None
+named_location (Some location) = cond (is_empty location.now) None (Some location)
+
 -- `/`, `?` or `#`
 abbrev pub is_delimiter : ℕ → Bool
 is_delimiter byte = (byte == 47) || (byte == 63) || (byte == 35)
@@ -64,7 +69,7 @@ below_place roots text (Ok place) = cond (continues text) (allowed roots (extend
 
 abbrev pub below_answer : List (Bor (List ℕ)) → List ℕ → Option Answer → Result (List ℕ) Refusal
 below_answer roots text None = Err NotAnswered
-below_answer roots text (Some answer) = below_place roots text (place_by answer answer.location)
+below_answer roots text (Some answer) = below_place roots text (place_by answer (named_location answer.location))
 
 -- the request with the id
 abbrev pub known_as : List Known → List ℕ → Option Known

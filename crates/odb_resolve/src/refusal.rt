@@ -16,7 +16,7 @@ pub enum Refusal {
     /// 2: it leads out of the roots.
     #[error("the URL leads out of the service")]
     Outside,
-    /// 3: the POST that it refers to was answered without a `Location`.
+    /// 3: the POST that it refers to was answered without a `Location`, or with an empty one.
     #[error("the request that the URL refers to was answered without a Location")]
     NoLocation,
     /// 4: the request whose ETag it names was answered without one.

@@ -15,7 +15,7 @@ pub struct Service<'a> {
 pub struct Answer<'a> {
     /// The absolute URL to which the request was sent.
     pub url: &'a str,
-    /// The `Location` of the answer, absolute or relative to `url`.
+    /// The `Location` of the answer, absolute or relative to `url`. An empty one is as none.
     pub location: Option<&'a str>,
     /// Whether the request was a POST: without a `Location`, nothing names what it has made.
     pub is_post: bool,

@@ -3,7 +3,7 @@
 ghost use Rattle.std.specs.Prelude.{◌≡◌, drop, option_and_then, option_copied, string_bytes, IfErr, IfOk, Ok};
 ghost use Rattle.odb_resolve.specs.Below.{IsSentBelow};
 ghost use Rattle.odb_resolve.specs.Classes.{url_of_target};
-ghost use Rattle.odb_resolve.specs.Resolutions.{Explains, allowed, answer_of, below_answer, condition, continues, is_unreadable, known_as, own_url, place_by, resolution, sending, text_in, url_by, value_of};
+ghost use Rattle.odb_resolve.specs.Resolutions.{Explains, allowed, answer_of, below_answer, condition, continues, is_unreadable, known_as, named_location, own_url, place_by, resolution, sending, text_in, url_by, value_of};
 
 use crate::join::{extended, join};
 use crate::parts::Parts;
@@ -63,13 +63,23 @@ fn own_url(alloc: Global, service: &Service<'_>, text: &str) -> Result<String, R
     allowed(alloc, service.roots, &target)
 }
 
+/// Returns the Location of an answer: an empty one names nothing, and is as none.
+fn named_location<'a>(answer: &Answer<'a>) -> Option<&'a str>
+    ensures { result ≡ named_location answer.now.location }
+{
+    match answer.location {
+        Some(location) if location.is_empty() => None,
+        location => location,
+    }
+}
+
 /// Returns the URL of what a request has made or returned.
 fn place<'a>(alloc: Global, answer: &Answer<'a>) -> Result<Target<'a>, ResolveError>
-    ensures url { IfOk result (λ target. place_by answer.now answer.now.location ≡ Ok (url_of_target target)) }
-    ensures refusal { IfErr result (λ error. Explains error (place_by answer.now answer.now.location)) }
+    ensures url { IfOk result (λ target. place_by answer.now (named_location answer.now.location) ≡ Ok (url_of_target target)) }
+    ensures refusal { IfErr result (λ error. Explains error (place_by answer.now (named_location answer.now.location))) }
 {
     let own = Parts::read(answer.url.as_bytes());
-    match answer.location {
+    match named_location(answer) {
         None if answer.is_post => Err(ResolveError::Refused(Refusal::NoLocation)),
         None => Ok(Target::copy(alloc, &own)?),
         Some(location) if is_unreadable(location) => Err(ResolveError::Refused(

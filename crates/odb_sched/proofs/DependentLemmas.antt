@@ -5,11 +5,10 @@ use Rattle.std.proofs.lemmas.List.Sums.{sum_by-cons}
 use Rattle.std.proofs.lemmas.List.Elements.{Contains-get_or}
 use Rattle.odb_check.specs.declared.need.Need.{Need}
 use Rattle.odb_check.specs.declared.need.Need.TheVariants.{One, Group}
-use Rattle.odb_check.specs.PlanGraph.{PlanGraph, IsPlan, unit_of, needs_of, IsSpan}
+use Rattle.odb_check.specs.PlanGraph.{PlanGraph, IsPlan, unit_of, needs_of, IsSpan, unit_needed}
 use Rattle.odb_dense.specs.declared.worklist.Mark.{Mark}
 use Rattle.odb_dense.specs.declared.worklist.Mark.TheVariants.{Unvisited}
 use Rattle.odb_dense.specs.Marks.{is_marked}
-use Rattle.odb_sched.specs.run.Failing.{unit_needed}
 use Rattle.odb_sched.specs.invariants.Dependents.{AreDependents, key_of}
 use Rattle.odb_sched.specs.invariants.Propagation.{NeedsUnit, HaveMarked}
 
@@ -50,11 +49,11 @@ need_row plan rows key i need are known inside (m, below, at) same =
     (k, within, eqb-true _ _ passes)
 
 -- a need with the key of a member is of the unit, and so is one with the key of the unit
-pub of_member : (plan : PlanGraph) (u r : ℕ) (need : Need) → r < length plan.units → unit_of plan r ≡ u → key_of plan need ≡ r → unit_needed plan need ≡ u
+pub of_member : (plan : PlanGraph) (u r : ℕ) (need : Need) → r < length plan.units → unit_of plan r ≡ u → key_of plan need ≡ r → unit_needed (unit_of plan) need ≡ u
 of_member plan u r (One s) within here same = ap (unit_of plan) same ∙ here
 of_member plan u r (Group v) within here same = absurd (omega arith)
 
-pub of_unit : (plan : PlanGraph) (u i : ℕ) (need : Need) → IsPlan plan → i < length plan.units → Contains (needs_of plan i) need → key_of plan need ≡ length plan.units + u → unit_needed plan need ≡ u
+pub of_unit : (plan : PlanGraph) (u i : ℕ) (need : Need) → IsPlan plan → i < length plan.units → Contains (needs_of plan i) need → key_of plan need ≡ length plan.units + u → unit_needed (unit_of plan) need ≡ u
 of_unit plan u i (One s) laws within has same = let earlier : s < i = laws.earlier i (One s) within has in absurd (omega arith)
 of_unit plan u i (Group v) laws within has same = omega arith
 

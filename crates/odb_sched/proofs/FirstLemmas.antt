@@ -7,14 +7,14 @@ use Rattle.std.proofs.lemmas.List.Elements.{All-get_or}
 use Rattle.odb_check.specs.declared.need.Need.{Need}
 use Rattle.odb_check.specs.declared.need.Need.TheVariants.{One, Group}
 use Rattle.odb_check.specs.Firsts.{count_below, list_below}
-use Rattle.odb_check.specs.PlanGraph.{PlanGraph, IsPlan, unit_of, needs_of, IsSpan, IsNeed}
+use Rattle.odb_check.specs.PlanGraph.{PlanGraph, IsPlan, unit_of, needs_of, IsSpan, IsNeed, unit_needed}
 use Rattle.odb_dense.specs.declared.worklist.Mark.TheVariants.{Unvisited}
 use Rattle.odb_dense.specs.Marks.{is_marked, is_visited}
 use Rattle.odb_sched.specs.declared.phase.Phase.{Phase}
 use Rattle.odb_sched.specs.declared.phase.Phase.TheVariants.{Unstarted}
 use Rattle.odb_sched.specs.declared.counts.Counts.{Counts}
 use Rattle.odb_sched.specs.run.State.{is_running, is_unstarted, has_succeeded, has_failed}
-use Rattle.odb_sched.specs.run.Failing.{Fails, own, propagated, unit_needed}
+use Rattle.odb_sched.specs.run.Failing.{Fails, own, propagated}
 use Rattle.odb_sched.specs.invariants.Counts.{needs_in, members_in, need_counts, member_counts, AreCounts, ArePropagated, is_skipped, pending_in, unmet_in}
 use Rattle.odb_sched.specs.invariants.Openings.{AreOpenings}
 use Rattle.odb_sched.specs.run.Steps.{satisfied_in, failed_in}
@@ -96,7 +96,7 @@ unmet_first plan i laws some within = sym (count_elements (λ need. not (satisfi
 -- no unit fails if no request is bad
 none_fails : (plan : PlanGraph) (bad : ℕ → Bool) (u : ℕ) → ((i : ℕ) → bad i ≡ false) → Fails plan bad u → ⊥
 none_fails plan bad _ good (own i within is_bad) = both_ways _ (good i) is_bad
-none_fails plan bad _ good (propagated i need within has other failing) = none_fails plan bad (unit_needed plan need) good failing
+none_fails plan bad _ good (propagated i need within has other failing) = none_fails plan bad (unit_needed (unit_of plan) need) good failing
 
 none_failed : (plan : PlanGraph) (u : ℕ) → failed_in plan (fresh plan) u ≡ false
 none_failed plan u = false_from_ne_true _ (λ failing. none_fails plan (λ i. has_failed (get_or (fresh plan) i Unstarted)) u (λ i. ap has_failed (fresh_at plan i)) (Fails-from_fails plan _ u failing))

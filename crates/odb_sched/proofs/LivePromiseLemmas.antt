@@ -10,7 +10,7 @@ use Rattle.odb_doc.proofs.ElementLemmas.{Contains-cases}
 use Rattle.odb_check.specs.declared.need.Need.{Need}
 use Rattle.odb_check.specs.declared.need.Need.TheVariants.{One, Group}
 use Rattle.odb_check.specs.Plans.{batch_plan_graph}
-use Rattle.odb_check.specs.PlanGraph.{PlanGraph, HasNamesAsNeeds, IsPlan, IsPlanGraphOf, unit_of, needs_of}
+use Rattle.odb_check.specs.PlanGraph.{PlanGraph, HasNamesAsNeeds, IsPlan, IsPlanGraphOf, unit_of, needs_of, unit_needed}
 use Rattle.odb_check.specs.Units.{unit_at}
 use Rattle.odb_check.proofs.PositionLemmas.{id_within, group_within}
 use Rattle.odb_sched.specs.declared.event.Event.TheVariants.{Start, Report}
@@ -18,7 +18,6 @@ use Rattle.odb_sched.specs.declared.phase.Phase.TheVariants.{Unstarted, Reported
 use Rattle.odb_sched.specs.declared.policy.Mode.TheVariants as modes
 use Rattle.odb_sched.specs.declared.policy.Policy.{Policy}
 use Rattle.odb_sched.specs.run.State.{State, has_erred, has_succeeded, is_reported, is_unstarted, phase_at}
-use Rattle.odb_sched.specs.run.Failing.{unit_needed}
 use Rattle.odb_sched.specs.run.Steps.{all_satisfied, is_satisfied, is_stopped}
 use Rattle.odb_sched.specs.run.Units.{outer_satisfied}
 use Rattle.odb_sched.specs.run.Laws.{HasSuccess, HoldsOfNamed}
@@ -71,7 +70,7 @@ module _ (requests : List Record) (state : State) (graph : IsPlanGraphOf request
         | inr other ↦ inr (member_succeeded state.plan_graph state.phases (unit_of state.plan_graph j) j (met (Group (unit_of state.plan_graph j)) has (λ e. other (sym (graph.units j inside) ∙ e))) (subst (λ n. j < n) (sym graph.size) inside) refl)
       ])
     where
-      met : (need : Need) → Contains (needs_of state.plan_graph i) need → unit_needed state.plan_graph need ≢ u → is_satisfied state need ≡ true
+      met : (need : Need) → Contains (needs_of state.plan_graph i) need → unit_needed (unit_of state.plan_graph) need ≢ u → is_satisfied state need ≡ true
       met need has other = outer-each state.plan_graph u i need (is_satisfied state) outer (subst (λ n. i < n) (sym graph.size) within) (graph.units i within ∙ here) has other
 
   -- so what is named of a live event that may come has succeeded, or is sent with it

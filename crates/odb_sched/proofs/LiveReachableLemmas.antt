@@ -4,12 +4,11 @@ use Rattle.std.proofs.Common.{◌≡◌, ◌≢◌, ℕ, zero, suc, ◌<◌, ◌
 use Rattle.std.proofs.lemmas.Bool.{cases_Bool, cases_eq, cases_lt, both_ways, and_parts, and_right, or_from, not-true, false_from_ne_true}
 use Rattle.odb_check.specs.declared.need.Need.{Need}
 use Rattle.odb_check.specs.declared.need.Need.TheVariants.{One, Group}
-use Rattle.odb_check.specs.PlanGraph.{PlanGraph, unit_of, needs_of}
+use Rattle.odb_check.specs.PlanGraph.{PlanGraph, unit_of, needs_of, unit_needed}
 use Rattle.odb_sched.specs.declared.phase.Phase.{Phase}
 use Rattle.odb_sched.specs.declared.phase.Phase.TheVariants.{Unstarted, Running}
 use Rattle.odb_sched.specs.declared.event.Event.{Event}
 use Rattle.odb_sched.specs.run.State.{State, size, phase_at, after, is_unstarted, is_running, has_succeeded, has_failed, has_erred, started_unit}
-use Rattle.odb_sched.specs.run.Failing.{unit_needed}
 use Rattle.odb_sched.specs.run.Steps.{stops, is_satisfied, spare_in}
 use Rattle.odb_sched.specs.run.Units.{has_begun, may_begin}
 use Rattle.odb_sched.specs.run.Runs.{after_all, IsRunFrom}
@@ -57,7 +56,7 @@ further first Before Holds one two = record {
 -- Of each unit that is to be sent no member has started, and what its members need of other units has succeeded.
 pub record AreSendable (plan : PlanGraph) (sends : ℕ → Bool) (before : ℕ → Phase) : Type 0 where
   pub idle : (i : ℕ) → i < length plan.units → sends (unit_of plan i) ≡ true → before i ≡ Unstarted
-  pub needs : (i : ℕ) (need : Need) → i < length plan.units → sends (unit_of plan i) ≡ true → Contains (needs_of plan i) need → unit_needed plan need ≢ unit_of plan i → HasIn plan before need
+  pub needs : (i : ℕ) (need : Need) → i < length plan.units → sends (unit_of plan i) ≡ true → Contains (needs_of plan i) need → unit_needed (unit_of plan) need ≢ unit_of plan i → HasIn plan before need
 
 module _ (sends : ℕ → Bool) (before : ℕ → Phase) where
   -- the phase of a request of this unit, once those of the units below k that are to be sent were sent

@@ -3,12 +3,11 @@ use Rattle.std.proofs.Common.{◌≡◌, ℕ, ◌<◌, ◌≤◌, ◌+◌, ◌-�
 use Rattle.std.proofs.lemmas.Bool.{cases_eq, cases_lt, both_ways, ne_eqb}
 use Rattle.std.proofs.lemmas.List.{ext_get_or, get_or_past}
 use Rattle.odb_check.specs.declared.need.Need.{Need}
-use Rattle.odb_check.specs.PlanGraph.{PlanGraph, IsSpan, unit_of, needs_of}
+use Rattle.odb_check.specs.PlanGraph.{PlanGraph, IsSpan, unit_of, needs_of, unit_needed}
 use Rattle.odb_check.proofs.BelowLemmas.{length-list_below, get_or-list_below}
 use Rattle.odb_sched.specs.declared.phase.Phase.{Phase}
 use Rattle.odb_sched.specs.declared.phase.Phase.TheVariants.{Unstarted, Running}
 use Rattle.odb_sched.specs.run.State.{State, is_unstarted, is_running, has_succeeded, members_in, running_members, started_unit, size, phase_at}
-use Rattle.odb_sched.specs.run.Failing.{unit_needed}
 use Rattle.odb_sched.specs.run.Steps.{spare_in, is_satisfied}
 use Rattle.odb_sched.specs.run.Units.{has_begun_in}
 use Rattle.odb_sched.specs.run.Answers.{outcome_of}
@@ -64,7 +63,7 @@ module _ (state : State) (u : ℕ) (reached : IsReached state) (begin : MayBegin
     | inr elsewhere ↦ (elsewhere, ap is_unstarted (sym (other_stays state.plan_graph state.phases u i within elsewhere)) ∙ fresh)
   ]
 
-  needs_met : (i : ℕ) (need : Need) → i < size state → is_unstarted (get_or after i Unstarted) ≡ false → Contains (needs_of state.plan_graph i) need → unit_needed state.plan_graph need ≢ unit_of state.plan_graph i → is_satisfied state need ≡ true
+  needs_met : (i : ℕ) (need : Need) → i < size state → is_unstarted (get_or after i Unstarted) ≡ false → Contains (needs_of state.plan_graph i) need → unit_needed (unit_of state.plan_graph) need ≢ unit_of state.plan_graph i → is_satisfied state need ≡ true
   needs_met i need within begun has other = elim (cases_eq (unit_of state.plan_graph i) u) [
     | inl here ↦ outer-each state.plan_graph u i need (is_satisfied state) begin.satisfied within here has (λ own. other (own ∙ sym here))
     | inr elsewhere ↦ reached.needs i need within (ap is_unstarted (sym (other_stays state.plan_graph state.phases u i within elsewhere)) ∙ begun) has other

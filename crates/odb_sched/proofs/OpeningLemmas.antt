@@ -9,13 +9,13 @@ use Rattle.std.proofs.lemmas.List.Elements.{Contains-get_or}
 use Rattle.odb_check.specs.declared.need.Need.{Need}
 use Rattle.odb_check.specs.declared.need.Need.TheVariants.{One, Group}
 use Rattle.odb_check.specs.Firsts.{any_below, first_below}
-use Rattle.odb_check.specs.PlanGraph.{PlanGraph, IsPlan, unit_of, needs_of}
+use Rattle.odb_check.specs.PlanGraph.{PlanGraph, IsPlan, unit_of, needs_of, unit_needed}
 use Rattle.odb_sched.specs.declared.counts.Progress.{Progress}
 use Rattle.odb_sched.specs.declared.openings.Openings.{Openings}
 use Rattle.odb_sched.specs.declared.phase.Phase.{Phase}
 use Rattle.odb_sched.specs.declared.phase.Phase.TheVariants.{Unstarted, Running}
 use Rattle.odb_sched.specs.run.State.{State, is_unstarted, has_succeeded, has_failed}
-use Rattle.odb_sched.specs.run.Failing.{own, unit_needed}
+use Rattle.odb_sched.specs.run.Failing.{own}
 use Rattle.odb_sched.specs.run.Steps.{satisfied_in, failed_in, is_stopped, unit_failed, running_count, places}
 use Rattle.odb_sched.specs.run.Units.{outer_needs, outer_satisfied, has_begun_in, may_begin}
 use Rattle.odb_sched.specs.invariants.Counts.{AreCounts, AreUnmet}
@@ -183,7 +183,7 @@ waiting_kept plan unmet t i within each some more are = record {
 }
 
 -- a need that a unit which has not begun has on itself is not satisfied
-inner_open : (plan : PlanGraph) (phases : List Phase) (i : ℕ) (need : Need) → IsPlan plan → has_begun_in plan phases (unit_of plan i) ≡ false → i < length plan.units → Contains (needs_of plan i) need → unit_needed plan need ≡ unit_of plan i → satisfied_in plan phases need ≡ false
+inner_open : (plan : PlanGraph) (phases : List Phase) (i : ℕ) (need : Need) → IsPlan plan → has_begun_in plan phases (unit_of plan i) ≡ false → i < length plan.units → Contains (needs_of plan i) need → unit_needed (unit_of plan) need ≡ unit_of plan i → satisfied_in plan phases need ≡ false
 inner_open plan phases i (One r) laws fresh within has here =
     let earlier : r < i = laws.earlier i (One r) within has in
     ap has_succeeded (Unstarted-from _ (member_unstarted plan phases (unit_of plan i) r fresh (omega arith) here))
@@ -205,10 +205,10 @@ split inner satisfied (x ∷ xs) each =
 -- a member of a unit that has not begun is counted exactly when it needs something more of another unit
 module _ (plan : PlanGraph) (phases : List Phase) (unmet : List ℕ) (u : ℕ) (laws : IsPlan plan) (are : AreUnmet plan phases unmet) (fresh : has_begun_in plan phases u ≡ false) where
   abbrev is_met : ℕ → Need → Bool
-  is_met i need = (unit_needed plan need == unit_of plan i) || satisfied_in plan phases need
+  is_met i need = (unit_needed (unit_of plan) need == unit_of plan i) || satisfied_in plan phases need
 
   parts : (i : ℕ) → i < length plan.units → unit_of plan i ≡ u → get_or unmet i 0 ≡ inner_count plan i + count_by (λ need. not (is_met i need)) (needs_of plan i)
-  parts i within here = are i within ∙ split (λ need. unit_needed plan need == unit_of plan i) (satisfied_in plan phases) (needs_of plan i) (λ k d inside own.
+  parts i within here = are i within ∙ split (λ need. unit_needed (unit_of plan) need == unit_of plan i) (satisfied_in plan phases) (needs_of plan i) (λ k d inside own.
       inner_open plan phases i _ laws (subst (λ v. has_begun_in plan phases v ≡ false) (sym here) fresh) within (Contains-get_or (needs_of plan i) k d inside) (eqb-true _ _ own))
 
   all_met : (i : ℕ) → i < length plan.units → unit_of plan i ≡ u → waiting_below plan unmet (length plan.units) u ≡ 0 → list_all (is_met i) (needs_of plan i) ≡ true
@@ -222,7 +222,7 @@ module _ (plan : PlanGraph) (phases : List Phase) (unmet : List ℕ) (u : ℕ) (
 
   outer_met : waiting_below plan unmet (length plan.units) u ≡ 0 → list_all (satisfied_in plan phases) (outer_needs plan u) ≡ true
   outer_met none = outer-from plan u (satisfied_in plan phases) (λ i need within here has other.
-      elim (or_cases (unit_needed plan need == unit_of plan i) _ (list_all-each (is_met i) (needs_of plan i) need (all_met i within here none) has)) [
+      elim (or_cases (unit_needed (unit_of plan) need == unit_of plan i) _ (list_all-each (is_met i) (needs_of plan i) need (all_met i within here none) has)) [
         | inl mine ↦ absurd (other (eqb-true _ _ mine ∙ here))
         | inr met ↦ met
       ])
@@ -230,7 +230,7 @@ module _ (plan : PlanGraph) (phases : List Phase) (unmet : List ℕ) (u : ℕ) (
   none_waits : list_all (satisfied_in plan phases) (outer_needs plan u) ≡ true → waiting_below plan unmet (length plan.units) u ≡ 0
   none_waits all = count_none (length plan.units) _ (λ i within. elim (cases_eq (unit_of plan i) u) [
     | inl here ↦
-        let none : count_by (λ need. not (is_met i need)) (needs_of plan i) ≡ 0 = eqb-true _ 0 (none_unmet (is_met i) (needs_of plan i) ∙ list_all-from (is_met i) (needs_of plan i) (λ need has. elim (cases_eq (unit_needed plan need) (unit_of plan i)) [
+        let none : count_by (λ need. not (is_met i need)) (needs_of plan i) ≡ 0 = eqb-true _ 0 (none_unmet (is_met i) (needs_of plan i) ∙ list_all-from (is_met i) (needs_of plan i) (λ need has. elim (cases_eq (unit_needed (unit_of plan) need) (unit_of plan i)) [
           | inl mine ↦ or_left _ _ (eq-eqb _ _ mine)
           | inr other ↦ or_right _ _ (outer-each plan u i need (satisfied_in plan phases) all within here has (λ e. other (e ∙ sym here)))
         ])) in

@@ -5,8 +5,7 @@ use Rattle.std.proofs.lemmas.Bool.{cases_eq, cases_lt, or_right, true≢false}
 use Rattle.std.proofs.lemmas.List.Folds.{list_all-append, find-append}
 use Rattle.odb_check.specs.declared.need.Need.{Need}
 use Rattle.odb_check.specs.Firsts.{all_below, joined_below}
-use Rattle.odb_check.specs.PlanGraph.{PlanGraph, IsSpan, unit_of, needs_of}
-use Rattle.odb_sched.specs.run.Failing.{unit_needed}
+use Rattle.odb_check.specs.PlanGraph.{PlanGraph, IsSpan, unit_of, needs_of, unit_needed}
 use Rattle.odb_sched.specs.run.Units.{is_outer, outer_needs_at, outer_needs}
 use Rattle.odb_sched.proofs.BelowLemmas.{all_below-Decides, list_all-each, list_all-from}
 
@@ -32,7 +31,7 @@ list_all-filter test kept (x ∷ xs) = at (kept x) (list_all-filter test kept xs
     at false rest = rest
 
 -- each need of a unit on other units passes if that of each member does
-pub outer-from : (plan : PlanGraph) (u : ℕ) (test : Need → Bool) → ((i : ℕ) (need : Need) → i < length plan.units → unit_of plan i ≡ u → Contains (needs_of plan i) need → unit_needed plan need ≢ u → test need ≡ true)
+pub outer-from : (plan : PlanGraph) (u : ℕ) (test : Need → Bool) → ((i : ℕ) (need : Need) → i < length plan.units → unit_of plan i ≡ u → Contains (needs_of plan i) need → unit_needed (unit_of plan) need ≢ u → test need ≡ true)
     → list_all test (outer_needs plan u) ≡ true
 outer-from plan u test each = list_all-joined test (length plan.units) (outer_needs_at plan u)
     ∙ (all_below-Decides (length plan.units) (λ i. list_all test (outer_needs_at plan u i))).1 (λ i within. at i within (unit_of plan i == u) refl)
@@ -40,18 +39,18 @@ outer-from plan u test each = list_all-joined test (length plan.units) (outer_ne
     at : (i : ℕ) → i < length plan.units → (b : Bool) → (unit_of plan i == u) ≡ b → list_all test (if b then filter (is_outer plan u) (needs_of plan i) else []) ≡ true
     at i within false e = refl
     at i within true e = list_all-filter test (is_outer plan u) (needs_of plan i)
-        ∙ list_all-from (λ need. not (is_outer plan u need) || test need) (needs_of plan i) (λ need has. elim (cases_eq (unit_needed plan need) u) [
+        ∙ list_all-from (λ need. not (is_outer plan u need) || test need) (needs_of plan i) (λ need has. elim (cases_eq (unit_needed (unit_of plan) need) u) [
           | inl same ↦ rw (same, eq-eqb u u refl) refl
           | inr other ↦ or_right _ _ (each i need within (eqb-true _ _ e) has other)
         ])
 
 -- and of each member does if that of the unit does
-pub outer-each : (plan : PlanGraph) (u i : ℕ) (need : Need) (test : Need → Bool) → list_all test (outer_needs plan u) ≡ true → i < length plan.units → unit_of plan i ≡ u → Contains (needs_of plan i) need → unit_needed plan need ≢ u → test need ≡ true
+pub outer-each : (plan : PlanGraph) (u i : ℕ) (need : Need) (test : Need → Bool) → list_all test (outer_needs plan u) ≡ true → i < length plan.units → unit_of plan i ≡ u → Contains (needs_of plan i) need → unit_needed (unit_of plan) need ≢ u → test need ≡ true
 outer-each plan u i need test all within here has other =
     let own : list_all test (outer_needs_at plan u i) ≡ true = (all_below-Decides (length plan.units) (λ j. list_all test (outer_needs_at plan u j))).0 (sym (list_all-joined test (length plan.units) (outer_needs_at plan u)) ∙ all) i within in
     let kept : list_all test (filter (is_outer plan u) (needs_of plan i)) ≡ true = subst (λ b. list_all test (if b then filter (is_outer plan u) (needs_of plan i) else []) ≡ true) (eq-eqb (unit_of plan i) u here) own in
     let passes : (not (is_outer plan u need) || test need) ≡ true = list_all-each (λ n. not (is_outer plan u n) || test n) (needs_of plan i) need (sym (list_all-filter test (is_outer plan u) (needs_of plan i)) ∙ kept) has in
-    at (unit_needed plan need == u) (ne_eqb (unit_needed plan need) u other) passes
+    at (unit_needed (unit_of plan) need == u) (ne_eqb (unit_needed (unit_of plan) need) u other) passes
   where
     at : (b : Bool) → b ≡ false → (not (not b) || test need) ≡ true → test need ≡ true
     at true e passes = absurd (true≢false e)

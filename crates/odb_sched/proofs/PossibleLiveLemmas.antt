@@ -7,13 +7,12 @@ use Rattle.odb_doc.specs.Statuses.{is_success, is_status}
 use Rattle.odb_check.specs.declared.need.Need.{Need}
 use Rattle.odb_check.specs.declared.need.Need.TheVariants.{One, Group}
 use Rattle.odb_check.specs.Plans.{batch_plan_graph}
-use Rattle.odb_check.specs.PlanGraph.{PlanGraph, IsPlan, IsPlanGraphOf, unit_of, needs_of}
+use Rattle.odb_check.specs.PlanGraph.{PlanGraph, IsPlan, IsPlanGraphOf, unit_of, needs_of, unit_needed}
 use Rattle.odb_sched.specs.declared.policy.Mode.{Mode}
 use Rattle.odb_sched.specs.declared.phase.Phase.{Phase}
 use Rattle.odb_sched.specs.declared.phase.Phase.TheVariants.{Unstarted, Running, Reported}
 use Rattle.odb_sched.specs.declared.event.Event.TheVariants.{Start, Report}
 use Rattle.odb_sched.specs.run.State.{State, size, phase_at, is_unstarted, has_succeeded, running_members}
-use Rattle.odb_sched.specs.run.Failing.{unit_needed}
 use Rattle.odb_sched.specs.run.Steps.{satisfied_in, is_satisfied, unit_succeeded}
 use Rattle.odb_sched.specs.run.Units.{outer_needs, outer_satisfied}
 use Rattle.odb_sched.specs.run.Answers.{answer}
@@ -100,7 +99,7 @@ reasons_after_all state (e ∷ es) some reached have run =
 -- ---- the statuses of the answers
 
 -- what is satisfied for the whole unit is answered 200 to 299
-answered_outer : (state : State) (i : ℕ) (need : Need) → IsReached state → i < size state → Contains (needs_of state.plan_graph i) need → unit_needed state.plan_graph need ≢ unit_of state.plan_graph i
+answered_outer : (state : State) (i : ℕ) (need : Need) → IsReached state → i < size state → Contains (needs_of state.plan_graph i) need → unit_needed (unit_of state.plan_graph) need ≢ unit_of state.plan_graph i
     → outer_satisfied state (unit_of state.plan_graph i) ≡ true → IsAnswered2xx state.plan_graph (answered state) need
 answered_outer state i (One r) reached within has other outer =
     let earlier : r < i = reached.laws.earlier i (One r) within has in

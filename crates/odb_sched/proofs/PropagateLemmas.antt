@@ -2,13 +2,13 @@
 use Rattle.std.proofs.Common.{◌≡◌, ◌≢◌, ◌⊎◌, ℕ, suc, ◌<◌, ◌∙◌, sym, ap, refl, subst, arith, Bool, true, false, not, List, length, get_or, set, get_or-set_other, get_or-set_same, length-set, inl, inr}
 use Rattle.std.proofs.lemmas.Bool.{cases_eq, true≢false}
 use Rattle.odb_check.specs.Firsts.{count_below}
-use Rattle.odb_check.specs.PlanGraph.{PlanGraph, IsPlan, unit_of}
+use Rattle.odb_check.specs.PlanGraph.{PlanGraph, IsPlan, unit_of, unit_needed}
 use Rattle.odb_dense.specs.declared.worklist.Mark.{Mark}
 use Rattle.odb_dense.specs.declared.worklist.Mark.TheVariants.{Unvisited, Queued, Visited}
 use Rattle.odb_sched.specs.declared.phase.Phase.{Phase}
 use Rattle.odb_sched.specs.declared.phase.Phase.TheVariants.{Unstarted}
 use Rattle.odb_sched.specs.run.State.{has_failed}
-use Rattle.odb_sched.specs.run.Failing.{Fails, own, propagated, unit_needed}
+use Rattle.odb_sched.specs.run.Failing.{Fails, own, propagated}
 use Rattle.odb_sched.specs.run.Steps.{failed_in}
 use Rattle.odb_dense.specs.Marks.{is_marked, is_visited}
 use Rattle.odb_sched.specs.declared.counts.Counts.{Counts}
@@ -25,9 +25,9 @@ pub need_fails : (plan : PlanGraph) (phases : List Phase) (v w : ℕ) → IsPlan
 need_fails plan phases v w laws (i, need, within, has, about, here) failed = elim (cases_eq v w) [
   | inl same ↦ subst (λ x. failed_in plan phases x ≡ true) same failed
   | inr other ↦
-      let elsewhere : unit_needed plan need ≢ unit_of plan i = λ e. other (sym about ∙ e ∙ here) in
+      let elsewhere : unit_needed (unit_of plan) need ≢ unit_of plan i = λ e. other (sym about ∙ e ∙ here) in
       subst (λ x. failed_in plan phases x ≡ true) here (fails-from_Fails plan (λ j. has_failed (get_or phases j Unstarted)) (unit_of plan i) laws
-      (propagated i need within has elsewhere (Fails-from_fails plan (λ j. has_failed (get_or phases j Unstarted)) (unit_needed plan need) (subst (λ x. failed_in plan phases x ≡ true) (sym about) failed))))
+      (propagated i need within has elsewhere (Fails-from_fails plan (λ j. has_failed (get_or phases j Unstarted)) (unit_needed (unit_of plan) need) (subst (λ x. failed_in plan phases x ≡ true) (sym about) failed))))
 ]
 
 visited_marked : (s : Mark) → is_visited s ≡ true → is_marked s ≡ true
@@ -90,7 +90,7 @@ propagating_on plan phases units after u laws are within waits marks marked only
 taken_fails : (plan : PlanGraph) (phases : List Phase) (units : List Mark) (u : ℕ) → ArePropagating plan phases units → ((v : ℕ) → get_or units v Unvisited ≢ Queued) → Fails plan (λ i. has_failed (get_or phases i Unstarted)) u → is_visited (get_or units u Unvisited) ≡ true
 taken_fails plan phases units _ are none (own i within failed) = sym (visited_if_marked _ (none (unit_of plan i))) ∙ are.own i within failed
 taken_fails plan phases units _ are none (propagated i need within has other failing) =
-    sym (visited_if_marked _ (none (unit_of plan i))) ∙ are.propagated (unit_needed plan need) (unit_of plan i) (i, need, within, has, refl, refl) (taken_fails plan phases units (unit_needed plan need) are none failing)
+    sym (visited_if_marked _ (none (unit_of plan i))) ∙ are.propagated (unit_needed (unit_of plan) need) (unit_of plan i) (i, need, within, has, refl, refl) (taken_fails plan phases units (unit_needed (unit_of plan) need) are none failing)
 
 pub same_test : (a b : Bool) → (a ≡ true → b ≡ true) → (b ≡ true → a ≡ true) → a ≡ b
 same_test true b there back = sym (there refl)

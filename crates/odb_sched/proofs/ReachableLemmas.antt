@@ -8,13 +8,13 @@ use Rattle.odb_doc.specs.declared.recorded.outcome.Outcome.{Outcome}
 use Rattle.odb_doc.specs.Statuses.{is_success, is_status, is_error}
 use Rattle.odb_check.specs.declared.need.Need.{Need}
 use Rattle.odb_check.specs.declared.need.Need.TheVariants.{One, Group}
-use Rattle.odb_check.specs.PlanGraph.{PlanGraph, unit_of, needs_of}
+use Rattle.odb_check.specs.PlanGraph.{PlanGraph, unit_of, needs_of, unit_needed}
 use Rattle.odb_sched.specs.declared.phase.Phase.{Phase}
 use Rattle.odb_sched.specs.declared.phase.Phase.TheVariants.{Unstarted, Running, Reported}
 use Rattle.odb_sched.specs.declared.event.Event.{Event}
 use Rattle.odb_sched.specs.declared.event.Event.TheVariants.{Start, Report}
 use Rattle.odb_sched.specs.run.State.{State, size, phase_at, is_unstarted, is_running, has_succeeded, has_failed, has_erred, started, reported, after}
-use Rattle.odb_sched.specs.run.Failing.{Fails, own, propagated, unit_needed}
+use Rattle.odb_sched.specs.run.Failing.{Fails, own, propagated}
 use Rattle.odb_sched.specs.run.Steps.{stops, unit_failed, is_satisfied, spare_in, may_start, may_come}
 use Rattle.odb_sched.specs.run.Runs.{event_position, after_all, IsRunFrom}
 use Rattle.odb_sched.specs.run.Answers.{outcome_of}
@@ -97,7 +97,7 @@ none_erred state sound = false_from_ne_true _ (λ e.
 
 no_bad : (plan : PlanGraph) (bad : ℕ → Bool) (u : ℕ) → ((i : ℕ) → bad i ≡ false) → Fails plan bad u → ⊥
 no_bad plan bad _ none (own i within is_bad) = both_ways _ (none i) is_bad
-no_bad plan bad _ none (propagated i need within has other failing) = no_bad plan bad (unit_needed plan need) none failing
+no_bad plan bad _ none (propagated i need within has other failing) = no_bad plan bad (unit_needed (unit_of plan) need) none failing
 
 pub none_failed : (state : State) (u : ℕ) → ((i : ℕ) → has_failed (phase_at state i) ≡ false) → unit_failed state u ≡ false
 none_failed state u sound = false_from_ne_true _ (λ e.

@@ -7,7 +7,7 @@ use Rattle.std.proofs.lemmas.List.Sums.{sum_by-set}
 use Rattle.odb_doc.specs.batch.Records.{Record}
 use Rattle.odb_doc.specs.declared.recorded.outcome.Outcome.{Outcome}
 use Rattle.odb_check.specs.declared.need.Need.{Need}
-use Rattle.odb_check.specs.PlanGraph.{PlanGraph, IsPlan, unit_of, needs_of}
+use Rattle.odb_check.specs.PlanGraph.{PlanGraph, IsPlan, unit_of, needs_of, unit_needed}
 use Rattle.odb_sched.specs.declared.policy.Policy.{Policy}
 use Rattle.odb_sched.specs.declared.phase.Phase.{Phase}
 use Rattle.odb_sched.specs.declared.phase.Phase.TheVariants.{Unstarted, Running, Reported}
@@ -15,7 +15,6 @@ use Rattle.odb_sched.specs.declared.event.Event.{Event}
 use Rattle.odb_sched.specs.declared.event.Event.TheVariants.{Start, Report}
 use Rattle.odb_doc.specs.Statuses.{is_status}
 use Rattle.odb_sched.specs.run.State.{is_unstarted, is_running, has_succeeded, State, size, phase_at, with_requests, started, awaited_after, reported, after}
-use Rattle.odb_sched.specs.run.Failing.{unit_needed}
 use Rattle.odb_sched.specs.run.Steps.{satisfied_in, is_satisfied, running_count, spare_in, places, may_start, may_report, may_come}
 use Rattle.odb_sched.specs.run.Runs.{event_position}
 use Rattle.odb_sched.specs.invariants.Kept.{first_of, IsReached}
@@ -56,8 +55,8 @@ count_after phases i new within = sum_by-set weight phases i new Unstarted withi
 -- what each request that has started needs of other units stays satisfied when the phase of a request is written of which that
 -- holds
 needs_after : (state : State) (i : ℕ) (new : Phase) → IsReached state → has_succeeded (phase_at state i) ≡ false
-    → ((need : Need) → Contains (needs_of state.plan_graph i) need → unit_needed state.plan_graph need ≢ unit_of state.plan_graph i → is_satisfied state need ≡ true)
-    → (j : ℕ) (need : Need) → j < size state → is_unstarted (get_or (set state.phases i new) j Unstarted) ≡ false → Contains (needs_of state.plan_graph j) need → unit_needed state.plan_graph need ≢ unit_of state.plan_graph j
+    → ((need : Need) → Contains (needs_of state.plan_graph i) need → unit_needed (unit_of state.plan_graph) need ≢ unit_of state.plan_graph i → is_satisfied state need ≡ true)
+    → (j : ℕ) (need : Need) → j < size state → is_unstarted (get_or (set state.phases i new) j Unstarted) ≡ false → Contains (needs_of state.plan_graph j) need → unit_needed (unit_of state.plan_graph) need ≢ unit_of state.plan_graph j
     → satisfied_in state.plan_graph (set state.phases i new) need ≡ true
 needs_after state i new reached fresh satisfied j need within begun has other = satisfied_in-set state.plan_graph state.phases i new need fresh (elim (cases_eq j i) [
   | inl same ↦ satisfied need (subst (λ k. Contains (needs_of state.plan_graph k) need) same has) (λ own. other (own ∙ ap (unit_of state.plan_graph) (sym same)))

@@ -6,13 +6,13 @@ use Rattle.odb_doc.specs.declared.recorded.outcome.Outcome.{Outcome}
 use Rattle.odb_doc.specs.Headers.{Header}
 use Rattle.odb_check.specs.declared.need.Need.{Need}
 use Rattle.odb_check.specs.declared.need.Need.TheVariants.{One, Group}
-use Rattle.odb_check.specs.PlanGraph.{unit_of, needs_of}
+use Rattle.odb_check.specs.PlanGraph.{unit_of, needs_of, unit_needed}
 use Rattle.odb_sched.specs.declared.policy.Mode.TheVariants.{Continue}
 use Rattle.odb_sched.specs.declared.phase.Phase.{Phase}
 use Rattle.odb_sched.specs.declared.phase.Phase.TheVariants.{Unstarted, Running, Reported}
 use Rattle.odb_doc.specs.Statuses.{is_success}
 use Rattle.odb_sched.specs.run.State.{is_unstarted, is_reported, has_succeeded, has_failed, State, size, phase_at}
-use Rattle.odb_sched.specs.run.Failing.{Fails, own, propagated, unit_needed, succeeds}
+use Rattle.odb_sched.specs.run.Failing.{Fails, own, propagated, succeeds}
 use Rattle.odb_sched.specs.run.Steps.{is_stopped, is_satisfied, unit_succeeded, unit_failed, is_finished}
 use Rattle.odb_sched.specs.run.Answers.{answer_of, answer, is_answered_2xx}
 use Rattle.odb_sched.specs.run.Laws.{statuses_of, AgreesInStatus, HasResultByStatuses, Agrees, HasOneResult, AgreesWithTable, IsAllOrNone, RestsOnSuccesses}
@@ -51,7 +51,7 @@ begun : (phase : Phase) → has_succeeded phase ≡ true → is_unstarted phase 
 begun phase e = rw (Reported-from phase e).1 refl
 
 -- what a member of a unit that has succeeded needs of its own unit has succeeded
-own_satisfied : (state : State) (i : ℕ) (need : Need) → IsReached state → i < size state → unit_succeeded state (unit_of state.plan_graph i) ≡ true → Contains (needs_of state.plan_graph i) need → unit_needed state.plan_graph need ≡ unit_of state.plan_graph i → is_satisfied state need ≡ true
+own_satisfied : (state : State) (i : ℕ) (need : Need) → IsReached state → i < size state → unit_succeeded state (unit_of state.plan_graph i) ≡ true → Contains (needs_of state.plan_graph i) need → unit_needed (unit_of state.plan_graph) need ≡ unit_of state.plan_graph i → is_satisfied state need ≡ true
 own_satisfied state i (One r) reached within whole has inner =
     let earlier : r < i = reached.laws.earlier i (One r) within has in
     member_succeeded state.plan_graph state.phases (unit_of state.plan_graph i) r whole (omega arith) inner
@@ -61,13 +61,13 @@ own_satisfied state i (Group u) reached within whole has inner =
 
 -- the needs of a member of a unit that has succeeded are satisfied
 satisfied_of : (state : State) (i : ℕ) (need : Need) → IsReached state → i < size state → unit_succeeded state (unit_of state.plan_graph i) ≡ true → Contains (needs_of state.plan_graph i) need → is_satisfied state need ≡ true
-satisfied_of state i need reached within whole has = elim (cases_eq (unit_needed state.plan_graph need) (unit_of state.plan_graph i)) [
+satisfied_of state i need reached within whole has = elim (cases_eq (unit_needed (unit_of state.plan_graph) need) (unit_of state.plan_graph i)) [
   | inl inner ↦ own_satisfied state i need reached within whole has inner
   | inr other ↦ reached.needs i need within (begun (phase_at state i) (member_succeeded state.plan_graph state.phases (unit_of state.plan_graph i) i whole within refl)) has other
 ]
 
 -- the unit that a member of a succeeded unit needs has succeeded
-unit_satisfied : (state : State) (i : ℕ) (need : Need) → IsReached state → i < size state → unit_succeeded state (unit_of state.plan_graph i) ≡ true → Contains (needs_of state.plan_graph i) need → unit_succeeded state (unit_needed state.plan_graph need) ≡ true
+unit_satisfied : (state : State) (i : ℕ) (need : Need) → IsReached state → i < size state → unit_succeeded state (unit_of state.plan_graph i) ≡ true → Contains (needs_of state.plan_graph i) need → unit_succeeded state (unit_needed (unit_of state.plan_graph) need) ≡ true
 unit_satisfied state i (One r) reached within whole has = elim (reached.laws.listed i r within has) [
   | inl same ↦ rw same whole
   | inr (inl alone) ↦ succeeded_in-from state.plan_graph state.phases (unit_of state.plan_graph r) (λ j inside here. rw (alone j inside here) (satisfied_of state i (One r) reached within whole has))
@@ -96,7 +96,7 @@ succeeded_sound : (state : State) (table : ℕ → Outcome) (u : ℕ) → IsReac
 succeeded_sound state table _ reached agrees (own i within bad) whole =
     both_ways _ (not-true _ bad) (good_in_table state table i agrees within (member_succeeded state.plan_graph state.phases (unit_of state.plan_graph i) i whole within refl)).0
 succeeded_sound state table _ reached agrees (propagated i need within has other failing) whole =
-    succeeded_sound state table (unit_needed state.plan_graph need) reached agrees failing (unit_satisfied state i need reached within whole has)
+    succeeded_sound state table (unit_needed (unit_of state.plan_graph) need) reached agrees failing (unit_satisfied state i need reached within whole has)
 
 pub succeeds-from : (state : State) (table : ℕ → Outcome) (u : ℕ) → IsReached state → Agrees state table → unit_succeeded state u ≡ true → succeeds state.plan_graph (statuses_of table) u ≡ true
 succeeds-from state table u reached agrees whole = not_from_false _ (false_from_ne_true _ (λ failing. succeeded_sound state table u reached agrees (Fails-from_fails state.plan_graph (is_bad_in table) u failing) whole))

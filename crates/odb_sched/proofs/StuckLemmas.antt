@@ -4,11 +4,11 @@ use Rattle.std.proofs.lemmas.Bool.{cases_Bool, cases_eq, cases_lt, both_ways, an
 use Rattle.std.proofs.lemmas.List.{get_or_default}
 use Rattle.odb_check.specs.declared.need.Need.{Need}
 use Rattle.odb_check.specs.declared.need.Need.TheVariants.{One, Group}
-use Rattle.odb_check.specs.PlanGraph.{IsPlan, unit_of, needs_of}
+use Rattle.odb_check.specs.PlanGraph.{IsPlan, unit_of, needs_of, unit_needed}
 use Rattle.odb_sched.specs.declared.phase.Phase.TheVariants.{Unstarted}
 use Rattle.odb_check.specs.Firsts.{any_below, all_below}
 use Rattle.odb_sched.specs.run.State.{is_running, is_reported, has_succeeded, has_failed, State, size, phase_at}
-use Rattle.odb_sched.specs.run.Failing.{own, propagated, unit_needed}
+use Rattle.odb_sched.specs.run.Failing.{own, propagated}
 use Rattle.odb_sched.specs.run.Steps.{is_stopped, is_satisfied, unit_failed, may_start, running_count, places, is_finished}
 use Rattle.odb_sched.specs.run.Laws.{IsNeverStuck}
 use Rattle.odb_sched.specs.invariants.Kept.{IsReached}
@@ -33,11 +33,11 @@ over_succeeded state j laws within over sound = has_succeeded-from (phase_at sta
     (false_from_ne_true (has_failed (phase_at state j)) (λ failed. both_ways _ sound (fails-from_Fails state.plan_graph (λ i. has_failed (phase_at state i)) (unit_of state.plan_graph j) laws (own j within failed))))
 
 -- if the unit of a request has not failed, no unit that the request needs has
-pub sound_needed : (state : State) (i : ℕ) (need : Need) → IsPlan state.plan_graph → i < size state → Contains (needs_of state.plan_graph i) need → unit_failed state (unit_of state.plan_graph i) ≡ false → unit_failed state (unit_needed state.plan_graph need) ≡ false
-sound_needed state i need laws within has sound = elim (cases_eq (unit_needed state.plan_graph need) (unit_of state.plan_graph i)) [
+pub sound_needed : (state : State) (i : ℕ) (need : Need) → IsPlan state.plan_graph → i < size state → Contains (needs_of state.plan_graph i) need → unit_failed state (unit_of state.plan_graph i) ≡ false → unit_failed state (unit_needed (unit_of state.plan_graph) need) ≡ false
+sound_needed state i need laws within has sound = elim (cases_eq (unit_needed (unit_of state.plan_graph) need) (unit_of state.plan_graph i)) [
   | inl same ↦ rw same sound
   | inr other ↦ false_from_ne_true _ (λ failed. both_ways _ sound (fails-from_Fails state.plan_graph (λ j. has_failed (phase_at state j)) (unit_of state.plan_graph i) laws
-      (propagated i need within has other (Fails-from_fails state.plan_graph (λ j. has_failed (phase_at state j)) (unit_needed state.plan_graph need) failed))))
+      (propagated i need within has other (Fails-from_fails state.plan_graph (λ j. has_failed (phase_at state j)) (unit_needed (unit_of state.plan_graph) need) failed))))
 ]
 
 -- if all requests before a request are over, and its unit has not failed, its needs are satisfied

@@ -4,9 +4,8 @@ use Rattle.std.proofs.lemmas.Bool.{cases_Bool, cases_eq, cases_lt, both_ways, an
 use Rattle.odb_check.specs.declared.need.Need.{Need}
 use Rattle.odb_check.specs.declared.need.Need.TheVariants.{One, Group}
 use Rattle.odb_check.specs.Firsts.{any_below}
-use Rattle.odb_check.specs.PlanGraph.{IsPlan, unit_of, needs_of}
+use Rattle.odb_check.specs.PlanGraph.{IsPlan, unit_of, needs_of, unit_needed}
 use Rattle.odb_sched.specs.run.State.{State, is_running, is_reported, size, phase_at}
-use Rattle.odb_sched.specs.run.Failing.{unit_needed}
 use Rattle.odb_sched.specs.run.Steps.{is_satisfied, unit_failed, running_count, places}
 use Rattle.odb_sched.specs.run.Units.{outer_satisfied, has_begun, IsOver, FirstNeedsNothing, HasNextUnit, UnitsGoOn}
 use Rattle.odb_sched.specs.invariants.Kept.{IsReached}
@@ -19,7 +18,7 @@ use Rattle.odb_sched.proofs.StartLemmas.{may_start-from, some_places}
 use Rattle.odb_sched.proofs.StuckLemmas.{is_over, none_counted, over_succeeded, sound_needed, unfinished_parts}
 
 -- what is needed of a unit that is over and has not failed is satisfied
-over_satisfied : (state : State) (i : ℕ) (need : Need) → IsPlan state.plan_graph → i < size state → Contains (needs_of state.plan_graph i) need → IsOver state (unit_needed state.plan_graph need) → unit_failed state (unit_needed state.plan_graph need) ≡ false
+over_satisfied : (state : State) (i : ℕ) (need : Need) → IsPlan state.plan_graph → i < size state → Contains (needs_of state.plan_graph i) need → IsOver state (unit_needed (unit_of state.plan_graph) need) → unit_failed state (unit_needed (unit_of state.plan_graph) need) ≡ false
     → is_satisfied state need ≡ true
 over_satisfied state i (One r) laws within has over sound =
     let earlier : r < i = laws.earlier i (One r) within has in
@@ -30,9 +29,9 @@ over_satisfied state i (Group u) laws within has over sound =
 pub first_needs_nothing : (state : State) → IsReached state → FirstNeedsNothing state
 first_needs_nothing state reached u within sound before =
     outer-from state.plan_graph u (is_satisfied state) (λ i need inside here has other.
-    let good : unit_failed state (unit_needed state.plan_graph need) ≡ false = sound_needed state i need reached.laws inside has (rw here sound) in
-    let earlier : unit_needed state.plan_graph need < unit_of state.plan_graph i = earlier_unit state.plan_graph i need reached.laws inside has (λ same. other (same ∙ here)) in
-    elim (before (unit_needed state.plan_graph need) (omega (arith, earlier, here))) [
+    let good : unit_failed state (unit_needed (unit_of state.plan_graph) need) ≡ false = sound_needed state i need reached.laws inside has (rw here sound) in
+    let earlier : unit_needed (unit_of state.plan_graph) need < unit_of state.plan_graph i = earlier_unit state.plan_graph i need reached.laws inside has (λ same. other (same ∙ here)) in
+    elim (before (unit_needed (unit_of state.plan_graph) need) (omega (arith, earlier, here))) [
       | inl over ↦ over_satisfied state i need reached.laws inside has over good
       | inr failed ↦ absurd (both_ways _ good failed)
     ])
@@ -47,7 +46,7 @@ not_member_or false b e h = absurd (both_ways false refl e)
 
 -- of the members that have not reported, the first needs nothing more of its own unit
 inner_satisfied : (state : State) (u j : ℕ) (need : Need) → IsPlan state.plan_graph → j < size state → unit_of state.plan_graph j ≡ u → unit_failed state u ≡ false → ((k : ℕ) → k < j → passes state u k ≡ true) → Contains (needs_of state.plan_graph j) need
-    → unit_needed state.plan_graph need ≡ u → is_satisfied state need ≡ true
+    → unit_needed (unit_of state.plan_graph) need ≡ u → is_satisfied state need ≡ true
 inner_satisfied state u j (One r) laws within here sound before has own =
     let earlier : r < j = laws.earlier j (One r) within has in
     over_succeeded state r laws (omega arith) (or_left _ _ (not_member_or _ _ (eq-eqb _ _ own) (before r earlier))) (rw own sound)
@@ -70,7 +69,7 @@ units_go_on state reached i within idle sound satisfied going room =
           fresh = is_unstarted-from (phase_at state j) parts.1 rests;
           unstopped = going;
           sound = rw here sound;
-          satisfied = list_all-from (is_satisfied state) (needs_of state.plan_graph j) (λ need has. elim (cases_eq (unit_needed state.plan_graph need) u) [
+          satisfied = list_all-from (is_satisfied state) (needs_of state.plan_graph j) (λ need has. elim (cases_eq (unit_needed (unit_of state.plan_graph) need) u) [
             | inl own ↦ inner_satisfied state u j need reached.laws first.below here sound first.before has own
             | inr other ↦ outer-each state.plan_graph u j need (is_satisfied state) satisfied first.below here has other
           ]);

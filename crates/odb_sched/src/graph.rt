@@ -10,7 +10,7 @@ ghost use Rattle.odb_sched.specs.invariants.Dependents as needed;
 ghost use Rattle.odb_sched.specs.invariants.Graphs.{AreSpans, need_pairs, all_pairs};
 
 use odb_check::laws::every_plan;
-use odb_check::{Need, Needs, Plan};
+use odb_check::{Need, Plan};
 use odb_dense::Rows;
 use std::alloc::{AllocError, Global};
 use std::marker::Model;
@@ -24,9 +24,9 @@ pub struct Graph {
     units: Vec<u32>,
     /// Where each unit begins and ends.
     members: Vec<(u32, u32)>,
-    needs: Needs,
+    needs: Rows<Need>,
     /// The dependents of each request, and after all requests those of each unit.
-    dependents: Rows,
+    dependents: Rows<u32>,
 }
 
 impl Model for Graph {
@@ -102,7 +102,7 @@ fn pairs_of(alloc: Global, plan: &Plan<'_>) -> Result<Vec<(u32, u32)>, AllocErro
 }
 
 /// Returns the dependents of each request and of each unit, by their keys.
-fn all_dependents(alloc: Global, plan: &Plan<'_>) -> Result<Rows, AllocError>
+fn all_dependents(alloc: Global, plan: &Plan<'_>) -> Result<Rows<u32>, AllocError>
     ensures { IfOk result (AreDependents (plan_graph plan.now)) }
 {
     every_plan(plan);
@@ -123,7 +123,7 @@ impl Graph {
         Ok(Graph {
             units: units_of(alloc, plan)?,
             members: members_of(alloc, plan)?,
-            needs: plan.all_needs().clone()?,
+            needs: plan.all_needs().copied(alloc)?,
             dependents: all_dependents(alloc, plan)?,
         })
     }

@@ -1,11 +1,11 @@
 //! Which units may begin: what is counted of each unit beside its requests, once a unit is asked for.
 
 ghost use Rattle.std.specs.Prelude.{◌≡◌, ◌<◌, ◌-◌, ℕ, Bool, List, true, false, length, slice_index_or, slice_set, replicate, IfOk, IfSome, None};
-ghost use Rattle.odb_check.specs.PlanGraph.{IsNeed};
+ghost use Rattle.odb_check.specs.PlanGraph.{IsNeed, unit_of};
+ghost use Rattle.odb_check.specs.PlanGraph as plan_graphs;
 ghost use Rattle.odb_sched.specs.declared.phase.Phase.TheVariants.{Unstarted};
 ghost use Rattle.odb_sched.specs.invariants.Openings.{is_passed, HaveUnits, AreWaiting, AreFree, AreOpenings, IsFirstFree};
 ghost use Rattle.odb_sched.specs.invariants.Openings as openings;
-ghost use Rattle.odb_sched.specs.run.Failing as failing;
 
 use crate::graph::Graph;
 use odb_check::Need;
@@ -31,7 +31,7 @@ pub(crate) struct Openings {
 /// Returns the unit that a need is about.
 pub(crate) fn unit_needed(graph: &Graph, need: Need) -> u32
     requires { IsNeed graph.now.plan_graph need }
-    ensures { result ≡ failing.unit_needed graph.now.plan_graph need }
+    ensures { result ≡ plan_graphs.unit_needed (unit_of graph.now.plan_graph) need }
 {
     match need {
         Need::One(r) => graph.unit_of(r),

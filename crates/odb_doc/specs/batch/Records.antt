@@ -1,5 +1,5 @@
 -- What the requests of a document without a fault of shape are (OData JSON Format 4.01, section 19.1).
-use Rattle.std.specs.Prelude.{◌≡◌, ℕ, List, map, Option, Some, option_map, IfSome, bytes_eq, string_bytes}
+use Rattle.std.specs.Prelude.{◌≡◌, ℕ, List, Option, Some, option_map, IfSome, bytes_eq, string_bytes}
 use Rattle.std.specs.List.{AllZip, IsDistinct}
 use Rattle.serde_json.specs.Data.{Data}
 use Rattle.serde_json.specs.View.{view}
@@ -7,7 +7,7 @@ use Rattle.odb_names.specs.Identifiers.{IsRequestId}
 use Rattle.odb_names.specs.declared.method.Method.{Method}
 use Rattle.odb_doc.specs.declared.batch.request.Request.{Request}
 use Rattle.odb_doc.specs.batch.Bodies.{body_of}
-use Rattle.odb_doc.specs.Headers.{Header, HasHeaders, lent_header}
+use Rattle.odb_doc.specs.Headers.{Header, HasHeaders, lent_headers}
 use Rattle.odb_doc.specs.Names.{distinct, texts_in}
 use Rattle.odb_doc.specs.batch.References.{RefersTo}
 use Rattle.odb_doc.specs.batch.Shapes.{HasId, HasMethod, HasGroup, url_of, listed_names, elements}
@@ -31,7 +31,7 @@ record_of r = record {
   group = option_map (λ group. group.now) r.group;
   names = texts_in r.names.items;
   reference = option_map string_bytes r.reference;
-  headers = map lent_header r.headers.items;
+  headers = lent_headers r.headers;
   body = option_map (λ body. view body.now) r.body;
 }
 

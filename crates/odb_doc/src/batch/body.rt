@@ -6,11 +6,11 @@ ghost use Rattle.serde_json.specs.View.{view};
 ghost use Rattle.odb_doc.specs.batch.Bodies.{content_type};
 ghost use Rattle.odb_doc.specs.batch.BodyKinds.{IsOfKind};
 ghost use Rattle.odb_doc.specs.batch.MembersFound.{FitsBody, HasParts};
-ghost use Rattle.odb_doc.specs.Headers.{lent_header};
+ghost use Rattle.odb_doc.specs.Headers.{lent_headers};
 ghost use Rattle.odb_doc.specs.BrokenRules.{IsRequestObject};
 ghost use Rattle.odb_doc.specs.batch.MediaTypes.{AllowsBody};
 
-use crate::batch::headers::{Header, content_type};
+use crate::batch::folded::Headers;
 use crate::batch::media_type::BodyKind;
 use crate::batch::members::Members;
 use crate::member::given;
@@ -29,14 +29,22 @@ fn is_of_kind(kind: BodyKind, body: &Value) -> bool
     }
 }
 
+/// Returns the value of the header `content-type`, or the empty text if there is none.
+#[inline(always)]
+fn content_type<'a>(headers: &Headers<'a>) -> &'a str
+    ensures { result.now ≡ content_type (lent_headers headers.now) }
+{
+    headers.get("content-type").unwrap_or("")
+}
+
 /// Returns whether the media type in the headers allows the body.
 #[inline(always)]
 pub(crate) fn is_allowed(
     alloc: Global,
-    headers: &[Header<'_>],
+    headers: &Headers<'_>,
     body: &Value,
 ) -> Result<bool, AllocError>
-    ensures { IfOk result (λ fit. IsTrue fit ↔ AllowsBody (content_type (map lent_header headers.now))
+    ensures { IfOk result (λ fit. IsTrue fit ↔ AllowsBody (content_type (lent_headers headers.now))
         (view body.now)) }
 {
     odb_names::laws::one_reading();
@@ -49,12 +57,12 @@ pub(crate) fn may_have_body(
     alloc: Global,
     members: &Members<'_>,
     method: Method,
-    headers: &[Header<'_>],
+    headers: &Headers<'_>,
 ) -> Result<bool, AllocError>
     ensures fits { IfOk result (λ may. IsTrue may → (d : Data)
-        → HasParts d members.now method (map lent_header headers.now) → FitsBody d) }
+        → HasParts d members.now method (lent_headers headers.now) → FitsBody d) }
     ensures breaks { IfOk result (λ may. may ≡ false → (d : Data)
-        → HasParts d members.now method (map lent_header headers.now) → ¬ IsRequestObject d) }
+        → HasParts d members.now method (lent_headers headers.now) → ¬ IsRequestObject d) }
 {
     let Some(body) = given(members.body) else {
         return Ok(true);

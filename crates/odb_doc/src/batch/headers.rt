@@ -1,6 +1,6 @@
 //! The headers of a request, lent from its document, in byte order of their names in lower case.
 
-ghost use Rattle.std.specs.Prelude.{◌≡◌, ◌↔◌, true, false, IsTrue, IsSome, map, option_map, IfNone, IfOk, IfSome, bytes_eq, codes};
+ghost use Rattle.std.specs.Prelude.{◌≡◌, ◌↔◌, true, false, IsTrue, IsSome, map, option_map, IfNone, IfOk, IfSome, bytes_eq};
 ghost use Rattle.std.specs.Cmp.Lexicographic.{slice_cmp};
 ghost use Rattle.std.specs.List.{IsDistinct};
 ghost use Rattle.std.specs.List.Sorted.{IsPermutation, IsSorted};
@@ -10,21 +10,18 @@ ghost use Rattle.std.specs.Str.{str_to_ascii_lowercase};
 ghost use Rattle.serde_json.specs.Data.{Data};
 ghost use Rattle.serde_json.specs.View.{members_view};
 ghost use Rattle.odb_doc.specs.declared.fault.RequestRule.TheVariants as rules;
-ghost use Rattle.odb_doc.specs.batch.Bodies.{content_type};
 ghost use Rattle.odb_doc.specs.batch.MembersFound.{AreMembersOf, data_of};
 ghost use Rattle.odb_doc.specs.batch.Shapes.{BreaksRequest};
 ghost use Rattle.odb_doc.specs.HeaderMaps.{HasUnordered, by_name, written};
 ghost use Rattle.odb_doc.specs.Members as spec;
-ghost use Rattle.odb_doc.specs.Headers.{HasHeaders, IsInOrder, lent_header, listed_headers, listed_in, text_members};
+ghost use Rattle.odb_doc.specs.Headers.{HasHeaders, IsInOrder, lent_header, lent_headers, listed_headers, listed_in, text_members};
 
+use crate::batch::folded::{Header, Headers};
 use crate::batch::members::Members;
 use crate::member::given;
 use serde_json::{Map, Value};
 use std::alloc::{AllocError, Global};
 use std::cmp::Ordering;
-
-/// A name as the document has it, and its value.
-pub(crate) type Header<'a> = (&'a str, &'a str);
 
 /// Compares two texts by their bytes, with ASCII letters in lower case.
 fn folded_cmp(x: &[u8], y: &[u8]) -> Ordering
@@ -60,7 +57,10 @@ fn texts_of<'a>(
         let Some(text) = value.as_str() else {
             return Ok(None);
         };
-        found.push((name.as_str(), text))?;
+        found.push(Header {
+            written: name.as_str(),
+            value: text,
+        })?;
     }
     Ok(Some(found))
 }
@@ -74,7 +74,7 @@ fn are_ascending(headers: &[Header<'_>]) -> bool
     headers.is_sorted_by(
         |x: &Header<'_>, y: &Header<'_>| -> bool
             ensures { result ≡ is_lt (by_name x.now y.now) }
-        { folded_cmp(x.0.as_bytes(), y.0.as_bytes()) == Ordering::Less },
+        { folded_cmp(x.written.as_bytes(), y.written.as_bytes()) == Ordering::Less },
     )
 }
 
@@ -86,23 +86,23 @@ fn sort(headers: &mut Vec<Header<'_>>)
     headers.sort_unstable_by(
         |x: &Header<'_>, y: &Header<'_>| -> Ordering
             ensures { result ≡ by_name x.now y.now }
-        { folded_cmp(x.0.as_bytes(), y.0.as_bytes()) },
+        { folded_cmp(x.written.as_bytes(), y.written.as_bytes()) },
     );
 }
 
 /// Returns the headers in order of their names; `None` if two have one name.
 #[inline(always)]
-fn in_order<'a>(mut headers: Vec<Header<'a>>) -> Option<Vec<Header<'a>>>
-    ensures sorted { IfSome result (λ sorted. IsPermutation headers.entry.items sorted.items
-        × IsInOrder (map lent_header sorted.items)) }
+fn in_order<'a>(mut headers: Vec<Header<'a>>) -> Option<Headers<'a>>
+    ensures sorted { IfSome result (λ sorted. IsPermutation headers.entry.items sorted.entries.items
+        × IsInOrder (lent_headers sorted)) }
     ensures twice { IfNone result (¬ IsDistinct bytes_eq (keys_of (map lent_header headers.entry.items))) }
 {
     if are_ascending(&headers) {
-        return Some(headers);
+        return Some(Headers { entries: headers });
     }
     sort(&mut headers);
     if are_ascending(&headers) {
-        Some(headers)
+        Some(Headers { entries: headers })
     } else {
         None
     }
@@ -132,9 +132,9 @@ pub(crate) fn listed_headers<'a>(
 pub(crate) fn headers_of<'a>(
     alloc: Global,
     members: &Members<'a>,
-) -> Result<Option<Vec<Header<'a>>>, AllocError>
+) -> Result<Option<Headers<'a>>, AllocError>
     ensures has { IfOk result (λ found. IfSome found (λ headers. (d : Data) → AreMembersOf d members.now
-        → HasHeaders d (map lent_header headers.items))) }
+        → HasHeaders d (lent_headers headers))) }
     ensures none { IfOk result (λ found. IfNone found ((d : Data) → AreMembersOf d members.now
         → IsSome (listed_headers d) → BreaksRequest rules.HeaderTwice d)) }
 {
@@ -154,7 +154,10 @@ fn names_of<'a>(
 {
     let mut found = Vec::with_capacity(alloc, members.len())?;
     for (name, _) in members.iter() {
-        found.push((name.as_str(), ""))?;
+        found.push(Header {
+            written: name.as_str(),
+            value: "",
+        })?;
     }
     Ok(found)
 }
@@ -168,24 +171,4 @@ pub(crate) fn has_name_twice(
         (map str_to_ascii_lowercase (spec.names_of (members_view members.now.entries)))) }
 {
     Ok(in_order(names_of(alloc, members)?).is_none())
-}
-
-/// Returns whether the name of a header is `content-type`, in any case of its letters.
-fn is_content_type(name: &str) -> bool
-    ensures { result ≡ bytes_eq (codes "content-type") (str_to_ascii_lowercase name.now) }
-{
-    name.eq_ignore_ascii_case("content-type")
-}
-
-/// Returns the value of the header `content-type`, or the empty text if there is none.
-#[inline(always)]
-pub(crate) fn content_type<'a>(headers: &[Header<'a>]) -> &'a str
-    ensures { result.now ≡ content_type (map lent_header headers.now) }
-{
-    for header in headers {
-        if is_content_type(header.0) {
-            return header.1;
-        }
-    }
-    ""
 }

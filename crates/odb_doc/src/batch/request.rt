@@ -11,6 +11,7 @@ ghost use Rattle.odb_doc.specs.Names.{texts_in};
 
 use crate::batch::body::may_have_body;
 use crate::batch::depends_on::read_names;
+use crate::batch::folded::Headers;
 use crate::batch::headers::headers_of;
 use crate::batch::line::RequestLine;
 use crate::batch::members::Members;
@@ -39,9 +40,8 @@ pub struct Request<'a> {
     pub names: SmallVec<&'a str, 1>,
     /// The identifier of the request to whose response the URL is relative, if it refers to one.
     pub reference: Option<String>,
-    /// The headers: names as the document has them, and values, in byte order of the names in lower
-    /// case, of which no two are equal.
-    pub headers: Vec<(&'a str, &'a str)>,
+    /// The headers by their names in lower case.
+    pub headers: Headers<'a>,
     /// The body, if any. `null` is treated as absent.
     pub body: Option<&'a Value>,
     ghost id_form: { IsRequestId id.now },

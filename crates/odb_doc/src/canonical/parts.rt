@@ -11,8 +11,7 @@ ghost use Rattle.odb_doc.specs.canonical.CanonicalParts as canonical_parts;
 ghost use Rattle.odb_doc.specs.Texts.{member_part};
 
 use crate::batch::Batch;
-use crate::batch::headers::Header;
-use crate::batch::media_type::has_uppercase;
+use crate::batch::folded::Header;
 use crate::batch::request::Request;
 use crate::text::{push_body, push_group, push_header, push_names, push_open, push_request_end};
 use std::alloc::{AllocError, Global};
@@ -28,13 +27,8 @@ fn push_lent(
         ++ (comma_if later ++ (compact_text (string (lent_header header.entry).0)
         ++ 58 ∷ compact_text (string (lent_header header.entry).1)))) }
 {
-    if has_uppercase(header.0.as_bytes()) {
-        let mut name = String::from_str(alloc, header.0)?;
-        name.make_ascii_lowercase();
-        push_header(alloc, text, later, name.as_str(), header.1)
-    } else {
-        push_header(alloc, text, later, header.0, header.1)
-    }
+    let name = header.name(alloc)?;
+    push_header(alloc, text, later, name.as_str(), header.value)
 }
 
 /// Appends the headers as the members of an object, and the end of the object.
@@ -72,11 +66,12 @@ impl Request<'_> {
         ensures { OnOk result (string_bytes text.new ≡ string_bytes text.old
             ++ member_part (codes "\"headers\":") (headers_value (record_of self.now).headers)) }
     {
-        if self.headers.is_empty() {
+        let headers = self.headers.as_slice();
+        if headers.is_empty() {
             return Ok(());
         }
         text.push_str("\"headers\":{")?;
-        push_members(alloc, text, self.headers.as_slice())?;
+        push_members(alloc, text, headers)?;
         text.push_str(",")
     }
 }

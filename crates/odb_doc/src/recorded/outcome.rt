@@ -7,6 +7,7 @@ ghost use Rattle.serde_json.specs.View.{view, members_view};
 ghost use Rattle.odb_doc.specs.declared.member.Object.{Object};
 ghost use Rattle.odb_doc.specs.BrokenRules.{OnlyIf};
 ghost use Rattle.odb_doc.specs.Headers.{headers_in};
+ghost use Rattle.odb_doc.specs.Members.{members_of, outcome_names};
 ghost use Rattle.odb_doc.specs.recorded.Outcomes.{HasOutcome};
 ghost use Rattle.odb_doc.specs.recorded.RawOutcomes.{AreFoundIn, HasRawOutcome, PutsPart};
 
@@ -94,12 +95,9 @@ impl Parts {
 
     /// Moves the value of a member to its place, and leaves null. The id is at `id_name`.
     fn put(&mut self, kind: Object, id_name: &str, name: &str, value: &mut Value)
-        requires status { bytes_eq id_name.now (codes "status") ≡ false }
-        requires headers { bytes_eq id_name.now (codes "headers") ≡ false }
-        requires body { bytes_eq id_name.now (codes "body") ≡ false }
+        requires { members_of kind ≡ outcome_names id_name.now }
         ensures { PutsPart kind id_name.now name.now (view value.old) self.old self.new }
     {
-        self.has_other = self.has_other | !kind.may_have(name);
         if id_name == name {
             self.id = text_of(value.take());
         } else if name == "status" {
@@ -108,14 +106,14 @@ impl Parts {
             self.headers = Some(value.take());
         } else if name == "body" {
             self.body = Some(value.take());
+        } else {
+            self.has_other = true;
         }
     }
 
     /// Moves the members out of an object.
     fn among(kind: Object, id_name: &str, members: &mut Map<String, Value>) -> Self
-        requires status { bytes_eq id_name.now (codes "status") ≡ false }
-        requires headers { bytes_eq id_name.now (codes "headers") ≡ false }
-        requires body { bytes_eq id_name.now (codes "body") ≡ false }
+        requires { members_of kind ≡ outcome_names id_name.now }
         ensures { AreFoundIn kind id_name.now (object (members_view members.old.entries)) result }
     {
         let mut parts = Parts::none();
@@ -135,9 +133,7 @@ pub(crate) fn raw_outcome_of<R: Copy>(
     element: &mut Value,
     bad: R,
 ) -> Result<RawOutcome, Broken<R>>
-    requires status { bytes_eq name.now (codes "status") ≡ false }
-    requires headers { bytes_eq name.now (codes "headers") ≡ false }
-    requires body { bytes_eq name.now (codes "body") ≡ false }
+    requires { members_of kind ≡ outcome_names name.now }
     ensures has { IfOk result (HasRawOutcome kind name.now (view element.old)) }
     ensures none { IfErr result (OnlyIf bad (¬ HasOutcome kind name.now (view element.old))) }
 {

@@ -1,13 +1,12 @@
 -- What a run keeps from one event to the next, and what holds of every state that it reaches.
 use Rattle.std.specs.Prelude.{Bool, List, [], length, replicate, slice_index_or, ◌≡◌, ◌≢◌, ℕ, ◌<◌, ◌≤◌, true, false, Contains}
 use Rattle.odb_check.specs.declared.need.Need.{Need}
-use Rattle.odb_check.specs.PlanGraph.{PlanGraph, IsPlan, unit_of, needs_of}
+use Rattle.odb_check.specs.PlanGraph.{PlanGraph, IsPlan, unit_of, needs_of, unit_needed}
 pub use Rattle.odb_check.specs.PlanGraph.{IsSpan, IsNeed}
 use Rattle.odb_sched.specs.declared.policy.Policy.{Policy}
 use Rattle.odb_sched.specs.declared.phase.Phase.{Phase}
 use Rattle.odb_sched.specs.declared.phase.Phase.TheVariants.{Unstarted}
 use Rattle.odb_sched.specs.run.State.{State, is_unstarted, size, phase_at, plan_graph, with_requests}
-use Rattle.odb_sched.specs.run.Failing.{unit_needed}
 use Rattle.odb_sched.specs.run.Steps.{is_satisfied, running_count, spare_in, places, is_stopped, is_finished}
 use Rattle.odb_sched.specs.run.Answers.{HasStatuses}
 use Rattle.odb_sched.specs.declared.counts.Progress.{Progress}
@@ -33,7 +32,7 @@ pub record IsReached (state : State) : Type 0 where
   -- no more requests run than the width allows
   pub narrow : running_count state ≤ places state
   -- what a request needs of other units was satisfied before it started
-  pub needs : (i : ℕ) (need : Need) → i < size state → is_unstarted (phase_at state i) ≡ false → Contains (needs_of state.plan_graph i) need → unit_needed state.plan_graph need ≢ unit_of state.plan_graph i → is_satisfied state need ≡ true
+  pub needs : (i : ℕ) (need : Need) → i < size state → is_unstarted (phase_at state i) ≡ false → Contains (needs_of state.plan_graph i) need → unit_needed (unit_of state.plan_graph) need ≢ unit_of state.plan_graph i → is_satisfied state need ≡ true
   pub statuses : HasStatuses state
   pub by_unit : length state.awaited ≡ state.plan_graph.unit_count
   -- a unit with a member that has not started was not sent as one

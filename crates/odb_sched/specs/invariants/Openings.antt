@@ -4,16 +4,15 @@ use Rattle.odb_dense.specs.declared.worklist.Mark.{Mark}
 use Rattle.odb_dense.specs.declared.worklist.Mark.TheVariants.{Unvisited}
 use Rattle.odb_dense.specs.Marks.{is_visited}
 use Rattle.odb_check.specs.Firsts.{count_below}
-use Rattle.odb_check.specs.PlanGraph.{PlanGraph, unit_of, needs_of}
+use Rattle.odb_check.specs.PlanGraph.{PlanGraph, unit_of, needs_of, unit_needed}
 use Rattle.odb_sched.specs.declared.openings.Openings.{Openings}
 use Rattle.odb_sched.specs.declared.phase.Phase.{Phase}
-use Rattle.odb_sched.specs.run.Failing.{unit_needed}
 use Rattle.odb_sched.specs.run.Steps.{failed_in}
 use Rattle.odb_sched.specs.run.Units.{has_begun_in}
 
 -- how many needs of a request are on its own unit
 abbrev pub inner_count : PlanGraph → ℕ → ℕ
-inner_count plan i = count_by (λ need. unit_needed plan need == unit_of plan i) (needs_of plan i)
+inner_count plan i = count_by (λ need. unit_needed (unit_of plan) need == unit_of plan i) (needs_of plan i)
 
 -- of the members of a unit before a position, how many have more open needs than those on the unit
 abbrev pub waiting_below : PlanGraph → List ℕ → ℕ → ℕ → ℕ

@@ -4,17 +4,16 @@ use Rattle.odb_dense.specs.declared.worklist.Mark.{Mark}
 use Rattle.odb_dense.specs.declared.worklist.Mark.TheVariants.{Unvisited}
 use Rattle.odb_dense.specs.Marks.{is_marked, is_visited}
 use Rattle.odb_check.specs.declared.need.Need.{Need}
-use Rattle.odb_check.specs.PlanGraph.{PlanGraph, unit_of, needs_of}
+use Rattle.odb_check.specs.PlanGraph.{PlanGraph, unit_of, needs_of, unit_needed}
 use Rattle.odb_sched.specs.declared.phase.Phase.{Phase}
 use Rattle.odb_sched.specs.declared.phase.Phase.TheVariants.{Unstarted}
 use Rattle.odb_sched.specs.run.State.{has_failed}
-use Rattle.odb_sched.specs.run.Failing.{unit_needed}
 use Rattle.odb_sched.specs.run.Steps.{failed_in}
 use Rattle.odb_sched.specs.invariants.Counts.{is_skipped}
 
 -- a member of the first unit needs something of the second
 abbrev pub NeedsUnit : PlanGraph → ℕ → ℕ → Type 0
-NeedsUnit plan w u = (i : ℕ) × (need : Need) × (i < length plan.units) × Contains (needs_of plan i) need × (unit_needed plan need ≡ u) × (unit_of plan i ≡ w)
+NeedsUnit plan w u = (i : ℕ) × (need : Need) × (i < length plan.units) × Contains (needs_of plan i) need × (unit_needed (unit_of plan) need ≡ u) × (unit_of plan i ≡ w)
 
 -- whether a request is skipped, but for the members of a unit from a position on
 abbrev pub is_skipped_until : PlanGraph → List Mark → ℕ → ℕ → ℕ → Bool

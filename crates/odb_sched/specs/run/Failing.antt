@@ -2,24 +2,18 @@
 use Rattle.std.specs.Prelude.{◌≡◌, ◌≢◌, ℕ, zero, suc, ◌<◌, ◌==◌, ◌&&◌, ◌||◌, Bool, true, false, not, length, Contains}
 use Rattle.std.specs.List.{list_any}
 use Rattle.odb_check.specs.declared.need.Need.{Need}
-use Rattle.odb_check.specs.declared.need.Need.TheVariants.{One, Group}
-use Rattle.odb_check.specs.PlanGraph.{PlanGraph, unit_of, needs_of}
+use Rattle.odb_check.specs.PlanGraph.{PlanGraph, unit_needed, unit_of, needs_of}
 use Rattle.odb_check.specs.Firsts.{any_below}
 use Rattle.odb_doc.specs.Statuses.{is_success}
-
--- the unit that a need is about
-abbrev pub unit_needed : PlanGraph → Need → ℕ
-unit_needed plan (One r) = unit_of plan r
-unit_needed plan (Group u) = u
 
 -- a unit fails: a member is bad, or depends on something of another unit that fails
 pub data Fails (plan : PlanGraph) (bad : ℕ → Bool) : ℕ → Type 0 where
   own : (i : ℕ) → i < length plan.units → bad i ≡ true → Fails plan bad (unit_of plan i)
-  propagated : (i : ℕ) (need : Need) → i < length plan.units → Contains (needs_of plan i) need → unit_needed plan need ≢ unit_of plan i → Fails plan bad (unit_needed plan need) → Fails plan bad (unit_of plan i)
+  propagated : (i : ℕ) (need : Need) → i < length plan.units → Contains (needs_of plan i) need → unit_needed (unit_of plan) need ≢ unit_of plan i → Fails plan bad (unit_needed (unit_of plan) need) → Fails plan bad (unit_of plan i)
 
 -- whether a request needs something of another unit that has failed
 abbrev pub needs_failed : PlanGraph → (ℕ → Bool) → ℕ → Bool
-needs_failed plan failed i = list_any (λ need. not (unit_needed plan need == unit_of plan i) && failed (unit_needed plan need)) (needs_of plan i)
+needs_failed plan failed i = list_any (λ need. not (unit_needed (unit_of plan) need == unit_of plan i) && failed (unit_needed (unit_of plan) need)) (needs_of plan i)
 
 -- whether a unit fails within so many rounds, each of which propagates the failures of those before it
 abbrev pub fails_within : PlanGraph → (ℕ → Bool) → ℕ → ℕ → Bool

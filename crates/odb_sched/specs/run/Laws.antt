@@ -4,14 +4,14 @@ use Rattle.odb_doc.specs.batch.Records.{Record}
 use Rattle.odb_doc.specs.declared.recorded.outcome.Outcome.{Outcome}
 use Rattle.odb_check.specs.declared.need.Need.{Need}
 use Rattle.odb_check.specs.declared.need.Need.TheVariants.{One, Group}
-use Rattle.odb_check.specs.PlanGraph.{PlanGraph, unit_of, needs_of}
+use Rattle.odb_check.specs.PlanGraph.{PlanGraph, unit_of, needs_of, unit_needed}
 use Rattle.odb_check.specs.Positions.{id_at, group_at, names_at, reference_at}
 use Rattle.odb_sched.specs.declared.phase.Phase.TheVariants.{Reported}
 use Rattle.odb_sched.specs.declared.event.Event.{Event}
 use Rattle.odb_sched.specs.declared.event.Event.TheVariants.{Start, Report}
 use Rattle.odb_doc.specs.Statuses.{is_success}
 use Rattle.odb_sched.specs.run.State.{is_running, has_succeeded, State, size, phase_at}
-use Rattle.odb_sched.specs.run.Failing.{unit_needed, succeeds}
+use Rattle.odb_sched.specs.run.Failing.{succeeds}
 use Rattle.odb_sched.specs.run.Steps.{may_start, is_finished}
 use Rattle.odb_sched.specs.run.Runs.{event_position}
 use Rattle.odb_sched.specs.run.Answers.{answer, is_answered_2xx}
@@ -90,4 +90,4 @@ RestsOnSuccesses state = (i : ℕ) → i < size state → IsTrue (is_answered_2x
 -- succeeds.
 abbrev pub SucceedsByMembers : PlanGraph → (ℕ → ℕ) → ℕ → Type 0
 SucceedsByMembers plan statuses u = IsTrue (succeeds plan statuses u) ↔ ((i : ℕ) → i < length plan.units → unit_of plan i ≡ u
-    → IsTrue (is_success (statuses i)) × ((need : Need) → Contains (needs_of plan i) need → unit_needed plan need ≢ u → IsTrue (succeeds plan statuses (unit_needed plan need))))
+    → IsTrue (is_success (statuses i)) × ((need : Need) → Contains (needs_of plan i) need → unit_needed (unit_of plan) need ≢ u → IsTrue (succeeds plan statuses (unit_needed (unit_of plan) need))))

@@ -6,10 +6,9 @@ use Rattle.odb_doc.specs.Statuses.{is_success, is_status}
 use Rattle.odb_check.specs.declared.need.Need.{Need}
 use Rattle.odb_check.specs.declared.need.Need.TheVariants.{One, Group}
 use Rattle.odb_check.specs.Plans.{batch_plan_graph}
-use Rattle.odb_check.specs.PlanGraph.{PlanGraph, unit_of, needs_of}
+use Rattle.odb_check.specs.PlanGraph.{PlanGraph, unit_of, needs_of, unit_needed}
 use Rattle.odb_sched.specs.declared.policy.Mode.{Mode}
 use Rattle.odb_sched.specs.declared.policy.Policy.{Policy}
-use Rattle.odb_sched.specs.run.Failing.{unit_needed}
 use Rattle.odb_sched.specs.run.Steps.{is_finished}
 use Rattle.odb_sched.specs.run.Answers.{answer, status_of}
 use Rattle.odb_sched.specs.run.LiveEvents.{LiveEvent, IsLiveRun, live_state}
@@ -22,7 +21,7 @@ IsAnswered2xx plan statuses (Group u) = (j : ℕ) → j < length plan.units → 
 
 -- a unit can have been sent as one: what its members need of other units is answered 200 to 299
 abbrev pub CanHaveBeenSent : PlanGraph → (ℕ → ℕ) → ℕ → Type 0
-CanHaveBeenSent plan statuses u = (i : ℕ) (need : Need) → i < length plan.units → unit_of plan i ≡ u → Contains (needs_of plan i) need → unit_needed plan need ≢ u → IsAnswered2xx plan statuses need
+CanHaveBeenSent plan statuses u = (i : ℕ) (need : Need) → i < length plan.units → unit_of plan i ≡ u → Contains (needs_of plan i) need → unit_needed (unit_of plan) need ≢ u → IsAnswered2xx plan statuses need
 
 -- These requests can have started: the unit of each can have been sent as one, or what the request needs can have reported a
 -- success.

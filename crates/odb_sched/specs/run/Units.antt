@@ -3,11 +3,10 @@ use Rattle.std.specs.Prelude.{ℕ, ◌≡◌, ◌<◌, ◌≤◌, ◌⊎◌, ◌
 use Rattle.std.specs.List.{filter, list_all}
 use Rattle.odb_check.specs.declared.need.Need.{Need}
 use Rattle.odb_check.specs.Firsts.{any_below, joined_below}
-use Rattle.odb_check.specs.PlanGraph.{PlanGraph, unit_of, needs_of}
+use Rattle.odb_check.specs.PlanGraph.{PlanGraph, unit_of, needs_of, unit_needed}
 use Rattle.odb_sched.specs.declared.phase.Phase.{Phase}
 use Rattle.odb_sched.specs.declared.phase.Phase.TheVariants.{Unstarted}
 use Rattle.odb_sched.specs.run.State.{State, is_unstarted, is_running, is_reported, size, phase_at}
-use Rattle.odb_sched.specs.run.Failing.{unit_needed}
 use Rattle.odb_sched.specs.run.Steps.{is_finished, is_satisfied, is_stopped, unit_failed, running_count, places, may_start, start_number}
 use Rattle.odb_doc.specs.LeastRules.{IsLeast}
 use Rattle.odb_sched.specs.declared.refusal.StartRefusal.{StartRefusal}
@@ -15,7 +14,7 @@ use Rattle.odb_sched.specs.declared.refusal.StartRefusal.TheVariants as start
 
 -- what is needed belongs to another unit
 abbrev pub is_outer : PlanGraph → ℕ → Need → Bool
-is_outer plan u need = not (unit_needed plan need == u)
+is_outer plan u need = not (unit_needed (unit_of plan) need == u)
 
 -- what a request, if it is a member of a unit, needs of other units
 abbrev pub outer_needs_at : PlanGraph → ℕ → ℕ → List Need

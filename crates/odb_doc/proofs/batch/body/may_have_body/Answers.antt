@@ -1,10 +1,10 @@
-use Rattle.std.proofs.Common.{◌≡◌, ◌∙◌, None, Some, IsSome, ap, map, refl, subst, sym}
+use Rattle.std.proofs.Common.{◌≡◌, ◌∙◌, None, Some, IsSome, ap, refl, subst, sym}
 use Rattle.std.proofs.lemmas.Bool.{false≢true}
 use Rattle.std.proofs.lemmas.Result.{IfOk-weaker}
 use Rattle.serde_json.specs.View.{view}
 use Rattle.odb_doc.specs.batch.Bodies.{body_of}
 use Rattle.odb_doc.specs.declared.fault.RequestRule.TheVariants as request
-use Rattle.odb_doc.specs.Headers.{lent_header}
+use Rattle.odb_doc.specs.Headers.{lent_headers}
 use Rattle.odb_doc.specs.Members.{given}
 use Rattle.odb_doc.proofs.BodyLemmas.{body_allowed, body_fits}
 use Rattle.odb_doc.proofs.UnbrokenLemmas.{breaks_one}
@@ -31,14 +31,14 @@ pub returns-clause-fits : goal.returns-clause-fits
 returns-clause-fits c =
     IfOk-weaker c.is_allowed.result _ _ (λ allowed is. λ yes d parts. (
       body_allowed d c.args.method parts.has_method (sym c.takes_body.ensures ∙ c.if-not-takes_body.false),
-      body_fits d (map lent_header c.args.headers.now) (view c.in-Some.body.now) parts.has_headers (sym (c.in-Some.ensures ∙ ap given parts.are.body)) (is.0 yes),
+      body_fits d (lent_headers c.args.headers.now) (view c.in-Some.body.now) parts.has_headers (sym (c.in-Some.ensures ∙ ap given parts.are.body)) (is.0 yes),
     )) c.is_allowed.ensures
 
 pub returns-clause-breaks : goal.returns-clause-breaks
 returns-clause-breaks c =
     IfOk-weaker c.is_allowed.result _ _ (λ allowed is. λ no d parts.
     breaks_one d request.BadBody (record {
-      headers = map lent_header c.args.headers.now;
+      headers = lent_headers c.args.headers.now;
       has = parts.has_headers;
       body = view c.in-Some.body.now;
       given = sym (c.in-Some.ensures ∙ ap given parts.are.body);

@@ -19,4 +19,4 @@ returns c =
     let items = c.in_ok-names_of.field-0.items in
     subst (λ (names : List (List ℕ)). Decides c.is_none.result (¬ IsDistinct bytes_eq names)) c.in_ok-names_of.ensures
     (none_Decides c.in_order.result c.is_none.result (IsDistinct bytes_eq (keys_of (map lent_header items))) _ c.is_none.ensures c.in_order.ensures.twice c.in_order.ensures.sorted
-    (λ sorted is. apart-from_order items sorted.items is.0 is.1))
+    (λ sorted is. apart-from_order items sorted.entries.items is.0 is.1))

@@ -24,7 +24,7 @@ pub returns-in-Some-clause-has : goal.returns-in-Some-clause-has
 returns-in-Some-clause-has c =
     let is : Some (map written c.in-Some.headers.items) ≡ listed_in (data_of c.args.members.now.headers) = ap (option_map (λ headers. map written headers.items)) (sym c.in-Some.is) ∙ c.in_ok-headers.ensures in
     IfSome-weaker c.in_order.result _ _ (λ headers holds. λ d are.
-    HoldsHeaders-lent (get (codes "headers") d) c.in-Some.headers.items headers.items (ap listed_in (sym are.headers) ∙ sym is) holds.0 holds.1) c.in_order.ensures.sorted
+    HoldsHeaders-lent (get (codes "headers") d) c.in-Some.headers.items headers.entries.items (ap listed_in (sym are.headers) ∙ sym is) holds.0 holds.1) c.in_order.ensures.sorted
 
 pub returns-in-Some-clause-none : goal.returns-in-Some-clause-none
 returns-in-Some-clause-none c =

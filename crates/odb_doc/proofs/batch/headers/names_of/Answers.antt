@@ -24,7 +24,7 @@ loop-name-preserved c =
     record {
       done = done ++ entry ∷ [];
       split = c.loop-name.invariant.split ∙ ap (λ rest. done ++ rest) first ∙ sym (append_assoc done (entry ∷ []) c.next.new.self);
-      are = names-more done entry found c.push.new.self.items (c.as_str.result, _) c.in_ok-push.ensures.items c.as_str.ensures.value c.loop-name.invariant.are;
+      are = names-more done entry found c.push.new.self.items (record { written = c.as_str.result; value = _ }) c.in_ok-push.ensures.items c.as_str.ensures.value c.loop-name.invariant.are;
     }
 
 pub returns : goal.returns

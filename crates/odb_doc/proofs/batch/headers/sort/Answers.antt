@@ -8,5 +8,5 @@ use Rattle.odb_doc.proofs.batch.headers.sort.Goals as goal
 
 pub returns-clause-sorted : goal.returns-clause-sorted
 returns-clause-sorted c =
-    c.sort_unstable_by.ensures.sorted (λ (x y : Lent). is_lt (by_name x y)) (ranks_by nat_list_cmp_total (λ (h : Lent). str_to_ascii_lowercase h.0.now))
+    c.sort_unstable_by.ensures.sorted (λ (x y : Lent). is_lt (by_name x y)) (ranks_by nat_list_cmp_total (λ (h : Lent). str_to_ascii_lowercase h.written.now))
     (answers_always _ _ _ (λ f a r q k. search rules))

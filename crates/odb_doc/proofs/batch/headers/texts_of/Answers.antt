@@ -21,7 +21,7 @@ loop-name-preserved c =
     let done = c.loop-name.invariant.done in
     let first = rest_more deref_pair c.loop-name.name-iterator c.next.new.self c.next.result (c.in-Some.name, c.in-Some.value) c.in-Some.is c.next.ensures.steps in
     let headers = map written c.loop-name.found.items in
-    let header : Lent = (c.as_str-in-loop-name.result, c.in-Some-as_str.text) in
+    let header : Lent = record { written = c.as_str-in-loop-name.result; value = c.in-Some-as_str.text } in
     let put : map written c.push.new.self.items ≡ headers ++ written header ∷ [] = ap (map written) c.in_ok-push.ensures.items ∙ map-append written c.loop-name.found.items (header ∷ []) in
     let name : written header ≡ (string_bytes c.in-Some.name.now, c.in-Some-as_str.text.now) = ap (λ n. (n, c.in-Some-as_str.text.now)) c.as_str-in-loop-name.ensures.value in
     let pushed = ap (option_map (λ (text : List ℕ). headers ++ (string_bytes c.in-Some.name.now, text) ∷ [])) (sym c.in-Some-as_str.ensures) ∙ ap Some (sym (put ∙ ap (λ h. headers ++ h ∷ []) name)) in

@@ -6,8 +6,8 @@ use Rattle.odb_sched.proofs.graph.Graph.new.Goals as goal
 
 pub returns : goal.returns
 returns c =
-    let graph : Inside = record { units = c.in_ok-units_of.field-0; members = c.in_ok-members_of.field-0; needs = c.in_ok-clone.field-0; dependents = c.in_ok-all_dependents.field-0 } in
-    let needs : c.in_ok-clone.field-0 ≡ (plan_graph c.args.plan.now).needs = c.in_ok-clone.ensures.cases ∙ c.all_needs.ensures in
+    let graph : Inside = record { units = c.in_ok-units_of.field-0; members = c.in_ok-members_of.field-0; needs = c.in_ok-copied.field-0; dependents = c.in_ok-all_dependents.field-0 } in
+    let needs : c.in_ok-copied.field-0 ≡ (plan_graph c.args.plan.now).needs = c.in_ok-copied.ensures ∙ c.all_needs.ensures in
     kept_is graph (plan_graph c.args.plan.now) c.in_ok-units_of.ensures c.in_ok-members_of.ensures.len needs
 
 pub invariant_of-result : goal.invariant_of-result

@@ -1,9 +1,9 @@
 -- What a request that is read keeps of its members, and the rules that are broken where none is read.
-use Rattle.std.proofs.Common.{◌∙◌, ap, map, sym}
+use Rattle.std.proofs.Common.{◌∙◌, ap, sym}
 use Rattle.serde_json.specs.View.{view}
 use Rattle.odb_doc.specs.batch.MembersFound.{HasParts}
 use Rattle.odb_doc.specs.batch.Shapes.{listed_names}
-use Rattle.odb_doc.specs.Headers.{lent_header}
+use Rattle.odb_doc.specs.Headers.{lent_headers}
 use Rattle.odb_doc.specs.Members.{given}
 use Rattle.odb_doc.specs.Names.{texts_in}
 use Rattle.odb_doc.proofs.DistinctLemmas.{IsDistinct-listed}
@@ -29,8 +29,8 @@ returns-clause-object c =
     let are = c.of-members.ensures in
     let line = c.in-Some.ensures.line in
     let has = (rw c.in-Some-3.is at c.in_ok-headers.ensures.has) d are in
-    let parts : HasParts d c.of-members.result c.in-Some.line.method (map lent_header c.deref.result.now) = record { are = are; has_method = line.method; has_headers = rw c.deref.ensures.value has } in
-    none_broken d c.in-Some.line (texts_in c.in-Some-2.names.items) (map lent_header c.in-Some-3.headers.items) line (rw c.in-Some-2.is at (c.in_ok-names.ensures d are)) has
+    let parts : HasParts d c.of-members.result c.in-Some.line.method (lent_headers c.in-Some-3.headers) = record { are = are; has_method = line.method; has_headers = has } in
+    none_broken d c.in-Some.line (texts_in c.in-Some-2.names.items) (lent_headers c.in-Some-3.headers) line (rw c.in-Some-2.is at (c.in_ok-names.ensures d are)) has
     (c.in_ok-may_have_body.ensures.fits c.if-not-branch.false d parts) (rw c.in-Some-4.is at c.in_ok-reference.ensures.plain) (rw c.in-Some-4.is at c.in_ok-reference.ensures.fits)
 
 pub returns-clause-says : goal.returns-clause-says
