@@ -7,6 +7,8 @@ use Rattle.std.proofs.lemmas.Option.{get_or_from_slice_get, slice_get_within}
 use Rattle.odb_doc.proofs.ElementLemmas.{Contains-head, Contains-tail}
 use Rattle.odb_doc.specs.Names.{texts_in}
 use Rattle.odb_doc.specs.batch.Records.{Record}
+use Rattle.odb_check.specs.PlanGraph.{unit_needed}
+use Rattle.odb_check.specs.Units.{unit_at}
 use Rattle.odb_check.specs.declared.fault.NameRule.TheVariants as rules
 use Rattle.odb_check.specs.declared.need.Need.{Need}
 use Rattle.odb_check.specs.LeastNameFault.{HasGoodNames}
@@ -14,7 +16,7 @@ use Rattle.odb_check.specs.Needs.{further_names, need_of, needs_at}
 use Rattle.odb_check.specs.Positions.{names_at, reference_at}
 use Rattle.odb_check.proofs.NeedLemmas.{means_nothing}
 use Rattle.odb_send.specs.Rests.{is_kept_name, is_kept_need}
-use Rattle.odb_send.specs.Units.{marked, unit_needed}
+use Rattle.odb_send.specs.Units.{marked}
 
 -- each element means something: what they mean, at the same places
 each_means : {X Y : Type 0} (f : X → Option Y) (xs ys : List X) → ((x : X) → Contains xs x → (y : Y) × (f x ≡ Some y)) → (k : ℕ) (d : X) → k < length xs → (y : Y) × (slice_get (filter_map f (xs ++ ys)) k ≡ Some y) × (f (get_or xs k d) ≡ Some y)
@@ -43,10 +45,10 @@ pub needs_long : (rs : List Record) → HasGoodNames rs → (i k : ℕ) → k < 
 needs_long rs good i k within = let there = need_there rs good i k within in slice_get_within (needs_at rs i) k there.0 there.1
 
 -- whether the name at k is kept
-pub kept_there : (rs : List Record) (kept : List Bool) → HasGoodNames rs → (i k : ℕ) (d : Need) → k < length (names_at rs i) → is_kept_name rs kept (get_or (names_at rs i) k []) ≡ marked kept (unit_needed rs (get_or (needs_at rs i) k d))
+pub kept_there : (rs : List Record) (kept : List Bool) → HasGoodNames rs → (i k : ℕ) (d : Need) → k < length (names_at rs i) → is_kept_name rs kept (get_or (names_at rs i) k []) ≡ marked kept (unit_needed (unit_at rs) (get_or (needs_at rs i) k d))
 kept_there rs kept good i k d within =
     let there = need_there rs good i k within in
-    ap (is_kept_need rs kept) there.2 ∙ ap (λ need. marked kept (unit_needed rs need)) (sym (get_or_from_slice_get (needs_at rs i) k there.0 d there.1))
+    ap (is_kept_need rs kept) there.2 ∙ ap (λ need. marked kept (unit_needed (unit_at rs) need)) (sym (get_or_from_slice_get (needs_at rs i) k there.0 d there.1))
 
 -- ---- names that are kept
 

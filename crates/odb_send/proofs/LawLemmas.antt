@@ -4,6 +4,7 @@ use Rattle.std.proofs.lemmas.Bool.{cases_Bool, cases_eq, true≢false}
 use Rattle.std.proofs.lemmas.Option.{get_or_from_slice_get}
 use Rattle.odb_doc.specs.Statuses.{is_success}
 use Rattle.odb_doc.specs.batch.Records.{Record}
+use Rattle.odb_check.specs.PlanGraph.{unit_needed}
 use Rattle.odb_check.specs.declared.need.Need.{Need}
 use Rattle.odb_check.specs.declared.need.Need.TheVariants.{One, Group}
 use Rattle.odb_check.specs.LeastNameFault.{HasGoodNames}
@@ -20,7 +21,7 @@ use Rattle.odb_reply.specs.BodyTexts.{text_at}
 use Rattle.odb_send.specs.Rests.{HasUrls, IsUrl, is_kept, rest_record, select}
 use Rattle.odb_send.specs.Rests.IsUrl.{same, moved}
 use Rattle.odb_send.proofs.NameLemmas.{HasStayingUrls}
-use Rattle.odb_send.specs.Units.{AreMarksOf, IsDone, IsInRest, IsLeftOut, marked, unit_needed}
+use Rattle.odb_send.specs.Units.{AreMarksOf, IsDone, IsInRest, IsLeftOut, marked}
 use Rattle.odb_send.specs.Units.IsBarred.{own, needing}
 
 -- an element at a position within
@@ -39,7 +40,7 @@ done_stable rs statuses u possible i within unit = elim (cases_Bool (is_success 
 ]
 
 -- what a request needs is a unit of the batch
-pub need_known : (rs : List Record) → HasGoodNames rs → (i : ℕ) (need : Need) → i < length rs → Contains (needs_at rs i) need → unit_needed rs need < unit_count rs
+pub need_known : (rs : List Record) → HasGoodNames rs → (i : ℕ) (need : Need) → i < length rs → Contains (needs_at rs i) need → unit_needed (unit_at rs) need < unit_count rs
 need_known rs good i (One r) within inside = unit_before rs r (length rs) (omega (arith, (needs_before rs good).one i r inside, within))
 need_known rs good i (Group u) within inside = omega (arith, (needs_before rs good).group i u inside, unit_before rs i (length rs) within)
 
@@ -58,7 +59,7 @@ rest_may_be_sent rs statuses units good are u rest = record {
     | inl is ↦ is
     | inr bad ↦ absurd (rest.not_left_out (subst (IsLeftOut rs statuses) unit (own i within refl bad)))
   ];
-  met = λ i need within unit inside. met_by rs statuses units (unit_needed rs need) are (need_known rs good i need within inside)
+  met = λ i need within unit inside. met_by rs statuses units (unit_needed (unit_at rs) need) are (need_known rs good i need within inside)
       (λ left. rest.not_left_out (subst (IsLeftOut rs statuses) unit (needing i need within refl inside left)));
 }
 
@@ -90,7 +91,7 @@ responds rs es places statuses i table within =
 
 -- what a unit that is done needs is done
 needs_done : (rs : List Record) (es : List Entry) (places statuses : List ℕ) → HasGoodNames rs → Fits rs es → IsTableOf rs es places statuses → (i : ℕ) (need : Need) → i < length rs → Contains (needs_at rs i) need → IsDone rs statuses (unit_at rs i)
-    → IsDone rs statuses (unit_needed rs need)
+    → IsDone rs statuses (unit_needed (unit_at rs) need)
 needs_done rs es places statuses good fits table i (Group u) within inside done =
     let (e, answered, status) = responds rs es places statuses i table within in
     let satisfied = fits.rests_on_successes i e (Group u) answered (ap is_success status ∙ done i within refl) inside in
@@ -121,7 +122,7 @@ needs_done rs es places statuses good fits table i (One r) within inside done = 
 pub done_stays : (rs : List Record) (es : List Entry) (places statuses : List ℕ) → HasGoodNames rs → Fits rs es → IsTableOf rs es places statuses → (u : ℕ) → IsLeftOut rs statuses u → ¬ IsDone rs statuses u
 done_stays rs es places statuses good fits table u (own i within bound bad) done = true≢false (sym (done_repeats rs statuses i within (done i within refl)) ∙ bad)
 done_stays rs es places statuses good fits table u (needing i need within bound inside left) done =
-    done_stays rs es places statuses good fits table (unit_needed rs need) left (needs_done rs es places statuses good fits table i need within inside done)
+    done_stays rs es places statuses good fits table (unit_needed (unit_at rs) need) left (needs_done rs es places statuses good fits table i need within inside done)
 
 -- ---- nothing is left to send
 
@@ -145,7 +146,7 @@ none_left rs statuses units list are all = select_none (is_kept rs units) (λ i 
 sent_stays : (rs : List Record) (es : List Entry) (places statuses : List ℕ) → HasGoodNames rs → Fits rs es → IsTableOf rs es places statuses → (u : ℕ) → IsLeftOut rs statuses u → ¬ MayBeSent rs statuses u
 sent_stays rs es places statuses good fits table u (own i within bound bad) sent = true≢false (sym (sent.repeats i within refl) ∙ bad)
 sent_stays rs es places statuses good fits table u (needing i need within bound inside left) sent = elim (sent.met i need within refl inside) [
-  | inl done ↦ done_stays rs es places statuses good fits table (unit_needed rs need) left done
+  | inl done ↦ done_stays rs es places statuses good fits table (unit_needed (unit_at rs) need) left done
   | inr rest ↦ rest.not_left_out left
 ]
 

@@ -13,5 +13,6 @@ pub mod ReadLemmas
 pub mod SoundLemmas
 mod ResendLemmas
 pub mod NextPartLemmas
+pub mod CutLemmas
 pub mod PartLawLemmas
 mod OneRestLemmas

@@ -8,6 +8,7 @@ use Rattle.std.proofs.lemmas.Option.{slice_get-get_or}
 use Rattle.std.proofs.lemmas.Grind.{get_or-set_at}
 use Rattle.odb_doc.specs.batch.Records.{Record}
 use Rattle.odb_check.specs.LeastNameFault.{HasGoodNames}
+use Rattle.odb_check.specs.PlanGraph.{PlanGraph, ArePassing, IsPlanGraphOf, unit_needed}
 use Rattle.odb_check.specs.declared.need.Need.{Need}
 use Rattle.odb_check.specs.declared.need.Need.TheVariants.{One, Group}
 use Rattle.odb_check.specs.Needs.{needs_at}
@@ -15,9 +16,8 @@ use Rattle.odb_check.specs.Units.{unit_at, unit_count}
 use Rattle.odb_check.specs.Firsts.{list_below}
 use Rattle.odb_check.proofs.LevelLemmas.{HasNeedsBefore}
 use Rattle.odb_check.proofs.PlanLemmas.{needs_before}
-use Rattle.odb_reply.specs.Fits.{AreUnits}
 use Rattle.odb_send.specs.Repeats.{may_repeat, may_repeat_one, may_repeat_at}
-use Rattle.odb_send.specs.Units.{AreMarksOf, IsBarred, IsDone, IsInRest, IsLeftOut, marked, unit_needed}
+use Rattle.odb_send.specs.Units.{AreMarksOf, IsBarred, IsDone, IsInRest, IsLeftOut, IsWhole, marked}
 use Rattle.odb_send.specs.Units.IsBarred.{own, needing}
 use Rattle.odb_send.specs.Marks.{AreBarred, AreKept}
 
@@ -63,7 +63,7 @@ AreBarred-none rs exempt test = record {
 }
 
 -- what a request needs is in its unit or in one before it
-pub needed_before : (rs : List Record) → HasNeedsBefore rs → (i : ℕ) (need : Need) → Contains (needs_at rs i) need → unit_needed rs need ≤ unit_at rs i
+pub needed_before : (rs : List Record) → HasNeedsBefore rs → (i : ℕ) (need : Need) → Contains (needs_at rs i) need → unit_needed (unit_at rs) need ≤ unit_at rs i
 needed_before rs before i (One r) inside = before.order r i (omega (arith, before.one i r inside))
 needed_before rs before i (Group u) inside = omega (arith, before.group i u inside)
 
@@ -84,7 +84,7 @@ AreBarred-exempt rs exempt test n units before is = record {
 
 -- the next request passes, and needs nothing that is barred
 pub AreBarred-kept : (rs : List Record) (exempt test : ℕ → Bool) (n : ℕ) (units : List Bool) → AreBarred rs exempt test n units → test n ≡ true
-    → list_any (λ need. marked units (unit_needed rs need)) (needs_at rs n) ≡ false → AreBarred rs exempt test (n + 1) units
+    → list_any (λ need. marked units (unit_needed (unit_at rs) need)) (needs_at rs n) ≡ false → AreBarred rs exempt test (n + 1) units
 AreBarred-kept rs exempt test n units before passes free = record {
   count = before.count;
   sound = before.sound;
@@ -98,8 +98,8 @@ AreBarred-kept rs exempt test n units before passes free = record {
   ];
 }
   where
-    at_n : (need : Need) → Contains (needs_at rs n) need → marked units (unit_needed rs need) ≡ true → list_any (λ need. marked units (unit_needed rs need)) (needs_at rs n) ≡ true
-    at_n need inside is = list_any_at (λ need. marked units (unit_needed rs need)) (needs_at rs n) inside.0 need inside.1 (ap (λ x. marked units (unit_needed rs x)) inside.2 ∙ is)
+    at_n : (need : Need) → Contains (needs_at rs n) need → marked units (unit_needed (unit_at rs) need) ≡ true → list_any (λ need. marked units (unit_needed (unit_at rs) need)) (needs_at rs n) ≡ true
+    at_n need inside is = list_any_at (λ need. marked units (unit_needed (unit_at rs) need)) (needs_at rs n) inside.0 need inside.1 (ap (λ x. marked units (unit_needed (unit_at rs) x)) inside.2 ∙ is)
 
 -- the unit of the next request is barred
 pub AreBarred-more : (rs : List Record) (exempt test : ℕ → Bool) (n : ℕ) (units : List Bool) → HasGoodNames rs → AreBarred rs exempt test n units → unit_at rs n < unit_count rs
@@ -113,8 +113,8 @@ AreBarred-more rs exempt test n units good before within barred = record {
   ];
   needing = λ i need less bound needed is. elim (cases_eq i n) [
     | inl last ↦ last_one i last
-    | inr early ↦ elim (marked-cases units (unit_at rs n) (unit_needed rs need) is) [
-      | inl same ↦ same_unit i (let low : unit_needed rs need ≤ unit_at rs i = needed_before rs all i need needed in let high : unit_at rs i ≤ unit_at rs n = all.order i n (omega arith) in omega arith)
+    | inr early ↦ elim (marked-cases units (unit_at rs n) (unit_needed (unit_at rs) need) is) [
+      | inl same ↦ same_unit i (let low : unit_needed (unit_at rs) need ≤ unit_at rs i = needed_before rs all i need needed in let high : unit_at rs i ≤ unit_at rs n = all.order i n (omega arith) in omega arith)
       | inr there ↦ marked-kept units (unit_at rs n) (unit_at rs i) inside (before.needing i need (omega arith) bound needed there)
     ]
   ];
@@ -138,15 +138,15 @@ barred-own rs exempt test n within bound bad = own n within bound bad
 
 -- a request that needs something that is barred
 pub barred-needing : (rs : List Record) (exempt test : ℕ → Bool) (n : ℕ) (units : List Bool) → AreBarred rs exempt test n units → n < length rs → exempt (unit_at rs n) ≡ false
-    → list_any (λ need. marked units (unit_needed rs need)) (needs_at rs n) ≡ true → IsBarred rs exempt test (unit_at rs n)
+    → list_any (λ need. marked units (unit_needed (unit_at rs) need)) (needs_at rs n) ≡ true → IsBarred rs exempt test (unit_at rs n)
 barred-needing rs exempt test n units before within bound some =
-    let found = Any-from_list_any (λ need. marked units (unit_needed rs need)) (needs_at rs n) some in
-    needing n found.1 within bound (found.0, found.2, found.3) (before.sound (unit_needed rs found.1) found.4)
+    let found = Any-from_list_any (λ need. marked units (unit_needed (unit_at rs) need)) (needs_at rs n) some in
+    needing n found.1 within bound (found.0, found.2, found.3) (before.sound (unit_needed (unit_at rs) found.1) found.4)
 
 -- all units that are barred are marked
 all_marked : (rs : List Record) (exempt test : ℕ → Bool) (units : List Bool) → AreBarred rs exempt test (length rs) units → (u : ℕ) → IsBarred rs exempt test u → marked units u ≡ true
 all_marked rs exempt test units all u (own i within bound bad) = all.own i within bound bad
-all_marked rs exempt test units all u (needing i need within bound inside barred) = all.needing i need within bound inside (all_marked rs exempt test units all (unit_needed rs need) barred)
+all_marked rs exempt test units all u (needing i need within bound inside barred) = all.needing i need within bound inside (all_marked rs exempt test units all (unit_needed (unit_at rs) need) barred)
 
 pub AreBarred-all : (rs : List Record) (exempt test : ℕ → Bool) (units : List Bool) → AreBarred rs exempt test (length rs) units → AreMarksOf rs (IsBarred rs exempt test) units
 AreBarred-all rs exempt test units all = record {
@@ -160,19 +160,20 @@ listed_more n mark test marks before here =
     let next : suc n ≡ n + 1 = omega arith in
     ap (λ ms. ms ++ mark ∷ []) before ∙ ap (λ m. list_below n test ++ m ∷ []) here ∙ ap (λ m. list_below m test) next
 
--- ---- units that are done
-
-pub AreUnits-all : (rs : List Record) (statuses : List ℕ) (units : List Bool) → AreUnits rs statuses (length rs) units → AreMarksOf rs (IsDone rs statuses) units
-AreUnits-all rs statuses units all = record {
-  count = all.count;
-  each = λ u within.
-      let at : slice_get units u ≡ Some (marked units u) = slice_get-get_or units u false (omega (arith, within, all.count)) in (
-        (λ is i less unit. all.succeeded u i (at ∙ ap Some is) less unit),
-        (λ done. elim (cases_Bool (marked units u)) [
-          | inl is ↦ is
-          | inr is ↦ let found = all.failed u (at ∙ ap Some is) in absurd (true≢false (sym (done found.0 found.1 found.2) ∙ found.3))
-        ]),
-      );
+-- the marks of the units of which all requests pass a test
+pub passing_marks : (rs : List Record) (plan : PlanGraph) (test : ℕ → Bool) (units : List Bool) → IsPlanGraphOf rs plan → ArePassing plan test (length plan.units) units → AreMarksOf rs (IsWhole rs test) units
+passing_marks rs plan test units same are = record {
+  count = are.count ∙ same.unit_count;
+  each = λ u known. (
+    (λ is i less unit. are.passed u i is (omega (arith, less, same.size)) (same.units i less ∙ unit)),
+    (λ whole. elim (cases_Bool (marked units u)) [
+      | inl is ↦ is
+      | inr is ↦
+          let (i, inside, unit, fails) = are.failed u (omega (arith, known, same.unit_count)) is in
+          let less : i < length rs = omega (arith, inside, same.size) in
+          absurd (true≢false (sym (whole i less (sym (same.units i less) ∙ unit)) ∙ fails))
+    ]),
+  );
 }
 
 -- ---- units in the rest

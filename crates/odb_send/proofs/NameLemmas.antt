@@ -2,6 +2,7 @@
 use Rattle.std.proofs.Common.{◌≡◌, ◌∙◌, ◌⊎◌, ◌+◌, ◌<◌, ◌≤◌, ℕ, Bool, true, List, length, Option, None, Some, option_and_then, inl, inr, refl, ap, sym, subst, arith, Contains, IsSomeAnd}
 use Rattle.std.proofs.lemmas.Bool.{cases_Bool}
 use Rattle.odb_doc.specs.batch.Records.{Record}
+use Rattle.odb_check.specs.PlanGraph.{unit_needed}
 use Rattle.odb_check.specs.declared.fault.NameRule.TheVariants as rules
 use Rattle.odb_check.specs.declared.need.Need.{Need}
 use Rattle.odb_check.specs.declared.need.Need.TheVariants.{One, Group}
@@ -15,7 +16,7 @@ use Rattle.odb_check.proofs.PositionLemmas.{id_within, group_within, reference_w
 use Rattle.odb_check.proofs.UnitLemmas.{IsUnitOf, one_unit, same_group, in_order, in_unit}
 use Rattle.odb_reply.specs.BodyTexts.{text_at}
 use Rattle.odb_send.specs.Rests.{Leaves, is_kept, is_kept_name, is_kept_need, rest_records}
-use Rattle.odb_send.specs.Units.{marked, unit_needed}
+use Rattle.odb_send.specs.Units.{marked}
 use Rattle.odb_send.proofs.PositionLemmas as at
 use Rattle.odb_send.proofs.PositionLemmas.{source, HasText, HasName, HasReference}
 
@@ -34,7 +35,7 @@ with o P x is holds = subst (λ q. IsSomeAnd q P) (sym is) holds
 -- ---- what a name of the rest means
 
 -- a kept name resolves to something that is kept
-kept_means : (rs : List Record) (kept : List Bool) (o : Option Need) → is_kept_need rs kept o ≡ true → (need : Need) × (o ≡ Some need) × (marked kept (unit_needed rs need) ≡ true)
+kept_means : (rs : List Record) (kept : List Bool) (o : Option Need) → is_kept_need rs kept o ≡ true → (need : Need) × (o ≡ Some need) × (marked kept (unit_needed (unit_at rs) need) ≡ true)
 kept_means rs kept None is = absurd (cc (is))
 kept_means rs kept (Some need) is = (need, refl, is)
 
@@ -60,7 +61,7 @@ group_there rs kept urls j group here stays =
 name_there : (rs : List Record) (kept : List Bool) (urls : List (Option (List ℕ))) (name : List ℕ) → is_kept_name rs kept name ≡ true → IsId (rest_records rs kept urls) name ⊎ IsGroup (rest_records rs kept urls) name
 name_there rs kept urls name stays = let found = kept_means rs kept (need_of rs name) stays in by_need found.0 found.1 found.2
   where
-    by_need : (need : Need) → need_of rs name ≡ Some need → marked kept (unit_needed rs need) ≡ true → IsId (rest_records rs kept urls) name ⊎ IsGroup (rest_records rs kept urls) name
+    by_need : (need : Need) → need_of rs name ≡ Some need → marked kept (unit_needed (unit_at rs) need) ≡ true → IsId (rest_records rs kept urls) name ⊎ IsGroup (rest_records rs kept urls) name
     by_need (One p) is kept_one = inl (id_there rs kept urls p name (is_meant rs name (One p) is).1.here kept_one)
     by_need (Group u) is kept_group =
         let unit : IsUnitOf rs name u = (is_meant rs name (Group u) is).unit in

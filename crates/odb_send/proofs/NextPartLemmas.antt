@@ -8,7 +8,7 @@ use Rattle.odb_doc.specs.batch.Records.{Record}
 use Rattle.odb_check.specs.Firsts.{count_below, joined_below, list_below}
 use Rattle.odb_check.specs.LeastNameFault.{HasGoodNames}
 use Rattle.odb_check.specs.Needs.{needs_at}
-use Rattle.odb_check.specs.PlanGraph.{PlanGraph, IsPlanGraphOf, IsSpan, plan_graph_of, unit_of}
+use Rattle.odb_check.specs.PlanGraph.{PlanGraph, IsPlanGraphOf, IsSpan, plan_graph_of, unit_of, unit_needed}
 use Rattle.odb_check.specs.Units.{unit_at, unit_count}
 use Rattle.std.proofs.lemmas.Grind.{get_or-set_at}
 use Rattle.odb_check.proofs.BelowLemmas.{get_or-list_below}
@@ -17,10 +17,10 @@ use Rattle.odb_sched.specs.run.State.{members_in}
 use Rattle.odb_sched.proofs.CountLemmas.{count_same, count_none, count_either}
 use Rattle.odb_sched.proofs.FirstLemmas.{members_of_span}
 use Rattle.odb_sched.proofs.LiveLemmas.{populated}
-use Rattle.odb_send.specs.Marks.{AreBarred, AreFirst, AreWhole, waits_at}
-use Rattle.odb_send.specs.NextPart.{HasToWait, IsNextPart, IsWhole, MayGo, member_count, position_in, request_count}
+use Rattle.odb_send.specs.Marks.{AreBarred, AreFirst, waits_at}
+use Rattle.odb_send.specs.NextPart.{AreFitting, HasToWait, MayGo, member_count, position_in, request_count}
 use Rattle.odb_send.specs.Rests.{is_kept}
-use Rattle.odb_send.specs.Units.{AreMarksOf, marked, unit_needed}
+use Rattle.odb_send.specs.Units.{AreMarksOf, marked}
 use Rattle.odb_send.proofs.MarkLemmas.{AreBarred-exempt, AreBarred-kept, AreBarred-more, barred-needing, barred-own, marked-cases, marked-kept, marked-none, marked-other, marked-set, not_marked}
 
 -- ---- counts
@@ -88,7 +88,7 @@ abbrev is_left : List Record → List Bool → ℕ → Bool
 is_left rs left i = marked left (unit_at rs i)
 
 abbrev needs_held : List Record → List Bool → ℕ → Bool
-needs_held rs units i = list_any (λ need. marked units (unit_needed rs need)) (needs_at rs i)
+needs_held rs units i = list_any (λ need. marked units (unit_needed (unit_at rs) need)) (needs_at rs i)
 
 -- the unit of the next request has to wait
 pub held_more : (rs : List Record) (done left : List Bool) (n : ℕ) (units : List Bool) → HasGoodNames rs → AreBarred rs (marked done) (λ i. marked left (unit_at rs i)) n units → n < length rs → unit_at rs n < unit_count rs → waits_at rs done left units n ≡ true
@@ -163,7 +163,7 @@ AreFirst-more rs done left limit u room count units before goes counted fits = r
     inside = omega (arith, goes.known, before.marks.count)
 
 -- the next unit does not fit
-pub part_full : (rs : List Record) (done left : List Bool) (limit u room count : ℕ) (units : List Bool) → AreFirst rs done left limit u room units → MayGo rs done left u → count ≡ member_count rs u → room < count → IsNextPart rs done left limit units
+pub part_full : (rs : List Record) (done left : List Bool) (limit u room count : ℕ) (units : List Bool) → AreFirst rs done left limit u room units → MayGo rs done left u → count ≡ member_count rs u → room < count → AreFitting rs done left limit units
 part_full rs done left limit u room count units before goes counted more = record {
   end = u;
   units = before.marks;
@@ -172,7 +172,7 @@ part_full rs done left limit u room count units before goes counted more = recor
 }
 
 -- all units were looked at
-pub part_whole : (rs : List Record) (done left : List Bool) (limit room : ℕ) (units : List Bool) → AreFirst rs done left limit (unit_count rs) room units → IsNextPart rs done left limit units
+pub part_whole : (rs : List Record) (done left : List Bool) (limit room : ℕ) (units : List Bool) → AreFirst rs done left limit (unit_count rs) room units → AreFitting rs done left limit units
 part_whole rs done left limit room units before = record {
   end = unit_count rs;
   units = before.marks;
@@ -194,74 +194,6 @@ may_not_wait rs done left waiting u known are waits goes = goes.free ((are.each 
 
 pub may_not_done : (rs : List Record) (done left : List Bool) (u : ℕ) → marked done u ≡ true → ¬ MayGo rs done left u
 may_not_done rs done left u over goes = true≢false (sym over ∙ goes.not_done)
-
--- ---- units whose requests pass a test
-
-marked-all : (n u : ℕ) → u < n → marked (replicate n true) u ≡ true
-marked-all zero u less = absurd (omega (arith, less))
-marked-all (suc n) zero less = refl
-marked-all (suc n) (suc u) less = marked-all n u (omega (arith, less))
-
-pub AreWhole-none : (rs : List Record) (test : ℕ → Bool) → AreWhole rs test 0 (replicate (unit_count rs) true)
-AreWhole-none rs test = record {
-  count = length-replicate (unit_count rs) true;
-  passed = λ u i is less unit. absurd (omega (arith, less));
-  failed = λ u known is. absurd (true≢false (sym (marked-all (unit_count rs) u known) ∙ is));
-}
-
-pub AreWhole-passed : (rs : List Record) (test : ℕ → Bool) (n : ℕ) (units : List Bool) → AreWhole rs test n units → test n ≡ true → AreWhole rs test (n + 1) units
-AreWhole-passed rs test n units before passes = record {
-  count = before.count;
-  passed = λ u i is less unit. elim (cases_eq i n) [
-    | inl last ↦ ap test last ∙ passes
-    | inr early ↦ before.passed u i is (omega (arith, less, early)) unit
-  ];
-  failed = before.failed;
-}
-
-pub AreWhole-failed : (rs : List Record) (test : ℕ → Bool) (n : ℕ) (units : List Bool) → AreWhole rs test n units → n < length rs → unit_at rs n < unit_count rs → test n ≡ false → AreWhole rs test (n + 1) (set units (unit_at rs n) false)
-AreWhole-failed rs test n units before within known fails = record {
-  count = length-set units (unit_at rs n) false ∙ before.count;
-  passed = λ u i is less unit. elim (cases_eq u (unit_at rs n)) [
-    | inl same ↦ absurd (true≢false (sym is ∙ ap (marked (set units (unit_at rs n) false)) same ∙ cleared))
-    | inr other ↦ elim (cases_eq i n) [
-      | inl last ↦ absurd (other (sym unit ∙ ap (unit_at rs) last))
-      | inr early ↦ before.passed u i (sym (get_or-set_other units (unit_at rs n) u false false other) ∙ is) (omega (arith, less, early)) unit
-    ]
-  ];
-  failed = λ u inside is. elim (cases_eq u (unit_at rs n)) [
-    | inl same ↦ (n, within, sym same, fails)
-    | inr other ↦ before.failed u inside (sym (get_or-set_other units (unit_at rs n) u false false other) ∙ is)
-  ];
-}
-  where
-    cleared : marked (set units (unit_at rs n) false) (unit_at rs n) ≡ false
-    cleared = get_or-set_at units (unit_at rs n) (unit_at rs n) false false refl (omega (arith, known, before.count))
-
-pub AreWhole-all : (rs : List Record) (test : ℕ → Bool) (units : List Bool) → AreWhole rs test (length rs) units → AreMarksOf rs (IsWhole rs test) units
-AreWhole-all rs test units all = record {
-  count = all.count;
-  each = λ u known. (
-    (λ is i less unit. all.passed u i is less unit),
-    (λ whole. elim (cases_Bool (marked units u)) [
-      | inl is ↦ is
-      | inr is ↦ let (i, less, unit, fails) = all.failed u known is in absurd (true≢false (sym (whole i less unit) ∙ fails))
-    ]),
-  );
-}
-
--- the marks by a list of tests
-pub whole_list : (rs : List Record) (test : ℕ → Bool) (n : ℕ) (list units : List Bool) → n ≡ length rs → list ≡ list_below n test → AreMarksOf rs (IsWhole rs (marked list)) units → AreMarksOf rs (IsWhole rs test) units
-whole_list rs test n list units count is are = record {
-  count = are.count;
-  each = λ u known. (
-    (λ marks i less unit. sym (same i less) ∙ (are.each u known).0 marks i less unit),
-    (λ whole. (are.each u known).1 (λ i less unit. same i less ∙ whole i less unit)),
-  );
-}
-  where
-    same : (i : ℕ) → i < length rs → marked list i ≡ test i
-    same i less = ap (λ (marks : List Bool). marked marks i) is ∙ get_or-list_below n test i false (omega (arith, less, count))
 
 -- what holds of a value that there is
 pub ok_by : {T E : Type 0} (r : Result T E) (P Q : T → Type 0) → ((x : T) → P x → Q x) → IfOk r P → IfOk r Q

@@ -1,15 +1,14 @@
 -- The rest of a batch is one, and so is its text.
-use Rattle.std.proofs.Common.{◌≡◌, ◌∙◌, ◌++◌, ◌<◌, ℕ, zero, suc, Bool, false, List, [], ◌∷◌, length, get_or, Option, Some, IsSome, option_and_then, inl, inr, codes, refl, ap, ap₂, sym, subst, arith}
+use Rattle.std.proofs.Common.{◌≡◌, ◌∙◌, ◌++◌, ◌<◌, ℕ, zero, suc, Bool, false, List, [], ◌∷◌, length, get_or, Option, Some, IsSome, inl, inr, codes, refl, ap, ap₂, sym, subst, arith}
 use Rattle.std.specs.List.{AllZip}
 use Rattle.std.proofs.lemmas.Bool.{cases_order, false≢true}
 use Rattle.std.proofs.lemmas.List.{same_lists}
-use Rattle.std.proofs.lemmas.Option.{same_Some, slice_get_cases}
+use Rattle.std.proofs.lemmas.Option.{same_Some}
 use Rattle.serde_json.specs.Data.{Data}
 use Rattle.odb_doc.specs.Documents.{IsJson}
 use Rattle.odb_doc.specs.Members.{elements_at}
 use Rattle.odb_doc.specs.batch.Records.{Record}
 use Rattle.odb_doc.specs.declared.rule_fault.RuleFault.TheVariants as faults
-use Rattle.odb_check.specs.Units.{position_of, referred_at}
 use Rattle.odb_reply.specs.BodyTexts.{text_at}
 use Rattle.odb_spans.specs.Spans.{EachSpan, HasMemberAt, IsPlaceOfMember}
 use Rattle.odb_spans.specs.declared.span.Span.{Span}
@@ -21,7 +20,7 @@ use Rattle.odb_send.specs.Rests.IsUrl.{same, moved}
 use Rattle.odb_send.specs.Texts.{IsTextOf, bodies_in, joined, text_of, text_of_request}
 use Rattle.odb_send.specs.Units.{IsInRest}
 use Rattle.odb_send.proofs.MarkLemmas.{one_marks}
-use Rattle.odb_send.proofs.UrlLemmas.{one_joined, one_position}
+use Rattle.odb_send.proofs.UrlLemmas.{one_joined, one_position, referring}
 
 -- ---- the URL of each request
 
@@ -79,13 +78,6 @@ module _ (rs : List Record) (statuses : List ℕ) (locations : ℕ → Option (L
       is.is ∙ same-text-of (bodies_in document is.spans) ∙ ap (λ s. text_of rs other (bodies_in document s)) spans ∙ sym also.is
 
 -- ---- the first fault
-
-referring : (rs : List Record) (i p : ℕ) → referred_at rs i ≡ Some p → i < length rs
-referring rs i p is =
-    elim ((slice_get_cases rs i).1) [
-      | inl (r, within, got, _) ↦ within
-      | inr (past, none) ↦ absurd (cc (sym (ap (λ (o : Option Record). option_and_then (position_of rs) (option_and_then (λ (q : Record). q.reference) o)) none) ∙ is))
-    ]
 
 pub one-fault : (rs : List Record) (units : List Bool) (locations : ℕ → Option (List ℕ)) (fault other : RestFault) → IsSome (rest_row fault) → IsSome (rest_row other) → RefusesRest fault rs units locations → RefusesRest other rs units locations → fault ≡ other
 one-fault rs units locations (faults.Broken at NoLocation) (faults.Broken other NoLocation) numbered also one two =

@@ -1,19 +1,20 @@
 -- Where pieces of a growing text lie.
-use Rattle.std.proofs.Common.{◌≡◌, ◌∙◌, ◌+◌, ◌-◌, ◌<◌, ◌≤◌, ℕ, Bool, true, false, if◌then◌else◌, List, [], ◌∷◌, ◌++◌, length, take, Option, Some, None, option_and_then, unwrap_or, inl, inr, refl, sym, ap, subst, arith, append_assoc, get_or, slice_get}
+use Rattle.std.proofs.Common.{◌≡◌, ◌∙◌, ◌+◌, ◌-◌, ◌<◌, ◌≤◌, ℕ, Bool, true, false, if◌then◌else◌, List, [], ◌∷◌, ◌++◌, length, take, Option, Some, None, option_and_then, option_map, unwrap_or, inl, inr, refl, sym, ap, subst, arith, append_assoc, get_or, slice_get}
 use Rattle.std.proofs.lemmas.List.{append-nil, length-append, map-append, take_more}
 use Rattle.std.proofs.lemmas.Option.{get_or_from_slice_get, slice_get_cases, slice_get_within}
 use Rattle.std.proofs.lemmas.Slice.Zip.{AllZip-long}
-use Rattle.std.specs.List.{AllZip}
+use Rattle.std.specs.List.{AllZip, filter_map}
 use Rattle.serde_json.specs.Data.{Data}
 use Rattle.odb_doc.specs.batch.Shapes.{elements}
 use Rattle.odb_names.specs.Segments.{is_in_segment}
 use Rattle.odb_doc.specs.batch.Records.{Record, ReadsAs}
 use Rattle.odb_doc.specs.batch.UrlRests.{past_segment, rest_after}
+use Rattle.odb_check.specs.Needs.{further_names, need_of, needs_at}
 use Rattle.odb_check.specs.Units.{position_of, referred_at}
 use Rattle.odb_spans.specs.Spans.{HasBodyAt}
 use Rattle.odb_spans.specs.declared.span.Span.{Span}
 use Rattle.odb_send.specs.declared.parts.RequestParts.{RequestParts}
-use Rattle.odb_send.specs.Parts.{HasPart, HasPartIf, HasParts, bodies_of}
+use Rattle.odb_send.specs.Parts.{HasPart, HasPartIf, HasParts, bodies_of, needs_of}
 use Rattle.odb_send.specs.Pieces.{Extends}
 
 -- ---- a text that grows
@@ -105,6 +106,7 @@ kept-parts batch old new r parts grows held = record {
   reference = held.reference;
   headers = kept-part old new _ _ grows held.headers;
   group = kept-part-if old new _ _ grows held.group;
+  needs = kept-part old new _ _ grows held.needs;
 }
 
 -- one request more, by a text that has grown
@@ -143,6 +145,11 @@ as-many document d batch bodies read held = AllZip-long (HasBodyAt document) (el
 -- the position that the URL of a request refers to
 pub referred-record : (batch : List Record) (i : ℕ) (r : Record) → slice_get batch i ≡ Some r → referred_at batch i ≡ option_and_then (position_of batch) r.reference
 referred-record batch i r here = ap (λ (o : Option Record). option_and_then (position_of batch) (option_and_then (λ (q : Record). q.reference) o)) here
+
+-- the dependencies at a position are those of the request there
+pub needs-record : (batch : List Record) (i : ℕ) (r : Record) → slice_get batch i ≡ Some r → needs_at batch i ≡ needs_of batch r
+needs-record batch i r here =
+    ap (λ (o : Option Record). filter_map (need_of batch) (unwrap_or (option_map (λ (q : Record). q.names) o) [] ++ further_names (unwrap_or (option_map (λ (q : Record). q.names) o) []) (option_and_then (λ (q : Record). q.reference) o))) here
 
 pub same-record : (rs : List Record) (i : ℕ) (x r : Record) → slice_get rs i ≡ Some x → slice_get rs i ≡ Some r → x ≡ r
 same-record rs i x r one other = ap (λ (o : Option Record). unwrap_or o r) (sym one ∙ other)

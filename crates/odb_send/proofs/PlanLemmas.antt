@@ -4,6 +4,7 @@ use Rattle.std.proofs.lemmas.Option.{slice_get_within}
 use Rattle.std.specs.List.{AllZip, filter, filter_map, cons_option, list_any}
 use Rattle.std.proofs.lemmas.Bool.{cases_Bool, cases_order, true≢false}
 use Rattle.odb_doc.specs.batch.Records.{Record}
+use Rattle.odb_check.specs.PlanGraph.{unit_needed}
 use Rattle.odb_check.specs.declared.fault.NameRule.TheVariants as rules
 use Rattle.odb_check.specs.declared.need.Need.{Need}
 use Rattle.odb_check.specs.declared.need.Need.TheVariants.{One, Group}
@@ -19,7 +20,7 @@ use Rattle.odb_send.specs.Laws.{IsPartOfPlan, IsSameNeed}
 use Rattle.odb_reply.specs.BodyTexts.{text_at}
 use Rattle.odb_send.specs.Rests.{HasUrls, IsUrl, is_kept, is_kept_name, is_kept_need, rest_record, rest_records}
 use Rattle.odb_send.specs.Rests.IsUrl.{same, moved}
-use Rattle.odb_send.specs.Units.{marked, unit_needed}
+use Rattle.odb_send.specs.Units.{marked}
 use Rattle.odb_send.proofs.NameLemmas.{HasStayingUrls, rest_good}
 use Rattle.odb_send.proofs.PositionLemmas.{source, IsFrom, filter-from, filter-to, group_from, group_to, id_to, in_order, is_from, kept_at, names_to, there_is}
 
@@ -57,7 +58,7 @@ pub record HasNeed (rs : List Record) (kept : List Bool) (urls : List (Option (L
   pub is : need_of (rest_records rs kept urls) name ≡ Some other
   pub same_need : IsSameNeed (rest_records rs kept urls) rs (source rs kept) other need
 
-kept_need : (rs : List Record) (kept : List Bool) (urls : List (Option (List ℕ))) → HasGoodNames (rest_records rs kept urls) → (name : List ℕ) (need : Need) → need_of rs name ≡ Some need → marked kept (unit_needed rs need) ≡ true → HasNeed rs kept urls name need
+kept_need : (rs : List Record) (kept : List Bool) (urls : List (Option (List ℕ))) → HasGoodNames (rest_records rs kept urls) → (name : List ℕ) (need : Need) → need_of rs name ≡ Some need → marked kept (unit_needed (unit_at rs) need) ≡ true → HasNeed rs kept urls name need
 kept_need rs kept urls good name (One p) is stays =
     let here : id_at rs p ≡ Some name = (is_meant rs name (One p) is).1.here in
     let (k, within, at) = kept_at rs kept urls p (id_within rs p name here) stays in
@@ -81,22 +82,22 @@ kept_need rs kept urls good name (Group u) is stays =
 
 -- what the names of a list resolve to
 needs_zip : (rs : List Record) (kept : List Bool) (urls : List (Option (List ℕ))) → HasGoodNames (rest_records rs kept urls) → (names : List (List ℕ))
-    → AllZip (IsSameNeed (rest_records rs kept urls) rs (source rs kept)) (filter_map (need_of (rest_records rs kept urls)) (filter (is_kept_name rs kept) names)) (filter (λ need. marked kept (unit_needed rs need)) (filter_map (need_of rs) names))
+    → AllZip (IsSameNeed (rest_records rs kept urls) rs (source rs kept)) (filter_map (need_of (rest_records rs kept urls)) (filter (is_kept_name rs kept) names)) (filter (λ need. marked kept (unit_needed (unit_at rs) need)) (filter_map (need_of rs) names))
 needs_zip rs kept urls good [] = tt
 needs_zip rs kept urls good (name ∷ names) = by_need (needs_zip rs kept urls good names) (need_of rs name) refl
   where
     rest : List Record
     rest = rest_records rs kept urls
 
-    by_need : AllZip (IsSameNeed (rest_records rs kept urls) rs (source rs kept)) (filter_map (need_of (rest_records rs kept urls)) (filter (is_kept_name rs kept) names)) (filter (λ need. marked kept (unit_needed rs need)) (filter_map (need_of rs) names))
+    by_need : AllZip (IsSameNeed (rest_records rs kept urls) rs (source rs kept)) (filter_map (need_of (rest_records rs kept urls)) (filter (is_kept_name rs kept) names)) (filter (λ need. marked kept (unit_needed (unit_at rs) need)) (filter_map (need_of rs) names))
         → (o : Option Need) → need_of rs name ≡ o
-        → AllZip (IsSameNeed (rest_records rs kept urls) rs (source rs kept)) (filter_map (need_of (rest_records rs kept urls)) (cond (is_kept_need rs kept o) (name ∷ filter (is_kept_name rs kept) names) (filter (is_kept_name rs kept) names))) (filter (λ need. marked kept (unit_needed rs need)) (cons_option o (filter_map (need_of rs) names)))
+        → AllZip (IsSameNeed (rest_records rs kept urls) rs (source rs kept)) (filter_map (need_of (rest_records rs kept urls)) (cond (is_kept_need rs kept o) (name ∷ filter (is_kept_name rs kept) names) (filter (is_kept_name rs kept) names))) (filter (λ need. marked kept (unit_needed (unit_at rs) need)) (cons_option o (filter_map (need_of rs) names)))
     by_need more None is = more
-    by_need more (Some need) is = (elim (marked kept (unit_needed rs need)) as (λ b. marked kept (unit_needed rs need) ≡ b → AllZip (IsSameNeed (rest_records rs kept urls) rs (source rs kept)) (filter_map (need_of (rest_records rs kept urls)) (cond b (name ∷ filter (is_kept_name rs kept) names) (filter (is_kept_name rs kept) names))) (cond b (need ∷ filter (λ need. marked kept (unit_needed rs need)) (filter_map (need_of rs) names)) (filter (λ need. marked kept (unit_needed rs need)) (filter_map (need_of rs) names)))) [
+    by_need more (Some need) is = (elim (marked kept (unit_needed (unit_at rs) need)) as (λ b. marked kept (unit_needed (unit_at rs) need) ≡ b → AllZip (IsSameNeed (rest_records rs kept urls) rs (source rs kept)) (filter_map (need_of (rest_records rs kept urls)) (cond b (name ∷ filter (is_kept_name rs kept) names) (filter (is_kept_name rs kept) names))) (cond b (need ∷ filter (λ need. marked kept (unit_needed (unit_at rs) need)) (filter_map (need_of rs) names)) (filter (λ need. marked kept (unit_needed (unit_at rs) need)) (filter_map (need_of rs) names)))) [
       | false ↦ λ leaves. more
       | true ↦ λ stays.
           let found = kept_need rs kept urls good name need is stays in
-          subst (λ o. AllZip (IsSameNeed (rest_records rs kept urls) rs (source rs kept)) (cons_option o (filter_map (need_of (rest_records rs kept urls)) (filter (is_kept_name rs kept) names))) (need ∷ filter (λ need. marked kept (unit_needed rs need)) (filter_map (need_of rs) names))) (sym found.is) (found.same_need, more)
+          subst (λ o. AllZip (IsSameNeed (rest_records rs kept urls) rs (source rs kept)) (cons_option o (filter_map (need_of (rest_records rs kept urls)) (filter (is_kept_name rs kept) names))) (need ∷ filter (λ need. marked kept (unit_needed (unit_at rs) need)) (filter_map (need_of rs) names))) (sym found.is) (found.same_need, more)
     ]) refl
 
 -- ---- the names that a request needs
@@ -191,10 +192,10 @@ needed_there rs kept locations urls m good are less =
 
 -- what a request of the rest needs
 pub part_needs : (rs : List Record) (kept : List Bool) (locations : ℕ → Option (List ℕ)) (urls : List (Option (List ℕ))) → HasGoodNames rs → HasStayingUrls rs kept urls → HasUrls rs kept locations urls → (m : ℕ) → m < length (rest_records rs kept urls)
-    → AllZip (IsSameNeed (rest_records rs kept urls) rs (source rs kept)) (needs_at (rest_records rs kept urls) m) (filter (λ need. marked kept (unit_needed rs need)) (needs_at rs (source rs kept m)))
+    → AllZip (IsSameNeed (rest_records rs kept urls) rs (source rs kept)) (needs_at (rest_records rs kept urls) m) (filter (λ need. marked kept (unit_needed (unit_at rs) need)) (needs_at rs (source rs kept m)))
 part_needs rs kept locations urls good staying are m less =
     let rest = rest_records rs kept urls in
-    subst (λ (ns : List (List ℕ)). AllZip (IsSameNeed rest rs (source rs kept)) (filter_map (need_of rest) ns) (filter (λ need. marked kept (unit_needed rs need)) (needs_at rs (source rs kept m)))) (sym (needed_there rs kept locations urls m good are less))
+    subst (λ (ns : List (List ℕ)). AllZip (IsSameNeed rest rs (source rs kept)) (filter_map (need_of rest) ns) (filter (λ need. marked kept (unit_needed (unit_at rs) need)) (needs_at rs (source rs kept m)))) (sym (needed_there rs kept locations urls m good are less))
     (needs_zip rs kept urls (rest_good rs kept urls good staying) (needed_names rs (source rs kept m)))
 
 -- the plan of the rest

@@ -7,6 +7,7 @@ use Rattle.std.proofs.lemmas.Option.{get_or_from_slice_get, same_Some, slice_get
 use Rattle.odb_doc.specs.Statuses.{is_success}
 use Rattle.odb_doc.specs.batch.Records.{Record}
 use Rattle.odb_doc.proofs.ElementLemmas.{Contains-cases, Contains-head, Contains-tail}
+use Rattle.odb_check.specs.PlanGraph.{unit_needed}
 use Rattle.odb_check.specs.declared.need.Need.{Need}
 use Rattle.odb_check.specs.declared.need.Need.TheVariants.{One, Group}
 use Rattle.odb_check.specs.LeastNameFault.{HasGoodNames}
@@ -25,7 +26,7 @@ use Rattle.odb_reply.proofs.IdLemmas.{one_position}
 use Rattle.odb_reply.proofs.SliceLemmas.{map_some}
 use Rattle.odb_send.specs.Laws.{IsSameNeed, with_rest}
 use Rattle.odb_send.specs.Rests.{HasUrls, is_kept, rest_records}
-use Rattle.odb_send.specs.Units.{AreMarksOf, IsDone, IsInRest, marked, unit_needed}
+use Rattle.odb_send.specs.Units.{AreMarksOf, IsDone, IsInRest, marked}
 use Rattle.odb_send.proofs.LawLemmas.{need_known, responds, rest_may_be_sent, succeeded, urls_stay}
 use Rattle.odb_send.proofs.NameLemmas.{HasStayingUrls, rest_good}
 use Rattle.odb_send.proofs.PlanLemmas.{part_needs}
@@ -238,7 +239,7 @@ module _ (rs : List Record) (es : List Entry) (places statuses : List ℕ) (kept
       ap (λ (x : Entry). is_success x.status) same ∙ ap is_success status ∙ done r within refl
 
   -- what a success needs of another unit is of one that is done
-  need-done : (i : ℕ) (e : Entry) (need : Need) → Responds rs es i e → is_success e.status ≡ true → Contains (needs_at rs i) need → (unit_needed rs need ≡ unit_at rs i) ⊎ IsDone rs statuses (unit_needed rs need)
+  need-done : (i : ℕ) (e : Entry) (need : Need) → Responds rs es i e → is_success e.status ≡ true → Contains (needs_at rs i) need → (unit_needed (unit_at rs) need ≡ unit_at rs i) ⊎ IsDone rs statuses (unit_needed (unit_at rs) need)
   need-done i e (Group u) answers success inside =
       let satisfied = fits.rests_on_successes i e (Group u) answers success inside in
       inr (λ r less unit. succeeded rs es places statuses r table less (satisfied r unit))
@@ -267,17 +268,17 @@ module _ (rs : List Record) (es : List Entry) (places statuses : List ℕ) (kept
           succeeded rs es places statuses j table inside_too (satisfied j unit)
 
   -- what is satisfied of a unit that is not in the rest still is
-  still-satisfied : (need : Need) → marked kept (unit_needed rs need) ≡ false → IsSatisfied rs es need → IsSatisfied rs all need
+  still-satisfied : (need : Need) → marked kept (unit_needed (unit_at rs) need) ≡ false → IsSatisfied rs es need → IsSatisfied rs all need
   still-satisfied (One r) none satisfied = still-succeeds r none satisfied
   still-satisfied (Group u) none satisfied = λ r unit. still-succeeds r (ap (marked kept) unit ∙ none) (satisfied r unit)
 
   -- what is done is satisfied
-  done-satisfied : (need : Need) → IsDone rs statuses (unit_needed rs need) → IsSatisfied rs es need
+  done-satisfied : (need : Need) → IsDone rs statuses (unit_needed (unit_at rs) need) → IsSatisfied rs es need
   done-satisfied (One r) done = done-succeeds r done
   done-satisfied (Group u) done = λ r unit. done-succeeds r (subst (IsDone rs statuses) (sym unit) done)
 
   -- what is satisfied in the rest is satisfied in all
-  now-satisfied : (m : ℕ) (other need : Need) → m < length ys → Contains (needs_at ys m) other → IsSameNeed ys rs (source rs kept) other need → marked kept (unit_needed rs need) ≡ true → IsSatisfied ys others other → IsSatisfied rs all need
+  now-satisfied : (m : ℕ) (other need : Need) → m < length ys → Contains (needs_at ys m) other → IsSameNeed ys rs (source rs kept) other need → marked kept (unit_needed (unit_at rs) need) ≡ true → IsSatisfied ys others other → IsSatisfied rs all need
   now-satisfied m (One p) (One r) within inside same is satisfied =
       let less : p < length ys = omega (arith, (needs_before ys good_rest).one m p inside, within) in
       now-succeeds p r less same is satisfied
@@ -293,23 +294,23 @@ module _ (rs : List Record) (es : List Entry) (places statuses : List ℕ) (kept
   old-rests : (i : ℕ) (e : Entry) (need : Need) → is_kept rs kept i ≡ false → Responds rs es i e → is_success e.status ≡ true → Contains (needs_at rs i) need → IsSatisfied rs all need
   old-rests i e need none answers success inside =
       let known = need_known rs good i need (id_within rs i e.id answers.id) inside in
-      let out : marked kept (unit_needed rs need) ≡ false = elim (need-done i e need answers success inside) [ inl own ↦ ap (marked kept) own ∙ none | inr done ↦ unmarked (unit_needed rs need) known done ] in
+      let out : marked kept (unit_needed (unit_at rs) need) ≡ false = elim (need-done i e need answers success inside) [ inl own ↦ ap (marked kept) own ∙ none | inr done ↦ unmarked (unit_needed (unit_at rs) need) known done ] in
       still-satisfied need out (fits.rests_on_successes i e need answers success inside)
 
   -- a success in the rest
   new-rests : (m i : ℕ) (e : Entry) (need : Need) → m < length ys → source rs kept m ≡ i → is_kept rs kept i ≡ true → i < length rs → Responds ys others m e → is_success e.status ≡ true → Contains (needs_at rs i) need → IsSatisfied rs all need
-  new-rests m i e need within same is inside_rs answers success inside = elim (cases_Bool (marked kept (unit_needed rs need))) [
+  new-rests m i e need within same is inside_rs answers success inside = elim (cases_Bool (marked kept (unit_needed (unit_at rs) need))) [
     | inl there ↦
         let needs = part_needs rs kept locations urls good staying moved m within in
-        let listed : Contains (filter (λ d. marked kept (unit_needed rs d)) (needs_at rs (source rs kept m))) need = filter-to (λ d. marked kept (unit_needed rs d)) (needs_at rs (source rs kept m)) need (subst (λ k. Contains (needs_at rs k) need) (sym same) inside) there in
-        let back = zip-back (IsSameNeed ys rs (source rs kept)) (needs_at ys m) (filter (λ d. marked kept (unit_needed rs d)) (needs_at rs (source rs kept m))) need needs listed in
+        let listed : Contains (filter (λ d. marked kept (unit_needed (unit_at rs) d)) (needs_at rs (source rs kept m))) need = filter-to (λ d. marked kept (unit_needed (unit_at rs) d)) (needs_at rs (source rs kept m)) need (subst (λ k. Contains (needs_at rs k) need) (sym same) inside) there in
+        let back = zip-back (IsSameNeed ys rs (source rs kept)) (needs_at ys m) (filter (λ d. marked kept (unit_needed (unit_at rs) d)) (needs_at rs (source rs kept m))) need needs listed in
         now-satisfied m back.0 need within back.1 back.2 there (fits_rest.rests_on_successes m e back.0 answers success back.1)
     | inr none ↦
         let unit = (units.each (unit_at rs i) (unit_before rs i (length rs) inside_rs)).0 is in
         let known = need_known rs good i need inside_rs inside in
         elim ((rest_may_be_sent rs statuses kept good units (unit_at rs i) unit).met i need inside_rs refl inside) [
           | inl done ↦ still-satisfied need none (done-satisfied need done)
-          | inr rest ↦ absurd (true≢false (sym ((units.each (unit_needed rs need) known).1 rest) ∙ none))
+          | inr rest ↦ absurd (true≢false (sym ((units.each (unit_needed (unit_at rs) need) known).1 rest) ∙ none))
         ]
   ]
 

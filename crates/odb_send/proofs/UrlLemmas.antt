@@ -1,7 +1,7 @@
 -- Where URLs refer to, and what follows their first segment.
-use Rattle.std.proofs.Common.{◌≡◌, ◌∙◌, ◌+◌, ◌-◌, ◌<◌, ℕ, zero, suc, Bool, false, List, [], ◌∷◌, ◌++◌, length, inl, inr, Option, None, Some, option_and_then, option_map, slice_get, refl, ap, sym, subst, arith, get_or}
+use Rattle.std.proofs.Common.{◌≡◌, ◌≢◌, ◌∙◌, ◌+◌, ◌-◌, ◌<◌, ℕ, zero, suc, Bool, false, List, [], ◌∷◌, ◌++◌, length, inl, inr, Option, None, Some, option_and_then, option_map, slice_get, refl, ap, sym, subst, arith, get_or}
 use Rattle.std.specs.Borrow.{Bor}
-use Rattle.std.proofs.lemmas.Option.{same_Some, slice_get-map, slice_get-get_or}
+use Rattle.std.proofs.lemmas.Option.{same_Some, slice_get-map, slice_get-get_or, slice_get_cases}
 use Rattle.std.proofs.lemmas.Bool.{cases_eq}
 use Rattle.std.proofs.lemmas.List.{length-append, length_push, length-map}
 use Rattle.std.proofs.Math.Seq.{get_or-append_seam}
@@ -51,6 +51,14 @@ referred_within rs i p is = by_reference (reference_at rs i) is
     by_reference None none = absurd (cc (none))
     by_reference (Some id) found = (position_first rs id p found).0
 
+-- what refers to a request is one of the batch
+pub referring : (rs : List Record) (i p : ℕ) → referred_at rs i ≡ Some p → i < length rs
+referring rs i p is =
+    elim ((slice_get_cases rs i).1) [
+      | inl (r, within, got, _) ↦ within
+      | inr (past, none) ↦ absurd (cc (sym (ap (λ (o : Option Record). option_and_then (position_of rs) (option_and_then (λ (q : Record). q.reference) o)) none) ∙ is))
+    ]
+
 -- ---- the URL of a request in the rest
 
 pub same_text : (o : Option (List ℕ)) (x y : List ℕ) → o ≡ Some x → o ≡ Some y → x ≡ y
@@ -60,14 +68,15 @@ pub one_joined : (location url made other : List ℕ) → IsJoined location url 
 one_joined location url made other one two = one.is ∙ ap (λ (t : List ℕ). location ++ t) (same_run one.after.splits two.after.splits).1 ∙ sym two.is
 
 pub url_made : (rs : List Record) (kept : List Bool) (locations : ℕ → Option (List ℕ)) (i p : ℕ) (r : Record) (location url : List ℕ) → Leaves rs kept i p → slice_get rs i ≡ Some r → locations p ≡ Some location
-    → IsJoined location r.url url → IsPlain url → IsUrl rs kept locations i (Some url)
-url_made rs kept locations i p r location url leaves is recorded joined plain = moved url (record {
+    → location ≢ [] → IsJoined location r.url url → IsPlain url → IsUrl rs kept locations i (Some url)
+url_made rs kept locations i p r location url leaves is recorded filled joined plain = moved url (record {
   position = p;
   leaves = leaves;
   request = r;
   is = is;
   location = location;
   recorded = recorded;
+  filled = filled;
   joined = joined;
   plain = plain;
 })
@@ -84,7 +93,7 @@ lacks_recorded rs kept locations i p leaves none = record {
 }
 
 pub lacks_plain : (rs : List Record) (kept : List Bool) (locations : ℕ → Option (List ℕ)) (i p : ℕ) (r : Record) (location made : List ℕ) → Leaves rs kept i p → slice_get rs i ≡ Some r → locations p ≡ Some location
-    → IsJoined location r.url made → ¬ IsPlain made → LacksLocation rs kept locations i
+    → IsJoined location r.url made → ¬ ((location ≢ []) × IsPlain made) → LacksLocation rs kept locations i
 lacks_plain rs kept locations i p r location made leaves is recorded joined bad = record {
   position = p;
   leaves = leaves;
@@ -93,7 +102,7 @@ lacks_plain rs kept locations i p r location made leaves is recorded joined bad 
       let request : moves.request ≡ r = same_Some moves.request r (sym moves.is ∙ is) in
       let at : moves.location ≡ location = same_text (locations p) moves.location location (ap locations same ∙ moves.recorded) recorded in
       let text_at : IsJoined location r.url url = subst (λ (l : List ℕ). IsJoined l r.url url) at (subst (λ (q : Record). IsJoined moves.location q.url url) request moves.joined) in
-      bad (subst IsPlain (one_joined location r.url url made text_at joined) moves.plain);
+      bad (subst (λ (l : List ℕ). l ≢ []) at moves.filled, subst IsPlain (one_joined location r.url url made text_at joined) moves.plain);
 }
 
 -- a Location in a list of them
@@ -123,7 +132,7 @@ AreUrls-more rs kept locations n urls url before is = record {
 }
 
 -- what has a URL lacks none
-has_url : (rs : List Record) (kept : List Bool) (locations : ℕ → Option (List ℕ)) (i : ℕ) (url : Option (List ℕ)) → IsUrl rs kept locations i url → ¬ LacksLocation rs kept locations i
+pub has_url : (rs : List Record) (kept : List Bool) (locations : ℕ → Option (List ℕ)) (i : ℕ) (url : Option (List ℕ)) → IsUrl rs kept locations i url → ¬ LacksLocation rs kept locations i
 has_url rs kept locations i url (same none) lacks = none lacks.position lacks.leaves
 has_url rs kept locations i url (moved text moves) lacks = lacks.none text moves
 
@@ -146,6 +155,7 @@ moves_by rs kept one other i url agree moves = record {
   is = moves.is;
   location = moves.location;
   recorded = sym (agree moves.position (referred_within rs i moves.position moves.leaves.refers)) ∙ moves.recorded;
+  filled = moves.filled;
   joined = moves.joined;
   plain = moves.plain;
 }
@@ -154,7 +164,7 @@ url_by : (rs : List Record) (kept : List Bool) (one other : ℕ → Option (List
 url_by rs kept one other i url agree (same none) = same none
 url_by rs kept one other i url agree (moved text moves) = moved text (moves_by rs kept one other i text agree moves)
 
-lacks_by : (rs : List Record) (kept : List Bool) (one other : ℕ → Option (List ℕ)) (i : ℕ) → SameLocations rs one other → LacksLocation rs kept one i → LacksLocation rs kept other i
+pub lacks_by : (rs : List Record) (kept : List Bool) (one other : ℕ → Option (List ℕ)) (i : ℕ) → SameLocations rs one other → LacksLocation rs kept one i → LacksLocation rs kept other i
 lacks_by rs kept one other i agree lacks = record {
   position = lacks.position;
   leaves = lacks.leaves;

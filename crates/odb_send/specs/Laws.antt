@@ -3,6 +3,7 @@ use Rattle.std.specs.Prelude.{◌≡◌, ◌↔◌, ◌⊎◌, ◌<◌, ◌++◌
 use Rattle.std.specs.List.{AllZip, filter}
 use Rattle.odb_doc.specs.Statuses.{is_success}
 use Rattle.odb_doc.specs.batch.Records.{Record}
+use Rattle.odb_check.specs.PlanGraph.{unit_needed}
 use Rattle.odb_check.specs.declared.need.Need.{Need}
 use Rattle.odb_check.specs.declared.need.Need.TheVariants.{One, Group}
 use Rattle.odb_check.specs.Needs.{needs_at}
@@ -11,11 +12,11 @@ use Rattle.odb_reply.specs.Completed.{is_answered}
 use Rattle.odb_reply.specs.ResponseDocuments.{Entry}
 use Rattle.odb_send.specs.Repeats.{may_repeat_at}
 use Rattle.odb_send.specs.Rests.{is_kept}
-use Rattle.odb_send.specs.Units.{IsDone, IsInRest, marked, unit_needed}
+use Rattle.odb_send.specs.Units.{IsDone, IsInRest, marked}
 
 -- what a unit needs is done or in the rest
 abbrev pub IsMet : List Record → List ℕ → Need → Type 0
-IsMet rs statuses need = IsDone rs statuses (unit_needed rs need) ⊎ IsInRest rs statuses (unit_needed rs need)
+IsMet rs statuses need = IsDone rs statuses (unit_needed (unit_at rs) need) ⊎ IsInRest rs statuses (unit_needed (unit_at rs) need)
 
 -- A unit that is not done may be sent: each of its requests may be sent again, and needs only what is done or in the rest.
 pub record MayBeSent (rs : List Record) (statuses : List ℕ) (u : ℕ) : Type 0 where
@@ -42,7 +43,7 @@ pub record IsPartOfPlan (rs : List Record) (kept : List Bool) (rest : List Recor
   pub in_order : (m n : ℕ) → m < n → n < length rest → source m < source n
   pub all : (i : ℕ) → i < length rs → (is_kept rs kept i ≡ true) ↔ ((m : ℕ) × (m < length rest) × (source m ≡ i))
   pub units : (m n : ℕ) → m < length rest → n < length rest → (unit_at rest m ≡ unit_at rest n) ↔ (unit_at rs (source m) ≡ unit_at rs (source n))
-  pub needs : (m : ℕ) → m < length rest → AllZip (IsSameNeed rest rs source) (needs_at rest m) (filter (λ need. marked kept (unit_needed rs need)) (needs_at rs (source m)))
+  pub needs : (m : ℕ) → m < length rest → AllZip (IsSameNeed rest rs source) (needs_at rest m) (filter (λ need. marked kept (unit_needed (unit_at rs) need)) (needs_at rs (source m)))
 
 -- the responses to a batch, with those to its rest in place of the responses to the same requests
 abbrev pub with_rest : List Entry → List Entry → List Entry

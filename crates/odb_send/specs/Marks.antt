@@ -1,7 +1,8 @@
 -- For invariants and private clauses: the marks of units while the requests are gone through.
-use Rattle.std.specs.Prelude.{◌≡◌, ◌+◌, ◌<◌, ◌&&◌, ◌||◌, ℕ, Bool, true, false, not, List, length, Contains, Option, None, Some, IfSome, All, IsUtf8, ◌≤◌, drop}
+use Rattle.std.specs.Prelude.{◌≡◌, ◌+◌, ◌<◌, ◌&&◌, ◌||◌, ℕ, Bool, true, false, nat_lt, not, List, length, Contains, Option, None, Some, IfSome, All, IsUtf8, ◌≤◌, drop}
 use Rattle.std.specs.List.{list_any}
 use Rattle.odb_doc.specs.batch.Records.{Record}
+use Rattle.odb_check.specs.PlanGraph.{unit_needed}
 use Rattle.odb_check.specs.declared.need.Need.{Need}
 use Rattle.odb_check.specs.Needs.{needs_at}
 use Rattle.odb_check.specs.Units.{unit_at, unit_count}
@@ -9,19 +10,20 @@ use Rattle.odb_send.specs.Faults.{RestFault, LacksLocation}
 use Rattle.odb_doc.specs.declared.rule_fault.RuleFault.TheVariants as faults
 use Rattle.odb_send.specs.declared.fault.RestRule.TheVariants.{NoLocation}
 use Rattle.odb_reply.specs.BodyTexts.{text_at}
-use Rattle.odb_send.specs.Rests.{IsUrl, is_kept, select}
+use Rattle.odb_send.specs.Rests.{HasUrls, IsUrl, is_kept, kept, select, urls}
 use Rattle.odb_send.specs.Texts.{joined, text_of_request}
 use Rattle.odb_spans.specs.Spans.{bytes_of}
 use Rattle.odb_spans.specs.declared.span.Span.{Span}
-use Rattle.odb_send.specs.NextPart.{MayGo, request_count}
-use Rattle.odb_send.specs.Units.{AreMarksOf, IsBarred, marked, unit_needed}
+use Rattle.odb_send.specs.declared.rest.Rest.{Rest}
+use Rattle.odb_send.specs.NextPart.{IsCut, MayGo, request_count}
+use Rattle.odb_send.specs.Units.{AreMarksOf, IsBarred, marked}
 
 -- the marks of units that are barred, once the first n requests are known
 pub record AreBarred (rs : List Record) (exempt test : ℕ → Bool) (n : ℕ) (units : List Bool) : Type 0 where
   pub count : length units ≡ unit_count rs
   pub sound : (u : ℕ) → marked units u ≡ true → IsBarred rs exempt test u
   pub own : (i : ℕ) → i < n → exempt (unit_at rs i) ≡ false → test i ≡ false → marked units (unit_at rs i) ≡ true
-  pub needing : (i : ℕ) (need : Need) → i < n → exempt (unit_at rs i) ≡ false → Contains (needs_at rs i) need → marked units (unit_needed rs need) ≡ true → marked units (unit_at rs i) ≡ true
+  pub needing : (i : ℕ) (need : Need) → i < n → exempt (unit_at rs i) ≡ false → Contains (needs_at rs i) need → marked units (unit_needed (unit_at rs) need) ≡ true → marked units (unit_at rs i) ≡ true
 
 -- the marks of the first n units that are neither done nor left out
 pub record AreKept (done left : List Bool) (n : ℕ) (units : List Bool) : Type 0 where
@@ -62,12 +64,15 @@ pub record AreFirst (rs : List Record) (done left : List Bool) (limit n room : �
   pub marks : AreMarksOf rs (λ u. (u < n) × MayGo rs done left u) units
   pub count : request_count rs units + room ≡ limit
 
--- the marks of units whose requests pass a test, once the first n requests are known
-pub record AreWhole (rs : List Record) (test : ℕ → Bool) (n : ℕ) (units : List Bool) : Type 0 where
-  pub count : length units ≡ unit_count rs
-  pub passed : (u i : ℕ) → marked units u ≡ true → i < n → unit_at rs i ≡ u → test i ≡ true
-  pub failed : (u : ℕ) → u < unit_count rs → marked units u ≡ false → (i : ℕ) × (i < length rs) × (unit_at rs i ≡ u) × (test i ≡ false)
-
 -- the unit of the request at a position is not done, and it is not left or needs something that has a mark
 abbrev pub waits_at : List Record → (done left units : List Bool) → ℕ → Bool
-waits_at rs done left units i = not (marked done (unit_at rs i)) && (not (marked left (unit_at rs i)) || list_any (λ need. marked units (unit_needed rs need)) (needs_at rs i))
+waits_at rs done left units i = not (marked done (unit_at rs i)) && (not (marked left (unit_at rs i)) || list_any (λ need. marked units (unit_needed (unit_at rs) need)) (needs_at rs i))
+
+-- the mark of a unit that comes before this one
+abbrev pub marked_before : List Bool → ℕ → ℕ → Bool
+marked_before units end u = nat_lt u end && marked units u
+
+-- the part has those of the units that fit up to one that lacks a Location, and the URLs of their requests
+pub record IsCutPart (rs : List Record) (fitting : List Bool) (locations : ℕ → Option (List ℕ)) (part : Rest) : Type 0 where
+  pub cut : IsCut rs fitting locations (kept part)
+  pub urls_are : HasUrls rs (kept part) locations (urls part)

@@ -4,6 +4,8 @@
 use Rattle.std.specs.Prelude.{◌≡◌, ◌⊎◌, ◌+◌, ◌<◌, ◌≤◌, ◌==◌, ℕ, Bool, true, false, List, [], ◌∷◌, length, Contains, Option, slice_index_or, if◌then◌else◌}
 use Rattle.odb_doc.specs.Statuses.{is_success}
 use Rattle.odb_doc.specs.batch.Records.{Record}
+use Rattle.odb_doc.specs.declared.rule_fault.RuleFault.TheVariants as faults
+use Rattle.odb_check.specs.PlanGraph.{unit_needed}
 use Rattle.odb_check.specs.declared.need.Need.{Need}
 use Rattle.odb_check.specs.Firsts.{count_below, joined_below}
 use Rattle.odb_check.specs.Needs.{needs_at}
@@ -11,8 +13,10 @@ use Rattle.odb_check.specs.Units.{unit_at, unit_count}
 use Rattle.odb_sched.specs.declared.states.RequestState.{RequestState}
 use Rattle.odb_sched.specs.declared.states.RequestState.TheVariants.{Waiting, Ready, Running, Reported, Skipped}
 use Rattle.odb_send.specs.declared.rest.Rest.{Rest}
+use Rattle.odb_send.specs.declared.fault.RestRule.TheVariants.{NoLocation}
+use Rattle.odb_send.specs.Faults.{LacksLocation, RestFault}
 use Rattle.odb_send.specs.Rests.{HasUrls, is_kept, kept, urls}
-use Rattle.odb_send.specs.Units.{AreMarksOf, IsBarred, marked, unit_needed}
+use Rattle.odb_send.specs.Units.{AreMarksOf, IsBarred, IsWhole, marked}
 
 -- A unit has to wait, unless it is done, if it is not left, or needs something of a unit that has to wait.
 abbrev pub HasToWait : List Record → (done left : List Bool) → ℕ → Type 0
@@ -32,17 +36,51 @@ request_count rs units = count_below (length rs) (is_kept rs units)
 abbrev pub member_count : List Record → ℕ → ℕ
 member_count rs u = count_below (length rs) (λ i. unit_at rs i == u)
 
--- The next part has the units that may be sent, from the first up to one that does not fit any more, at most so many requests.
-pub record IsNextPart (rs : List Record) (done left : List Bool) (limit : ℕ) (part : List Bool) : Type 0 where
+-- These are the units that fit: those that may be sent, from the first up to one that does not fit any more, at most so many
+-- requests.
+pub record AreFitting (rs : List Record) (done left : List Bool) (limit : ℕ) (fitting : List Bool) : Type 0 where
   pub end : ℕ
-  pub units : AreMarksOf rs (λ u. (u < end) × MayGo rs done left u) part
-  pub within : request_count rs part ≤ limit
-  pub next : (end ≡ unit_count rs) ⊎ (MayGo rs done left end × (limit < request_count rs part + member_count rs end))
+  pub units : AreMarksOf rs (λ u. (u < end) × MayGo rs done left u) fitting
+  pub within : request_count rs fitting ≤ limit
+  pub next : (end ≡ unit_count rs) ⊎ (MayGo rs done left end × (limit < request_count rs fitting + member_count rs end))
+
+-- a request is in the part
+abbrev pub HasSome : List Record → List Bool → Type 0
+HasSome rs part = (i : ℕ) × (i < length rs) × (is_kept rs part i ≡ true)
+
+-- a request of the unit, which is one of those that fit, lacks a Location
+abbrev pub HasLack : List Record → List Bool → (ℕ → Option (List ℕ)) → ℕ → Type 0
+HasLack rs fitting locations u = (i : ℕ) × (i < length rs) × (unit_at rs i ≡ u) × LacksLocation rs fitting locations i
+
+-- The part has the units that fit, from the first up to one that lacks a Location; the first of all lacks none.
+pub record IsCut (rs : List Record) (fitting : List Bool) (locations : ℕ → Option (List ℕ)) (part : List Bool) : Type 0 where
+  pub end : ℕ
+  pub units : AreMarksOf rs (λ u. (u < end) × (marked fitting u ≡ true)) part
+  pub placed : (u : ℕ) → u < end → ¬ HasLack rs fitting locations u
+  pub next : (end ≡ unit_count rs) ⊎ (HasSome rs part × HasLack rs fitting locations end)
+
+-- The next part has the units that may be sent, from the first up to one that does not fit any more or lacks a Location.
+pub record IsNextPart (rs : List Record) (done left : List Bool) (limit : ℕ) (locations : ℕ → Option (List ℕ)) (part : List Bool) : Type 0 where
+  pub fitting : List Bool
+  pub fits : AreFitting rs done left limit fitting
+  pub cut : IsCut rs fitting locations part
 
 -- the part, with the URLs that its requests get by these Locations
 pub record IsPartOf (rs : List Record) (done left : List Bool) (limit : ℕ) (locations : ℕ → Option (List ℕ)) (part : Rest) : Type 0 where
-  pub units : IsNextPart rs done left limit (kept part)
+  pub units : IsNextPart rs done left limit locations (kept part)
   pub urls_are : HasUrls rs (kept part) locations (urls part)
+
+-- the request is the first of all that fit that lacks a Location, and no unit that fits comes before its own
+pub record LacksFirst (rs : List Record) (fitting : List Bool) (locations : ℕ → Option (List ℕ)) (at : ℕ) : Type 0 where
+  pub lacks : LacksLocation rs fitting locations at
+  pub least : (i : ℕ) → i < at → ¬ LacksLocation rs fitting locations i
+  pub begins : (u : ℕ) → u < unit_at rs at → marked fitting u ≡ false
+
+-- The fault, by which there is no part, is at the first request that lacks a Location, of the first unit that fits. Out of memory
+-- says nothing.
+abbrev pub RefusesPart : RestFault → List Record → List Bool → (ℕ → Option (List ℕ)) → Type 0
+RefusesPart (faults.Broken at NoLocation) rs fitting locations = LacksFirst rs fitting locations at
+RefusesPart faults.OutOfMemory rs fitting locations = Unit {0}
 
 -- ---- by what has become of each request of a run
 
@@ -63,10 +101,6 @@ may_start Skipped = false
 
 abbrev pub state_at : List RequestState → ℕ → RequestState
 state_at states i = slice_index_or states i Skipped
-
--- each request of the unit passes a test
-abbrev pub IsWhole : List Record → (ℕ → Bool) → ℕ → Type 0
-IsWhole rs test u = (i : ℕ) → i < length rs → unit_at rs i ≡ u → test i ≡ true
 
 -- A unit is done if all its requests have succeeded, and left if each of them may still start.
 pub record HasProgress (rs : List Record) (states : List RequestState) (done left : List Bool) : Type 0 where
@@ -89,7 +123,7 @@ IsFresh rs states part = (i : ℕ) → i < length rs → is_kept rs part i ≡ t
 -- what a request of the part needs is in the part, or of a unit whose requests have all succeeded
 abbrev pub NeedsMet : List Record → List RequestState → List Bool → Type 0
 NeedsMet rs states part = (i : ℕ) (need : Need) → i < length rs → is_kept rs part i ≡ true → Contains (needs_at rs i) need
-    → (marked part (unit_needed rs need) ≡ true) ⊎ IsWhole rs (λ j. has_succeeded (state_at states j)) (unit_needed rs need)
+    → (marked part (unit_needed (unit_at rs) need) ≡ true) ⊎ IsWhole rs (λ j. has_succeeded (state_at states j)) (unit_needed (unit_at rs) need)
 
 -- no unit has more requests than the limit
 abbrev pub HasNoLonger : List Record → ℕ → Type 0
@@ -101,7 +135,3 @@ position_in rs part i = if is_kept rs part i then i ∷ [] else []
 
 abbrev pub positions_in : List Record → List Bool → List ℕ
 positions_in rs part = joined_below (length rs) (position_in rs part)
-
--- a request is in the part
-abbrev pub HasSome : List Record → List Bool → Type 0
-HasSome rs part = (i : ℕ) × (i < length rs) × (is_kept rs part i ≡ true)

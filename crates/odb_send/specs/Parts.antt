@@ -1,7 +1,7 @@
 -- What is to be sent of each request of a batch (OData JSON Format 4.01, section 19.1): where its parts lie in a text, and
 -- where its body lies in the document.
-use Rattle.std.specs.Prelude.{◌≡◌, ◌+◌, ℕ, List, ◌++◌, length, map, Option, Some, None, option_and_then, ⊤, string_bytes}
-use Rattle.std.specs.List.{AllZip}
+use Rattle.std.specs.Prelude.{◌≡◌, ◌+◌, ℕ, List, [], ◌∷◌, ◌++◌, length, map, Option, Some, None, option_and_then, ⊤, string_bytes}
+use Rattle.std.specs.List.{AllZip, filter_map}
 use Rattle.serde_json.specs.Data.{Data, object}
 use Rattle.serde_json.specs.Written.{compact_text}
 use Rattle.odb_names.specs.Methods.{http_name}
@@ -10,7 +10,10 @@ use Rattle.odb_doc.specs.canonical.Canonical.{header_members}
 use Rattle.odb_doc.specs.batch.Records.{Record, IsBatchOf}
 use Rattle.odb_doc.specs.batch.Shapes.{elements}
 use Rattle.odb_doc.specs.batch.UrlRests.{url_rest}
+use Rattle.odb_check.specs.Needs.{further_names, need_of}
+use Rattle.odb_check.specs.Texts.{further_text, need_name}
 use Rattle.odb_check.specs.Units.{position_of}
+use Rattle.odb_check.specs.declared.need.Need.{Need}
 use Rattle.odb_spans.specs.Spans.{EachSpan, HasBodyAt, IsPlaceOfBody}
 use Rattle.odb_spans.specs.declared.span.Span.{Span}
 use Rattle.odb_send.specs.declared.parts.RequestParts.{RequestParts}
@@ -35,6 +38,15 @@ HasPartIf text (Some part) (Some span) = HasPart text part span
 abbrev pub headers_text : Record → List ℕ
 headers_text r = compact_text (object (header_members r.headers))
 
+-- what a request of the batch depends on: the names in `dependsOn`, and then the reference unless it is among them
+abbrev pub needs_of : List Record → Record → List Need
+needs_of batch r = filter_map (need_of batch) (r.names ++ further_names r.names r.reference)
+
+-- their ids and groups, with commas between them
+abbrev pub needs_text : List Record → List Need → List ℕ
+needs_text batch [] = []
+needs_text batch (need ∷ needs) = need_name batch need ++ further_text batch needs
+
 -- where the parts of a request of the batch lie in the text
 pub record HasParts (batch : List Record) (text : List ℕ) (r : Record) (parts : RequestParts) : Type 0 where
   pub id : HasPart text r.id parts.id
@@ -44,6 +56,7 @@ pub record HasParts (batch : List Record) (text : List ℕ) (r : Record) (parts 
   pub reference : parts.reference ≡ option_and_then (position_of batch) r.reference
   pub headers : HasPart text (headers_text r) parts.headers
   pub group : HasPartIf text r.group parts.group
+  pub needs : HasPart text (needs_text batch (needs_of batch r)) parts.needs
 
 -- where the bodies lie
 abbrev pub bodies_of : List RequestParts → List (Option Span)

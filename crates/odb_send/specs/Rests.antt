@@ -1,7 +1,8 @@
 -- The rest of a batch: the requests of the units that are in it, as a batch of their own (OData JSON Format 4.01, sections
 -- 19.1 and 19.2).
-use Rattle.std.specs.Prelude.{◌≡◌, ◌+◌, ◌++◌, ◌<◌, ℕ, Bool, true, false, List, [], ◌∷◌, length, map, Option, Some, None, option_map, slice_get, if◌then◌else◌, String, string_bytes}
+use Rattle.std.specs.Prelude.{◌≡◌, ◌≢◌, ◌+◌, ◌++◌, ◌<◌, ℕ, Bool, true, false, List, [], ◌∷◌, length, map, Option, Some, None, option_map, slice_get, if◌then◌else◌, String, string_bytes}
 use Rattle.std.specs.declared.alloc.Global.{Global}
+use Rattle.odb_check.specs.PlanGraph.{unit_needed}
 use Rattle.odb_send.specs.declared.rest.Rest.{Rest}
 use Rattle.std.specs.List.{filter}
 use Rattle.odb_names.specs.Fronts.{HasFront, plain}
@@ -11,7 +12,7 @@ use Rattle.odb_check.specs.declared.need.Need.{Need}
 use Rattle.odb_check.specs.Needs.{need_of}
 use Rattle.odb_check.specs.Units.{referred_at, unit_at}
 use Rattle.odb_reply.specs.BodyTexts.{text_at}
-use Rattle.odb_send.specs.Units.{AreMarksOf, IsInRest, marked, unit_needed}
+use Rattle.odb_send.specs.Units.{AreMarksOf, IsInRest, marked}
 
 -- whether the request at a position is in the rest, by the marks of the units
 abbrev pub is_kept : List Record → List Bool → ℕ → Bool
@@ -20,7 +21,7 @@ is_kept rs kept i = marked kept (unit_at rs i)
 -- whether what a name resolves to is in the rest
 abbrev pub is_kept_need : List Record → List Bool → Option Need → Bool
 is_kept_need rs kept None = false
-is_kept_need rs kept (Some need) = marked kept (unit_needed rs need)
+is_kept_need rs kept (Some need) = marked kept (unit_needed (unit_at rs) need)
 
 abbrev pub is_kept_name : List Record → List Bool → List ℕ → Bool
 is_kept_name rs kept name = is_kept_need rs kept (need_of rs name)
@@ -42,7 +43,7 @@ pub record IsJoined (location url made : List ℕ) : Type 0 where
   pub is : made ≡ location ++ rest
 
 -- The request at i gets this URL in the rest, by the Locations of the requests: that of the request that it refers to, and
--- what follows the first segment of its own URL.
+-- what follows the first segment of its own URL. An empty Location is as none (RFC 9110, section 10.2.2).
 pub record Moves (rs : List Record) (kept : List Bool) (locations : ℕ → Option (List ℕ)) (i : ℕ) (url : List ℕ) : Type 0 where
   pub position : ℕ
   pub leaves : Leaves rs kept i position
@@ -50,6 +51,7 @@ pub record Moves (rs : List Record) (kept : List Bool) (locations : ℕ → Opti
   pub is : slice_get rs i ≡ Some request
   pub location : List ℕ
   pub recorded : locations position ≡ Some location
+  pub filled : location ≢ []
   pub joined : IsJoined location request.url url
   pub plain : IsPlain url
 

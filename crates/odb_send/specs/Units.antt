@@ -4,24 +4,23 @@ use Rattle.std.specs.Prelude.{◌≡◌, ◌↔◌, ◌<◌, ℕ, Bool, true, fa
 use Rattle.odb_doc.specs.Statuses.{is_success}
 use Rattle.odb_doc.specs.batch.Records.{Record}
 use Rattle.odb_check.specs.declared.need.Need.{Need}
-use Rattle.odb_check.specs.declared.need.Need.TheVariants.{One, Group}
 use Rattle.odb_check.specs.Needs.{needs_at}
+use Rattle.odb_check.specs.PlanGraph.{unit_needed}
 use Rattle.odb_check.specs.Units.{unit_at, unit_count}
 use Rattle.odb_send.specs.Repeats.{may_repeat_at}
 
+-- each request of the unit passes a test
+abbrev pub IsWhole : List Record → (ℕ → Bool) → ℕ → Type 0
+IsWhole rs test u = (i : ℕ) → i < length rs → unit_at rs i ≡ u → test i ≡ true
+
 -- a unit is done if all its requests were answered with 200 to 299
 abbrev pub IsDone : List Record → List ℕ → ℕ → Type 0
-IsDone rs statuses u = (i : ℕ) → i < length rs → unit_at rs i ≡ u → is_success (slice_index statuses i) ≡ true
-
--- the unit of what is needed
-abbrev pub unit_needed : List Record → Need → ℕ
-unit_needed rs (One r) = unit_at rs r
-unit_needed rs (Group u) = u
+IsDone rs statuses = IsWhole rs (λ i. is_success (slice_index statuses i))
 
 -- A unit is barred, unless it is exempt, if one of its requests fails a test, or needs something of a unit that is barred.
 pub data IsBarred (rs : List Record) (exempt test : ℕ → Bool) : ℕ → Type 0 where
   own : (i : ℕ) → i < length rs → exempt (unit_at rs i) ≡ false → test i ≡ false → IsBarred rs exempt test (unit_at rs i)
-  needing : (i : ℕ) (need : Need) → i < length rs → exempt (unit_at rs i) ≡ false → Contains (needs_at rs i) need → IsBarred rs exempt test (unit_needed rs need) → IsBarred rs exempt test (unit_at rs i)
+  needing : (i : ℕ) (need : Need) → i < length rs → exempt (unit_at rs i) ≡ false → Contains (needs_at rs i) need → IsBarred rs exempt test (unit_needed (unit_at rs) need) → IsBarred rs exempt test (unit_at rs i)
 
 -- a unit is left out if one of its requests may not be sent again, or needs something of a unit that is left out
 abbrev pub IsLeftOut : List Record → List ℕ → ℕ → Type 0

@@ -18,7 +18,7 @@ ghost use Rattle.odb_sched.specs.declared.states.RequestState.{RequestState};
 ghost use Rattle.odb_send.specs.declared.rest.Rest.{Rest};
 ghost use Rattle.odb_send.specs.Faults.{RefusesRest, RestFault, rest_row};
 ghost use Rattle.odb_send.specs.Laws.{HasSucceeded, IsPartOfPlan, MayBeSent, with_rest};
-ghost use Rattle.odb_send.specs.NextPart.{HasNoLonger, HasSome, IsFresh, IsNextPart, IsPartAfter, MayGo, NeedsMet};
+ghost use Rattle.odb_send.specs.NextPart.{HasNoLonger, HasSome, IsFresh, IsNextPart, IsPartAfter, IsPartOf, MayGo, NeedsMet};
 ghost use Rattle.odb_send.specs.Rests.{IsRestOf, kept, records_in};
 ghost use Rattle.odb_send.specs.Texts.{IsTextOf};
 ghost use Rattle.odb_send.specs.Units.{AreMarksOf, IsDone, IsInRest, IsLeftOut};
@@ -122,8 +122,9 @@ pub fn every_part()
     ensures limit { (batch : List Record) (states : List RequestState) (limit : ℕ)
         (locations : ℕ → Option (List ℕ)) (part : Rest) → IsPartAfter batch states limit locations part
         → length (records_in batch part) ≤ limit }
-    ensures some { (batch : List Record) (done left : List Bool) (limit : ℕ) (part : List Bool)
-        → IsNextPart batch done left limit part → HasNoLonger batch limit
+    ensures some { (batch : List Record) (done left : List Bool) (limit : ℕ)
+        (locations : ℕ → Option (List ℕ)) (part : List Bool)
+        → IsNextPart batch done left limit locations part → HasNoLonger batch limit
         → (u : ℕ) → MayGo batch done left u → HasSome batch part }
     ensures accepted { (batch : List Record) (states : List RequestState) (limit : ℕ)
         (locations : ℕ → Option (List ℕ)) (part : Rest) → HasGoodNames batch
@@ -136,9 +137,10 @@ pub fn every_part()
         (limit : ℕ) (locations : ℕ → Option (List ℕ)) (part : Rest) (text : List ℕ)
         → IsBatchIn document d batch → IsWellShaped d → IsPartAfter batch states limit locations part
         → IsTextOf document d batch part text → IsDocumentOf text (records_in batch part) }
-    ensures rest { (batch : List Record) (statuses : List ℕ) (done rest : List Bool) → HasGoodNames batch
-        → AreMarksOf batch (IsDone batch statuses) done → AreMarksOf batch (IsInRest batch statuses) rest
-        → IsNextPart batch done rest (length batch) rest }
+    ensures rest { (batch : List Record) (statuses : List ℕ) (locations : ℕ → Option (List ℕ))
+        (done : List Bool) (rest : Rest) → HasGoodNames batch
+        → AreMarksOf batch (IsDone batch statuses) done → IsRestOf batch statuses locations rest
+        → IsPartOf batch done (kept rest) (length batch) locations rest }
 {
     odb_names::laws::one_reading();
 }

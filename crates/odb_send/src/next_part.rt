@@ -1,17 +1,21 @@
 //! The next part of a batch: requests that may be sent together as a batch of their own.
 
 ghost use Rattle.std.specs.Prelude.{◌≡◌, ◌<◌, ◌↔◌, ℕ, List, Bool, All, length, IsTrue, IfOk, IfErr};
+ghost use Rattle.std.specs.List.{list_any};
+ghost use Rattle.odb_check.specs.Firsts.{list_below};
 ghost use Rattle.odb_check.specs.Plans.{plan_records};
 ghost use Rattle.odb_check.specs.Units as all;
+ghost use Rattle.odb_doc.specs.declared.rule_fault.RuleFault.TheVariants as faults;
 ghost use Rattle.odb_reply.specs.BodyTexts.{text_at};
+ghost use Rattle.odb_send.specs.declared.fault.RestRule.TheVariants.{NoLocation};
 ghost use Rattle.odb_send.specs.Faults.{RefusesRest};
 ghost use Rattle.odb_send.specs.Locations.{texts_of};
-ghost use Rattle.odb_send.specs.Marks.{waits_at};
+ghost use Rattle.odb_send.specs.Marks.{IsCutPart, marked_before, waits_at};
 ghost use Rattle.odb_send.specs.NextPart as parts;
 ghost use Rattle.odb_send.specs.Rests.{kept};
 ghost use Rattle.odb_send.specs.Units.{AreMarksOf};
 
-use crate::fault::RestFault;
+use crate::fault::{RestFault, RestRule};
 use crate::progress::{starting_units, succeeded_units};
 use crate::rest::{Rest, urls_of};
 use crate::units::needs_marked;
@@ -55,8 +59,8 @@ fn waiting_units(
     Ok(units)
 }
 
-/// Returns the units of the next part of a batch, which have at most `limit` requests together.
-fn next_units(
+/// Returns the units that fit into the next part of a batch, which have at most `limit` requests together.
+fn fitting_units(
     alloc: Global,
     plan: &Plan<'_>,
     done: &[bool],
@@ -65,7 +69,7 @@ fn next_units(
 ) -> Result<Vec<bool>, AllocError>
     requires done { length done.now ≡ all.unit_count (plan_records plan.now) }
     requires left { length left.now ≡ all.unit_count (plan_records plan.now) }
-    ensures { IfOk result (λ units. parts.IsNextPart (plan_records plan.now) done.now left.now limit
+    ensures { IfOk result (λ units. parts.AreFitting (plan_records plan.now) done.now left.now limit
         units.items) }
 {
     odb_check::laws::every_plan(plan);
@@ -86,6 +90,91 @@ fn next_units(
     Ok(units)
 }
 
+/// Returns whether a unit has a mark and comes before unit `end`.
+fn is_marked_before(units: &[bool], end: usize, u: usize) -> bool
+    requires { u < length units.now }
+    ensures { result ≡ marked_before units.now end u }
+{
+    u < end && units[u]
+}
+
+/// Returns the marks of the units before unit `end`.
+fn units_before(alloc: Global, units: &[bool], end: usize) -> Result<Vec<bool>, AllocError>
+    ensures { IfOk result (λ kept. kept.items
+        ≡ list_below (length units.now) (marked_before units.now end)) }
+{
+    let mut kept = Vec::with_capacity(alloc, units.len())?;
+    for u in 0..units.len() {
+        kept.push(is_marked_before(units, end, u))?;
+    }
+    Ok(kept)
+}
+
+/// Returns whether a unit has a mark.
+fn has_unit(units: &[bool]) -> bool
+    ensures { result ≡ list_any (λ mark. mark) units.now }
+{
+    units.iter().any(|mark| *mark)
+}
+
+/// Returns the part of the units that fit before that of request `at`, the first that lacks a Location; F90 if there are none.
+fn part_before(
+    alloc: Global,
+    plan: &Plan<'_>,
+    fitting: &[bool],
+    locations: &[Option<&str>],
+    at: usize,
+) -> Result<Rest, RestFault>
+    requires count { length fitting.now ≡ all.unit_count (plan_records plan.now) }
+    requires locations { length locations.now ≡ length (plan_records plan.now) }
+    requires lacks { RefusesRest (faults.Broken at NoLocation) (plan_records plan.now) fitting.now
+        (text_at (texts_of locations.now)) }
+    ensures part { IfOk result (IsCutPart (plan_records plan.now) fitting.now
+        (text_at (texts_of locations.now))) }
+    ensures least { IfErr result (λ fault. parts.RefusesPart fault (plan_records plan.now) fitting.now
+        (text_at (texts_of locations.now))) }
+{
+    odb_check::laws::every_plan(plan);
+    let kept = units_before(alloc, fitting, plan.unit_of(at as u32) as usize)?;
+    if !has_unit(&kept) {
+        return Err(RestFault::Broken {
+            at,
+            rule: RestRule::NoLocation,
+        });
+    }
+    let urls = urls_of(alloc, plan, &kept, locations)?;
+    Ok(Rest { kept, urls })
+}
+
+/// Returns the part of the units that fit, up to the first that lacks a Location; F90 if that is the first of all.
+fn placed_part(
+    alloc: Global,
+    plan: &Plan<'_>,
+    fitting: Vec<bool>,
+    locations: &[Option<&str>],
+) -> Result<Rest, RestFault>
+    requires count { length fitting.items ≡ all.unit_count (plan_records plan.now) }
+    requires locations { length locations.now ≡ length (plan_records plan.now) }
+    ensures part { IfOk result (IsCutPart (plan_records plan.now) fitting.items
+        (text_at (texts_of locations.now))) }
+    ensures least { IfErr result (λ fault. parts.RefusesPart fault (plan_records plan.now) fitting.items
+        (text_at (texts_of locations.now))) }
+{
+    match urls_of(alloc, plan, &fitting, locations) {
+        Ok(urls) => Ok(Rest {
+            kept: fitting,
+            urls,
+        }),
+        Err(
+            RestFault::Broken {
+                at,
+                rule: RestRule::NoLocation,
+            },
+        ) => part_before(alloc, plan, &fitting, locations, at),
+        Err(RestFault::OutOfMemory) => Err(RestFault::OutOfMemory),
+    }
+}
+
 /// Returns the next part of a batch, by which of its units are done and which are left.
 fn part_by(
     alloc: Global,
@@ -100,13 +189,12 @@ fn part_by(
     requires locations { length locations.now ≡ length (plan_records plan.now) }
     ensures part { IfOk result (parts.IsPartOf (plan_records plan.now) done.now left.now limit
         (text_at (texts_of locations.now))) }
-    ensures least { IfErr result (λ fault. (units : List Bool)
-        → parts.IsNextPart (plan_records plan.now) done.now left.now limit units
-        → RefusesRest fault (plan_records plan.now) units (text_at (texts_of locations.now))) }
+    ensures least { IfErr result (λ fault. (fitting : List Bool)
+        → parts.AreFitting (plan_records plan.now) done.now left.now limit fitting
+        → parts.RefusesPart fault (plan_records plan.now) fitting (text_at (texts_of locations.now))) }
 {
-    let kept = next_units(alloc, plan, done, left, limit)?;
-    let urls = urls_of(alloc, plan, &kept, locations)?;
-    Ok(Rest { kept, urls })
+    let fitting = fitting_units(alloc, plan, done, left, limit)?;
+    placed_part(alloc, plan, fitting, locations)
 }
 
 /// Returns the next part of a batch on its way: requests that may be sent together as a batch of their own (OData JSON
@@ -116,18 +204,20 @@ fn part_by(
 /// Location of each, if it is known. A unit is an atomicity group or a request without one. It is done if all its
 /// requests have succeeded, and left if each of them may still start. It has to wait if it is neither, or if one of its
 /// requests needs something of a unit that has to wait. The part has the units that are left and need not wait, in the
-/// order of the batch, up to the first that does not fit any more. So what its requests need is done, or in the part.
+/// order of the batch, up to the first that does not fit any more or lacks a Location. So what its requests need is done,
+/// or in the part.
 ///
 /// A URL that refers to a request that is not in the part becomes the Location of that request, and what follows the
-/// first segment of the URL.
+/// first segment of the URL. A unit lacks a Location if one of its requests has such a URL, and no Location makes a URL of
+/// it that refers to no request and names no batch.
 ///
 /// Takes O(requests + dependencies) and the length of the URLs that change. Allocates marks of units and requests, and
 /// these URLs.
 ///
 /// # Errors
 ///
-/// F90 at the first request of the part whose URL refers to a request that is not in the part, if no Location makes a
-/// URL of it that refers to no request and names no batch. `OutOfMemory` if an allocation fails.
+/// F90 if the first unit that may be sent lacks a Location, at its first request that does. `OutOfMemory` if an allocation
+/// fails.
 pub fn part_of(
     alloc: Global,
     plan: &Plan<'_>,
@@ -139,10 +229,10 @@ pub fn part_of(
     requires locations { length locations.now ≡ length (plan_records plan.now) }
     ensures part { IfOk result (parts.IsPartAfter (plan_records plan.now) states.now limit
         (text_at (texts_of locations.now))) }
-    ensures least { IfErr result (λ fault. (done left units : List Bool)
+    ensures least { IfErr result (λ fault. (done left fitting : List Bool)
         → parts.HasProgress (plan_records plan.now) states.now done left
-        → parts.IsNextPart (plan_records plan.now) done left limit units
-        → RefusesRest fault (plan_records plan.now) units (text_at (texts_of locations.now))) }
+        → parts.AreFitting (plan_records plan.now) done left limit fitting
+        → parts.RefusesPart fault (plan_records plan.now) fitting (text_at (texts_of locations.now))) }
 {
     let done = succeeded_units(alloc, plan, states)?;
     let left = starting_units(alloc, plan, states)?;

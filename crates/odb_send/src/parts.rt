@@ -1,14 +1,17 @@
 //! The parts of one request.
 
-ghost use Rattle.std.specs.Prelude.{◌≡◌, ◌≤◌, ◌<◌, ℕ, List, length, slice_get, Some, IfOk, OnOk, string_bytes};
+ghost use Rattle.std.specs.Prelude.{◌≡◌, ◌≤◌, ◌<◌, ◌++◌, ℕ, List, All, length, slice_get, Some, IfOk, OnOk, string_bytes};
 ghost use Rattle.odb_doc.specs.batch.Records.{Record, record_of};
-ghost use Rattle.odb_check.specs.Plans.{plan_records};
+ghost use Rattle.odb_check.specs.Needs.{needs_at};
+ghost use Rattle.odb_check.specs.PlanGraph.{IsNeed};
+ghost use Rattle.odb_check.specs.Plans.{plan_records, plan_graph};
+ghost use Rattle.odb_check.specs.Texts.{further_text};
 ghost use Rattle.odb_doc.specs.batch.UrlRests.{url_rest};
-ghost use Rattle.odb_send.specs.Parts.{HasPart, HasParts, headers_text};
+ghost use Rattle.odb_send.specs.Parts.{HasPart, HasParts, headers_text, needs_text};
 ghost use Rattle.odb_send.specs.Pieces.{Extends};
 
 use crate::piece::{push_part, push_part_if};
-use odb_check::Plan;
+use odb_check::{Need, Plan};
 use odb_doc::Request;
 use odb_spans::Span;
 use std::alloc::{AllocError, Global};
@@ -32,6 +35,8 @@ pub struct RequestParts {
     pub headers: Span,
     /// The atomicity group, if the request is in one.
     pub group: Option<Span>,
+    /// The ids and groups that the request depends on, with commas between them, in the order of the plan.
+    pub needs: Span,
     /// The body in the document, if there is one. `null` is treated as absent.
     pub body: Option<Span>,
 }
@@ -48,6 +53,50 @@ fn push_headers_part(
 {
     let start = text.len();
     request.push_headers(alloc, text)?;
+    Ok(Span {
+        start,
+        end: text.len(),
+    })
+}
+
+/// Appends names of dependencies, each after a comma.
+fn push_further(text: &mut String, plan: &Plan<'_>, needs: &[Need]) -> Result<(), AllocError>
+    requires { All (IsNeed (plan_graph plan.now)) needs.now }
+    ensures { OnOk result (string_bytes text.new
+        ≡ string_bytes text.old ++ further_text (plan_records plan.now) needs.now) }
+{
+    for need in needs {
+        text.push_str(",")?;
+        text.push_str(plan.name_of(*need))?;
+    }
+    Ok(())
+}
+
+/// Appends names of dependencies with commas between them.
+fn push_names(text: &mut String, plan: &Plan<'_>, needs: &[Need]) -> Result<(), AllocError>
+    requires { All (IsNeed (plan_graph plan.now)) needs.now }
+    ensures { OnOk result (string_bytes text.new
+        ≡ string_bytes text.old ++ needs_text (plan_records plan.now) needs.now) }
+{
+    match needs {
+        [] => Ok(()),
+        [first, further @ ..] => {
+            text.push_str(plan.name_of(*first))?;
+            push_further(text, plan, further)
+        }
+    }
+}
+
+/// Appends the names of the dependencies of request `i`, and returns where they lie.
+fn push_needs_part(text: &mut String, plan: &Plan<'_>, i: u32) -> Result<Span, AllocError>
+    requires { i < length (plan_records plan.now) }
+    ensures text { OnOk result (Extends (string_bytes text.old) (string_bytes text.new)) }
+    ensures part { IfOk result (HasPart (string_bytes text.new)
+        (needs_text (plan_records plan.now) (needs_at (plan_records plan.now) i))) }
+{
+    let _count = plan.len();
+    let start = text.len();
+    push_names(text, plan, plan.needs(i))?;
     Ok(Span {
         start,
         end: text.len(),
@@ -86,6 +135,7 @@ pub(crate) fn push_request(
     let url = push_part(text, request.url)?;
     let headers = push_headers_part(alloc, text, request)?;
     let group = push_part_if(text, request.group)?;
+    let needs = push_needs_part(text, plan, i)?;
     Ok(RequestParts {
         id,
         method,
@@ -94,6 +144,7 @@ pub(crate) fn push_request(
         reference: plan.referred(i),
         headers,
         group,
+        needs,
         body,
     })
 }

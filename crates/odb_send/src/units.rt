@@ -4,10 +4,11 @@ ghost use Rattle.std.specs.Prelude.{◌≡◌, ◌<◌, length, IfOk};
 ghost use Rattle.std.specs.List.{list_any};
 ghost use Rattle.odb_check.specs.Needs.{needs_at};
 ghost use Rattle.odb_check.specs.Plans.{plan_records};
-ghost use Rattle.odb_check.specs.PlanGraph.{IsNeedAmong};
+ghost use Rattle.odb_check.specs.PlanGraph.{IsNeedAmong, unit_needed};
+ghost use Rattle.odb_check.specs.Units.{unit_at};
 ghost use Rattle.odb_check.specs.Units as all;
 ghost use Rattle.odb_reply.specs.Fits.{statuses};
-ghost use Rattle.odb_send.specs.Units.{AreMarksOf, IsInRest, IsLeftOut, marked, unit_needed};
+ghost use Rattle.odb_send.specs.Units.{AreMarksOf, IsInRest, IsLeftOut, marked};
 
 use crate::repeat::may_repeat;
 use odb_check::{Need, Plan};
@@ -18,7 +19,7 @@ use std::alloc::{AllocError, Global};
 pub(crate) fn is_marked(plan: &Plan<'_>, units: &[bool], need: Need) -> bool
     requires need { IsNeedAmong (length (plan_records plan.now)) (all.unit_count (plan_records plan.now)) need }
     requires count { length units.now ≡ all.unit_count (plan_records plan.now) }
-    ensures { result ≡ marked units.now (unit_needed (plan_records plan.now) need) }
+    ensures { result ≡ marked units.now (unit_needed (unit_at (plan_records plan.now)) need) }
 {
     match need {
         Need::One(r) => units[plan.unit_of(r) as usize],
@@ -30,7 +31,7 @@ pub(crate) fn is_marked(plan: &Plan<'_>, units: &[bool], need: Need) -> bool
 pub(crate) fn needs_marked(plan: &Plan<'_>, units: &[bool], i: u32) -> bool
     requires request { i < length (plan_records plan.now) }
     requires count { length units.now ≡ all.unit_count (plan_records plan.now) }
-    ensures { result ≡ list_any (λ need. marked units.now (unit_needed (plan_records plan.now) need))
+    ensures { result ≡ list_any (λ need. marked units.now (unit_needed (unit_at (plan_records plan.now)) need))
         (needs_at (plan_records plan.now) i) }
 {
     odb_check::laws::every_plan(plan);
@@ -69,6 +70,7 @@ pub(crate) fn kept_units(
     ensures { IfOk result (λ units. AreMarksOf (plan_records plan.now)
         (IsInRest (plan_records plan.now) (statuses table.now)) units.items) }
 {
+    odb_check::laws::every_plan(plan);
     let done = table.succeeded_units(alloc, plan)?;
     let left_out = left_out_units(alloc, plan, table)?;
     let mut kept = Vec::with_capacity(alloc, done.len())?;

@@ -1,6 +1,6 @@
 //! The URLs of requests whose URL refers to a request that is not in the rest.
 
-ghost use Rattle.std.specs.Prelude.{◌≡◌, ◌<◌, ◌↔◌, ℕ, length, Err, IsTrue, IfOk, IfErr, MatchOption, None, option_map, string_bytes};
+ghost use Rattle.std.specs.Prelude.{◌≡◌, ◌≢◌, ◌<◌, ◌↔◌, ℕ, [], length, Err, IsTrue, IfOk, IfErr, MatchOption, None, option_map, string_bytes};
 ghost use Rattle.odb_reply.specs.BodyTexts.{text_at};
 ghost use Rattle.odb_send.specs.Locations.{texts_of};
 ghost use Rattle.odb_send.specs.Marks.{IsLacking};
@@ -34,6 +34,16 @@ fn is_plain(alloc: Global, url: &str) -> Result<bool, AllocError>
         Front::Plain => Ok(!is_nested_batch(alloc, url)?),
         _ => Ok(false),
     }
+}
+
+/// Returns whether a Location, which is not empty, makes a URL that refers to no request, reserves no name, and names no batch.
+fn is_usable(alloc: Global, location: &str, made: &str) -> Result<bool, AllocError>
+    ensures { IfOk result (λ usable. IsTrue usable ↔ ((location.now ≢ []) × rests.IsPlain made.now)) }
+{
+    if location.is_empty() {
+        return Ok(false);
+    }
+    is_plain(alloc, made)
 }
 
 /// Returns whether the request at a position is in the rest.
@@ -93,7 +103,7 @@ pub(crate) fn url_of(
         });
     };
     let made = joined(alloc, location, plan.request(i).url)?;
-    if is_plain(alloc, made.as_str())? {
+    if is_usable(alloc, location, made.as_str())? {
         Ok(Some(made))
     } else {
         Err(RestFault::Broken {

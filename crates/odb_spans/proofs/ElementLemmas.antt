@@ -1,14 +1,17 @@
 -- The document with a literal in the place of an element is read with its value there, and the other elements as they were.
-use Rattle.std.proofs.Common.{◌≡◌, ℕ, List, [], ◌++◌, Option, Some, None, subst, arith}
+use Rattle.std.proofs.Common.{◌≡◌, ℕ, List, [], ◌++◌, take, Option, Some, None, subst, arith}
 use Rattle.std.specs.Prelude.{IsUtf8}
 use Rattle.json.specs.Json as json
+use Rattle.json.specs.Lex.{between}
 use Rattle.json.specs.Tree.{members_tokens}
 use Rattle.serde_json.specs.Data.{Data}
 use Rattle.odb_spans.specs.Parts.{HoldsInArray, IsMemberOf, LiesAt, LiesInMemberSome}
 use Rattle.odb_spans.specs.Positions.{HoldsWith, IsPlaceOfElement}
 use Rattle.odb_spans.specs.declared.span.Span.{Span}
 use Rattle.odb_spans.proofs.ArrayLemmas.{has-item}
-use Rattle.odb_spans.proofs.FillLemmas.{Literal, begins-well-items, null_literal, replaced-json, true_literal}
+use Rattle.odb_spans.proofs.EndLemmas.{ends-solid}
+use Rattle.odb_spans.proofs.FillLemmas.{Literal, begins-solid, begins-well-items, ends-within, null_literal, replaced-json, true_literal}
+use Rattle.odb_spans.proofs.FrontLemmas.{lex-front}
 use Rattle.odb_spans.proofs.ReadLemmas.{IsTreeOf}
 
 module _ (text : List ℕ) (d : Data) (at : ℕ) (span : Span) (name : List ℕ) (ms : json.Members) (value : json.Json) (top : IsTreeOf text d) (is : top.tree ≡ json.object ms) (utf8 : IsUtf8 text)
@@ -25,7 +28,15 @@ module _ (text : List ℕ) (d : Data) (at : ℕ) (span : Span) (name : List ℕ)
       }
 
   is-place : IsPlaceOfElement text d name at span
-  is-place = record { with_null = holds null_literal; with_true = holds true_literal }
+  is-place =
+      let held = m.holds.holds in
+      let next = begins-well-items held.later (members_tokens m.later ++ []) in
+      record {
+        with_null = holds null_literal;
+        with_true = holds true_literal;
+        cut = λ more. lex-front between (take span.start text) more held.holds.clear;
+        last = ends-solid text span.start span.end (begins-solid text d span held.item _ held.holds next utf8) held.holds.extent held.holds.some (ends-within text d span held.item _ held.holds next utf8);
+      }
 
 -- the span is where the element lies
 pub is-element-place : (text : List ℕ) (d : Data) (at : ℕ) (span : Span) (name : List ℕ) (found : Option Span) (top : IsTreeOf text d) → IsUtf8 text → found ≡ Some span → LiesInMemberSome text found name at top.tree → IsPlaceOfElement text d name at span

@@ -1,5 +1,5 @@
 -- The last byte of a value is not blank.
-use Rattle.std.proofs.Common.{◌≡◌, ◌∙◌, ℕ, zero, suc, ◌+◌, ◌-◌, ◌<◌, Bool, true, false, cond, ◌==◌, List, [], ◌∷◌, length, drop, get_or, refl, sym, ap, arith}
+use Rattle.std.proofs.Common.{◌≡◌, ◌∙◌, ℕ, zero, suc, ◌+◌, ◌-◌, ◌<◌, Bool, true, false, cond, ◌==◌, List, [], ◌∷◌, length, drop, get_or, ◌⊎◌, inl, inr, refl, sym, ap, arith}
 use Rattle.std.specs.Prelude.{⊤}
 use Rattle.std.proofs.lemmas.Bool.{true≢false, eqb-true}
 use Rattle.std.proofs.lemmas.Bool.Decides.{nat_tests}
@@ -76,6 +76,32 @@ operator-apart x h = grind (arith, nat_tests)
 
 pub solid-byte : (x : ℕ) → is_blank (class x) ≡ false → is_space x ≡ false
 solid-byte x h = not-space (x == 34) (x == 92) (is_operator x) (is_space x) (λ e. ap is_space (eqb-true x 34 e)) (λ e. ap is_space (eqb-true x 92 e)) (operator-apart x) h
+
+is-space : (q b o s : Bool) → is_blank (cond q quote (cond b backslash (cond o operator (cond s space other)))) ≡ true → s ≡ true
+is-space true b o s e = absurd (true≢false (sym e))
+is-space false true o s e = absurd (true≢false (sym e))
+is-space false false true s e = absurd (true≢false (sym e))
+is-space false false false true e = refl
+is-space false false false false e = absurd (true≢false (sym e))
+
+pub space-byte : (x : ℕ) → is_blank (class x) ≡ true → is_space x ≡ true
+space-byte x e = is-space (x == 34) (x == 92) (is_operator x) (is_space x) e
+
+-- the bytes up to a blank are blanks, if those before it are
+pub blanks-through : (text : List ℕ) (end : ℕ) → is_space (get_or text end 0) ≡ true → (k : ℕ) → k < end + 1 → (k < end → is_space (get_or text k 0) ≡ true) → is_space (get_or text k 0) ≡ true
+blanks-through text end here k before earlier = elim (last-or-before k end (omega (arith, before))) [
+  | inl e ↦ ap (λ n. is_space (get_or text n 0)) e ∙ here
+  | inr less ↦ earlier less
+]
+  where
+    last-or-before : (k n : ℕ) → k < suc n → (k ≡ n) ⊎ (k < n)
+    last-or-before zero zero less = inl refl
+    last-or-before zero (suc n) less = inr (omega arith)
+    last-or-before (suc k) zero less = absurd (omega (arith, less))
+    last-or-before (suc k) (suc n) less = elim (last-or-before k n (omega (arith, less))) [
+      | inl e ↦ inl (ap suc e)
+      | inr fewer ↦ inr (omega (arith, fewer))
+    ]
 
 pub ends-solid : (text : List ℕ) (at end : ℕ) → is_blank (class (get_or text at 0)) ≡ false → end ≡ at + value_extent (drop at text) → at < end → end < length text → is_space (get_or text (end - 1) 0) ≡ false
 ends-solid text at end solid extent some within =

@@ -1,4 +1,4 @@
--- Where the elements begin whose spans were found.
+-- Where the elements lie whose spans were found.
 use Rattle.std.proofs.Common.{◌≡◌, ◌<◌, ◌+◌, ◌++◌, ℕ, List, [], ◌∷◌, length, take, get_or, slice_get, Some, None, sym, subst}
 use Rattle.std.specs.List.{AllZip}
 use Rattle.std.proofs.lemmas.List.{take_more}
@@ -8,31 +8,31 @@ use Rattle.odb_doc.specs.Documents.{IsJson}
 use Rattle.odb_doc.specs.Members.{elements_at}
 use Rattle.odb_doc.specs.declared.refusal.Refusal.{Refusal}
 use Rattle.odb_spans.specs.Parts.{FindsElements, items_in}
-use Rattle.odb_spans.specs.Positions.{BeginsIn, Stands}
+use Rattle.odb_spans.specs.Positions.{IsWhole, LiesIn, Stands}
 use Rattle.odb_spans.specs.Walks.{IsStart}
 use Rattle.odb_spans.specs.declared.position.Position.{Position}
 use Rattle.odb_spans.specs.declared.span.Span.{Span}
 use Rattle.odb_spans.proofs.DataLemmas.{elements-read}
 use Rattle.odb_spans.proofs.ElementLemmas.{is-element-place}
 use Rattle.odb_spans.proofs.ReadLemmas.{tree-of}
-use Rattle.odb_spans.proofs.WholeLemmas.{element-at, element-begins, no-element-begins, whole, whole-begins}
+use Rattle.odb_spans.proofs.WholeLemmas.{element-at, element-lies, no-element-lies, whole}
 
--- an element begins where its span does
-pub found-begins : (name text : List ℕ) (start : ℕ) (spans : List Span) (at : ℕ) (span : Span) (d : Data) → IsStart text start → FindsElements name text start spans → slice_get spans at ≡ Some span → IsJson text d → BeginsIn text span.start name at d
-found-begins name text start spans at span d begins all same is =
+-- an element lies at its span
+pub found-lies : (name text : List ℕ) (start : ℕ) (spans : List Span) (at : ℕ) (span : Span) (d : Data) → IsStart text start → FindsElements name text start spans → slice_get spans at ≡ Some span → IsJson text d → LiesIn text span name at d
+found-lies name text start spans at span d begins all same is =
     let top = tree-of text d is.1 in
     let found = (all at).finds top.tree (whole text start d top is.0 begins) in
-    element-begins text span (slice_get spans at) name at d (slice_get (elements_at name d) at) same
+    element-lies text span (slice_get spans at) name at d (slice_get (elements_at name d) at) same
     (element-at text (items_in (tree.get name top.tree)) (elements_at name d) at (slice_get spans at) (elements-read name top.tree d top.shallow top.reads) found.0)
     (is-element-place text d at span name (slice_get spans at) top is.0 same found.1)
 
--- the whole value begins at its start, for an element that there is not
-pub none-begins : (name text : List ℕ) (start : ℕ) (spans : List Span) (at : ℕ) (d : Data) → IsStart text start → FindsElements name text start spans → slice_get spans at ≡ None → IsJson text d → BeginsIn text start name at d
-none-begins name text start spans at d begins all same is =
+-- the whole value lies at its span, for an element that there is not
+pub none-lies : (name text : List ℕ) (start : ℕ) (spans : List Span) (at : ℕ) (span : Span) (d : Data) → IsStart text start → FindsElements name text start spans → slice_get spans at ≡ None → IsJson text d → IsWhole text span d → LiesIn text span name at d
+none-lies name text start spans at span d begins all same is lies =
     let top = tree-of text d is.1 in
     let found = (all at).finds top.tree (whole text start d top is.0 begins) in
-    no-element-begins text start (slice_get spans at) name at d (slice_get (elements_at name d) at) same
-    (element-at text (items_in (tree.get name top.tree)) (elements_at name d) at (slice_get spans at) (elements-read name top.tree d top.shallow top.reads) found.0) (whole-begins text start d is begins)
+    no-element-lies text span (slice_get spans at) name at d (slice_get (elements_at name d) at) same
+    (element-at text (items_in (tree.get name top.tree)) (elements_at name d) at (slice_get spans at) (elements-read name top.tree d top.shallow top.reads) found.0) lies
 
 pub zip-push : {A B : Type 0} (R : A → B → Type 0) (xs : List A) (ys : List B) (x : A) (y : B) → AllZip R xs ys → R x y → AllZip R (xs ++ x ∷ []) (ys ++ y ∷ [])
 zip-push R [] [] x y zip last = (last, tt)

@@ -11,7 +11,7 @@ mod CutLemmas
 mod EndLemmas
 mod FrontLemmas
 mod PartLemmas
-mod ReadLemmas
+pub mod ReadLemmas
 mod NullLemmas
 mod MemberLemmas
 mod BracketLemmas
@@ -27,10 +27,12 @@ mod ElementLemmas
 mod FoundLemmas
 mod GivenLemmas
 mod NameLemmas
-mod AloneLemmas
+pub mod AloneLemmas
 mod HoleLemmas
 mod PathLemmas
 mod LookedLemmas
 mod OneSpanLemmas
 mod OnePlaceLemmas
 mod OnePairLemmas
+mod OneElementLemmas
+mod OnePositionLemmas

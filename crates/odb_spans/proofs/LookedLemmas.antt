@@ -81,7 +81,7 @@ true-items name (suc at) (j ∷ js) (d ∷ ds) reads t = true-items name at js d
 
 -- ---- the document
 
-set-at : {A : Type 0} (xs : List A) (at : ℕ) (x : A) → at < length xs → slice_get (set xs at x) at ≡ Some x
+pub set-at : {A : Type 0} (xs : List A) (at : ℕ) (x : A) → at < length xs → slice_get (set xs at x) at ≡ Some x
 set-at [] at x within = absurd (omega (arith, within))
 set-at (y ∷ xs) zero x within = refl
 set-at (y ∷ xs) (suc at) x within = set-at xs at x (omega (arith, within))

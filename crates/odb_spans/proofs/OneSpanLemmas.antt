@@ -295,7 +295,7 @@ module _ (document : List ℕ) (tree : json.Json) (one other : Span) (p : IsSoli
 
 -- ---- one span
 
-eq_of_not-lt : (m n : ℕ) → (m < n → ⊥) → (n < m → ⊥) → m ≡ n
+pub eq_of_not-lt : (m n : ℕ) → (m < n → ⊥) → (n < m → ⊥) → m ≡ n
 eq_of_not-lt m n f g = omega (arith, f, g)
 
 module _ (document : List ℕ) (tree : json.Json) (one other : Span) (p : IsSolidSpan document one) (q : IsSolidSpan document other) (wa ta wb tb : Data) (a : HasHole document tree one wa ta) (b : HasHole document tree other wb tb) (same : SameHole a.hole b.hole a.value b.value)

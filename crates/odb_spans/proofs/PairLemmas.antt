@@ -11,7 +11,7 @@ use Rattle.serde_json.specs.Read.{max_depth, number_of, of_items, of_json, of_me
 use Rattle.odb_doc.specs.Documents.{IsJson}
 use Rattle.odb_doc.specs.declared.fault.Place.{Place}
 use Rattle.odb_spans.specs.Parts.{GivesPair, HasValue, IsPairOf, LiesAt}
-use Rattle.odb_spans.specs.Positions.{ArePartsOf, BeginsInPair, BeginsInPart, IsTextAt, is_in_batch, pair}
+use Rattle.odb_spans.specs.Positions.{ArePartsOf, IsTextAt, LiesInPair, LiesInPart, is_in_batch, pair}
 use Rattle.odb_spans.specs.Spans.{IsWithin, replaced}
 use Rattle.odb_spans.specs.Walks.{IsStart}
 use Rattle.odb_spans.specs.declared.span.Span.{Span}
@@ -109,15 +109,33 @@ module _ (line : List ℕ) (start : ℕ) (at : IsStart line start) where
       next : BeginsWell after
       next = subst BeginsWell (append-nil after) (begins-well-items (json.item found.two json.no_items) [])
 
+      other-lies : LiesAt line second found.two (items_tokens json.no_items)
+      other-lies = subst (LiesAt line second found.two) (append-nil (items_tokens json.no_items)) found.second_lies
+
+      other-next : BeginsWell (items_tokens json.no_items)
+      other-next = subst BeginsWell (append-nil (items_tokens json.no_items)) (begins-well-items json.no_items [])
+
+      small : depth (json.array (two_items found.one found.two)) ≤ max_depth
+      small = subst (λ j. depth j ≤ max_depth) found.is top.shallow
+
       -- the line with a literal in the place of the first document
       filled : (literal : Literal) (second : Data) → of_json found.two ≡ Some second → IsJson (replaced line first literal.word) (pair literal.value second)
       filled literal second more =
-          let small : depth (json.array (two_items found.one found.two)) ≤ max_depth = subst (λ j. depth j ≤ max_depth) found.is top.shallow in
           replaced-json line d first found.one after lies next is.0 (λ i. in_array json.no_items (json.item found.two json.no_items) i) (in-array json.no_items (json.item found.two json.no_items) (λ i. i) [] alone) top found.is literal (pair literal.value second)
           (omega (arith, small, literal.flat)) (two-reads literal.tree found.two literal.value second literal.read more)
 
+      -- the same of the second
+      other-filled : (literal : Literal) (batch : Data) → of_json found.one ≡ Some batch → IsJson (replaced line second literal.word) (pair batch literal.value)
+      other-filled literal batch reads =
+          replaced-json line d second found.two (items_tokens json.no_items) other-lies other-next is.0 (λ i. in_array (json.item found.one json.no_items) json.no_items i) (in-array (json.item found.one json.no_items) json.no_items (λ i. i) [] alone) top found.is literal (pair batch literal.value)
+          (omega (arith, small, literal.flat)) (two-reads found.one literal.tree batch literal.value reads literal.read)
+
       first-last : is_space (get_or line (first.end - 1) 0) ≡ false
       first-last = ends-solid line first.start first.end (begins-solid line d first found.one after lies next is.0) lies.extent lies.some (ends-within line d first found.one after lies next is.0)
+
+      other-last : is_space (get_or line (second.end - 1) 0) ≡ false
+      other-last =
+          ends-solid line second.start second.end (begins-solid line d second found.two (items_tokens json.no_items) other-lies other-next is.0) other-lies.extent other-lies.some (ends-within line d second found.two (items_tokens json.no_items) other-lies other-next is.0)
 
     pub parts : (d : Data) → IsJson line d → ArePartsOf line first second d
     unfolding found top
@@ -131,41 +149,45 @@ module _ (line : List ℕ) (start : ℕ) (at : IsStart line start) where
           second = read.second;
           is = read.is;
           order = order;
-          first_text = text-at line first found.one read.first found.first_text read.reads (omega (arith, shallow));
-          other_text = text-at line second found.two read.second found.second_text read.more (omega (arith, shallow));
-          with_null = filled d is null_literal read.second read.more;
-          with_true = filled d is true_literal read.second read.more;
-          cut = λ more. lex-front between (take first.start line) more found.first_lies.clear;
-          last = first-last d is;
+          first_place = record {
+            text = text-at line first found.one read.first found.first_text read.reads (omega (arith, shallow));
+            with_null = filled d is null_literal read.second read.more;
+            with_true = filled d is true_literal read.second read.more;
+            cut = λ more. lex-front between (take first.start line) more found.first_lies.clear;
+            last = first-last d is;
+          };
+          other_place = record {
+            text = text-at line second found.two read.second found.second_text read.more (omega (arith, shallow));
+            with_null = other-filled d is null_literal read.first read.reads;
+            with_true = other-filled d is true_literal read.first read.reads;
+            cut = λ more. lex-front between (take second.start line) more found.second_lies.clear;
+            last = other-last d is;
+          };
         }
 
-    module _ (place : Place) (offset : ℕ) where
-      in-one : ((batch other : Data) → IsTextAt line first batch → IsTextAt line second other → cond (is_in_batch place) (BeginsInPart line first offset batch place) (BeginsInPart line second offset other place)) → BeginsInPair line offset place
-      in-one begins = record {
+    module _ (place : Place) (span : Span) where
+      in-one : ((batch other : Data) → IsTextAt line first batch → IsTextAt line second other → cond (is_in_batch place) (LiesInPart line first span batch place) (LiesInPart line second span other place)) → LiesInPair line span place
+      in-one lies = record {
         pairs = λ batch other is.
             (let found = parts (pair batch other) is in
-            let one : found.batch ≡ batch = cc (found.is) in
-            let two : found.second ≡ other = cc (found.is) in
-            let one_text = subst (IsTextAt line first) one found.first_text in
-            let two_text = subst (IsTextAt line second) two found.other_text in
-            record { first = first; other = second; order = order; first_text = one_text; other_text = two_text; begins = begins batch other one_text two_text });
+            record { first = first; other = second; parts = found; lies = lies found.batch found.second found.first_place.text found.other_place.text });
         others = λ d is none. (let found = parts d is in absurd (none found.batch found.second found.is));
       }
 
-      begins-first : is_in_batch place ≡ true → ((d : Data) → IsTextAt line first d → BeginsInPart line first offset d place) → BeginsInPair line offset place
-      begins-first same begins = in-one (λ batch other one two. subst (λ b. cond b (BeginsInPart line first offset batch place) (BeginsInPart line second offset other place)) (sym same) (begins batch one))
+      in-first : is_in_batch place ≡ true → ((d : Data) → IsTextAt line first d → LiesInPart line first span d place) → LiesInPair line span place
+      in-first same lies = in-one (λ batch other one two. subst (λ b. cond b (LiesInPart line first span batch place) (LiesInPart line second span other place)) (sym same) (lies batch one))
 
-      begins-second : is_in_batch place ≡ false → ((d : Data) → IsTextAt line second d → BeginsInPart line second offset d place) → BeginsInPair line offset place
-      begins-second same begins = in-one (λ batch other one two. subst (λ b. cond b (BeginsInPart line first offset batch place) (BeginsInPart line second offset other place)) (sym same) (begins other two))
+      in-second : is_in_batch place ≡ false → ((d : Data) → IsTextAt line second d → LiesInPart line second span d place) → LiesInPair line span place
+      in-second same lies = in-one (λ batch other one two. subst (λ b. cond b (LiesInPart line first span batch place) (LiesInPart line second span other place)) (sym same) (lies other two))
 
     module _ (place : Place) where
-      pub if-first : (r : Result ℕ AllocError) → is_in_batch place ≡ true → IfOk r (λ offset. (d : Data) → IsTextAt line first d → BeginsInPart line first offset d place) → IfOk r (λ offset. BeginsInPair line offset place)
-      if-first (Ok offset) same begins = begins-first place offset same begins
-      if-first (Err e) same begins = tt
+      pub if-first : (r : Result Span AllocError) → is_in_batch place ≡ true → IfOk r (λ span. (d : Data) → IsTextAt line first d → LiesInPart line first span d place) → IfOk r (λ span. LiesInPair line span place)
+      if-first (Ok span) same lies = in-first place span same lies
+      if-first (Err e) same lies = tt
 
-      pub if-second : (r : Result ℕ AllocError) → is_in_batch place ≡ false → IfOk r (λ offset. (d : Data) → IsTextAt line second d → BeginsInPart line second offset d place) → IfOk r (λ offset. BeginsInPair line offset place)
-      if-second (Ok offset) same begins = begins-second place offset same begins
-      if-second (Err e) same begins = tt
+      pub if-second : (r : Result Span AllocError) → is_in_batch place ≡ false → IfOk r (λ span. (d : Data) → IsTextAt line second d → LiesInPart line second span d place) → IfOk r (λ span. LiesInPair line span place)
+      if-second (Ok span) same lies = in-second place span same lies
+      if-second (Err e) same lies = tt
 
   -- what was found of the documents of the line
   pub documents-found : (found : Option (Span × Span)) → GivesPair line start found → IfSome found (λ f. (d : Data) → IsJson line d → ArePartsOf line f.0 f.1 d)

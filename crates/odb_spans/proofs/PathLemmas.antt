@@ -42,7 +42,7 @@ member-at name (json.member n i earlier) k v later =
     ∙ ap (later_or (tree.get_member name later)) (later-later mine (tree.get_member name earlier) first)
 
 -- another value of the member changes nothing
-abbrev Unchanged : List ℕ → json.Members → List ℕ → json.Members → Type 0
+abbrev pub Unchanged : List ℕ → json.Members → List ℕ → json.Members → Type 0
 Unchanged name earlier k later = (v w : json.Json) → tree.get_member name (append_members earlier (json.member k v later)) ≡ tree.get_member name (append_members earlier (json.member k w later))
 
 by-later : (name : List ℕ) (earlier : json.Members) (k : List ℕ) (later : json.Members) (o : Option json.Json) (b : Bool) → tree.get_member name later ≡ o → bytes_eq k name ≡ b → IsLast name k later ⊎ Unchanged name earlier k later
@@ -56,12 +56,12 @@ by-later name earlier k later None false is named =
     (λ v. member-at name earlier k v later ∙ ap₂ (λ o c. later_or o (later_or (cond c (Some v) None) (tree.get_member name earlier))) is named) in
     inr (λ v w. found v ∙ sym (found w))
 
-is-last : (name : List ℕ) (earlier : json.Members) (k : List ℕ) (later : json.Members) → IsLast name k later ⊎ Unchanged name earlier k later
+pub is-last : (name : List ℕ) (earlier : json.Members) (k : List ℕ) (later : json.Members) → IsLast name k later ⊎ Unchanged name earlier k later
 is-last name earlier k later = by-later name earlier k later (tree.get_member name later) (bytes_eq k name) refl refl
 
 -- ---- the item at a position
 
-item-at : (earlier later : json.Items) (at : ℕ)
+pub item-at : (earlier later : json.Items) (at : ℕ)
     → (count_items earlier ≡ at) ⊎ ((v w : json.Json) → slice_get (list_of (append_items earlier (json.item v later))) at ≡ slice_get (list_of (append_items earlier (json.item w later))) at)
 item-at json.no_items later zero = inl refl
 item-at json.no_items later (suc at) = inr (λ v w. refl)
@@ -71,6 +71,10 @@ item-at (json.item i earlier) later (suc at) =
       | inl e ↦ inl (ap suc e)
       | inr same ↦ inr (λ v w. same v w)
     ]
+
+-- the item that was put there
+pub listed-at : (at : ℕ) (earlier : json.Items) (v : json.Json) (later : json.Items) → count_items earlier ≡ at → slice_get (list_of (append_items earlier (json.item v later))) at ≡ Some v
+listed-at at earlier v later count = ap (slice_get (list_of (append_items earlier (json.item v later)))) (sym count) ∙ item-listed earlier v later
 
 -- ---- the place of the member
 
@@ -120,17 +124,14 @@ module _ (name : List ℕ) (at : ℕ) where
   abbrev item_of : Option json.Json → Option json.Json
   item_of o = option_and_then (tree.get name) (slice_get (items_in o) at)
 
-  listed : (earlier : json.Items) (v : json.Json) (later : json.Items) → count_items earlier ≡ at → slice_get (list_of (append_items earlier (json.item v later))) at ≡ Some v
-  listed earlier v later count = ap (slice_get (list_of (append_items earlier (json.item v later)))) (sym count) ∙ item-listed earlier v later
-
   in-array : (hole : Hole) → IsTrueValue (item_of (Some (fill hole (json.boolean true)))) → (IsTrueValue (item_of (Some (fill hole json.null))) → ⊥) → IsArrayHole name at hole
   in-array here t f = not-none t
   in-array (in_member earlier k hole later) t f = not-none t
   in-array (in_item earlier hole later) t f =
       elim (item-at earlier later at) [
         | inl count ↦ (
-            let one = listed earlier (fill hole (json.boolean true)) later count in
-            let other = listed earlier (fill hole json.null) later count in
+            let one = listed-at at earlier (fill hole (json.boolean true)) later count in
+            let other = listed-at at earlier (fill hole json.null) later count in
             let inner = in-element name hole (subst (λ o. IsTrueValue (option_and_then (tree.get name) o)) one t) (λ u. f (subst (λ o. IsTrueValue (option_and_then (tree.get name) o)) (sym other) u)) in
             record { earlier = earlier; element = hole; later = later; is = refl; count = count; inner = inner })
         | inr same ↦ absurd (f (subst (λ o. IsTrueValue (option_and_then (tree.get name) o)) (same (fill hole (json.boolean true)) (fill hole json.null)) t))
@@ -179,13 +180,13 @@ is-member-hole list name at (in_member earlier k hole later) t f =
 
 -- ---- there is one such place
 
-record SameMembers (e f : json.Members) (k l : List ℕ) (v w : json.Json) (m n : json.Members) : Type 0 where
-  earlier : e ≡ f
-  key : k ≡ l
-  value : v ≡ w
-  later : m ≡ n
+pub record SameMembers (e f : json.Members) (k l : List ℕ) (v w : json.Json) (m n : json.Members) : Type 0 where
+  pub earlier : e ≡ f
+  pub key : k ≡ l
+  pub value : v ≡ w
+  pub later : m ≡ n
 
-same-members : (name : List ℕ) (e f : json.Members) (k l : List ℕ) (v w : json.Json) (m n : json.Members) → IsLast name k m → IsLast name l n → append_members e (json.member k v m) ≡ append_members f (json.member l w n) → SameMembers e f k l v w m n
+pub same-members : (name : List ℕ) (e f : json.Members) (k l : List ℕ) (v w : json.Json) (m n : json.Members) → IsLast name k m → IsLast name l n → append_members e (json.member k v m) ≡ append_members f (json.member l w n) → SameMembers e f k l v w m n
 same-members name json.no_members json.no_members k l v w m n a b e = record { earlier = refl; key = cc (e); value = cc (e); later = cc (e) }
 same-members name json.no_members (json.member q i f) k l v w m n a b e =
     let rest : m ≡ append_members f (json.member l w n) = cc (e) in
@@ -200,12 +201,12 @@ same-members name (json.member q i e) (json.member r j f) k l v w m n a b is =
     let h = same-members name e f k l v w m n a b rest in
     record { earlier = (let more = h.earlier in cc (first, same, more)); key = h.key; value = h.value; later = h.later }
 
-record SameItems (e f : json.Items) (v w : json.Json) (m n : json.Items) : Type 0 where
-  earlier : e ≡ f
-  value : v ≡ w
-  later : m ≡ n
+pub record SameItems (e f : json.Items) (v w : json.Json) (m n : json.Items) : Type 0 where
+  pub earlier : e ≡ f
+  pub value : v ≡ w
+  pub later : m ≡ n
 
-same-items : (e f : json.Items) (v w : json.Json) (m n : json.Items) → count_items e ≡ count_items f → append_items e (json.item v m) ≡ append_items f (json.item w n) → SameItems e f v w m n
+pub same-items : (e f : json.Items) (v w : json.Json) (m n : json.Items) → count_items e ≡ count_items f → append_items e (json.item v m) ≡ append_items f (json.item w n) → SameItems e f v w m n
 same-items json.no_items json.no_items v w m n count is = record { earlier = refl; value = cc (is); later = cc (is) }
 same-items json.no_items (json.item j f) v w m n count is = absurd (cc (count))
 same-items (json.item i e) json.no_items v w m n count is = absurd (cc (count))
@@ -216,10 +217,10 @@ same-items (json.item i e) (json.item j f) v w m n count is =
     let h = same-items e f v w m n fewer rest in
     record { earlier = (let more = h.earlier in cc (same, more)); value = h.value; later = h.later }
 
-object-same : (ms ns : json.Members) → json.object ms ≡ json.object ns → ms ≡ ns
+pub object-same : (ms ns : json.Members) → json.object ms ≡ json.object ns → ms ≡ ns
 object-same ms ns e = cc (e)
 
-array-same : (js is : json.Items) → json.array js ≡ json.array is → js ≡ is
+pub array-same : (js is : json.Items) → json.array js ≡ json.array is → js ≡ is
 array-same js is e = cc (e)
 
 -- two such places in one tree are one

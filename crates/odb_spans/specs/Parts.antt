@@ -10,7 +10,7 @@ use Rattle.json.specs.Find.{get, get_member, is_null, later_or}
 use Rattle.json.specs.Tree.{json_tokens, items_tokens, members_tokens}
 use Rattle.serde_json.specs.Data.{Data}
 use Rattle.odb_doc.specs.Documents.{IsJson}
-use Rattle.odb_spans.specs.Positions.{BeginsIn}
+use Rattle.odb_spans.specs.Positions.{LiesIn}
 use Rattle.odb_spans.specs.Spans.{IsWithin, bytes_of}
 use Rattle.odb_spans.specs.Cuts.{IsCut, IsClear}
 use Rattle.odb_spans.specs.Extents.{value_extent}
@@ -293,9 +293,9 @@ abbrev pub FindsElements : List ℕ → List ℕ → ℕ → List Span → Type 
 FindsElements name text start spans = (position : ℕ) → FindsElement name text start position (slice_get spans position)
 
 -- the requests of the batch at these positions, if any, lie at the spans
-abbrev pub BeginRequests : List ℕ → List Span → Type 0
-BeginRequests text spans =
-    (position : ℕ) (span : Span) → slice_get spans position ≡ Some span → (span.start ≤ length text) × ((d : Data) → IsJson text d → BeginsIn text span.start (codes "requests") position d)
+abbrev pub LieRequests : List ℕ → List Span → Type 0
+LieRequests text spans =
+    (position : ℕ) (span : Span) → slice_get spans position ≡ Some span → IsWithin (length text) (Some span) × ((d : Data) → IsJson text d → LiesIn text span (codes "requests") position d)
 
 -- the value is an array of two items, which lie at the spans
 pub record IsPairOf (text : List ℕ) (first second : Span) (j : json.Json) : Type 0 where
@@ -305,6 +305,7 @@ pub record IsPairOf (text : List ℕ) (first second : Span) (j : json.Json) : Ty
   pub first_text : IsTextOf text first one
   pub second_text : IsTextOf text second two
   pub first_lies : LiesAt text first one (items_tokens (json.item two json.no_items) ++ [])
+  pub second_lies : LiesAt text second two (items_tokens json.no_items ++ [])
 
 -- the two documents of a pair whose array begins there
 abbrev pub GivesPair : List ℕ → ℕ → Option (Span × Span) → Type 0

@@ -2,6 +2,7 @@
 use Rattle.std.specs.Prelude.{◌≡◌, ◌≤◌, ◌<◌, ℕ, List, ◌∷◌, length, drop, get_or, true, false, Option, Some, None, ⊤, IsUtf8}
 use Rattle.std.specs.Str.{IsCharBoundary}
 use Rattle.json.specs.Token.{Token}
+use Rattle.json.specs.Word.{is_space}
 use Rattle.json.specs.Align.{is_blank, is_good}
 use Rattle.json.specs.Lex.{Lexeme, token, between, class, lex, Place, fresh, after_value, after_comma, after_key, begins_colon, place_token, punctuate}
 use Rattle.odb_spans.specs.Cuts.{IsClear, IsCut}
@@ -26,6 +27,7 @@ pub record IsStart (text : List ℕ) (start : ℕ) : Type 0 where
   pub solid : IsSolidAt text start
   pub boundary : IsUtf8 text → IsCharBoundary text start
   pub cut : IsCut text start
+  pub blanks : (k : ℕ) → k < start → is_space (get_or text k 0) ≡ true
 
 -- after an opening bracket or an element
 abbrev pub IsInside : Place → Type 0

@@ -6,7 +6,7 @@
 //! another member of each element of an array, as of the body of each response. That each has one place is in [`laws`].
 //!
 //! A fault names an element by its [`Place`](odb_doc::Place). [`position_of`] returns the [`Position`] at
-//! which the element begins, with its line and column, [`positions_of`] those of many faults, and
+//! which the element begins, with its line and column and where it ends, [`positions_of`] those of many faults, and
 //! [`position_in_pair`] returns it for a line that holds two documents, which [`documents_in`] finds. What [`parse`]
 //! keeps of a document that is not JSON spares [`position_by`] and the like to parse it again.
 #![tactic(auto)]

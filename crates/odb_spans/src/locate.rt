@@ -1,14 +1,15 @@
-//! Where the element that a place names begins.
+//! Where the element that a place names lies.
 
 ghost use Rattle.std.specs.Prelude.{◌≡◌, ◌≤◌, ◌<◌, ◌+◌, length, slice_get, IfOk, IfSome, None, OnErr, Some};
 ghost use Rattle.serde_json.specs.Data.{Data};
 ghost use Rattle.odb_doc.specs.Documents.{IsJson};
-ghost use Rattle.odb_spans.specs.Positions.{ArePartsOf, BeginsIn, BeginsInPair, BeginsInPart, IsTextAt, Stands, StandsInPair, ValueBeginsAt};
+ghost use Rattle.odb_spans.specs.Positions.{ArePartsOf, IsTextAt, IsWhole, LiesIn, LiesInPair, LiesInPart, Stands, StandsInPair, ValueLiesAt};
 ghost use Rattle.odb_spans.specs.Positions as spec;
 ghost use Rattle.odb_spans.specs.Parts.{FindsElements, GivesPair};
 ghost use Rattle.odb_spans.specs.Spans.{IsWithin};
 
 use crate::byte::has_byte;
+use crate::extent::value_end;
 use crate::fault::fault_in;
 use crate::item::{items_at, next_item};
 use crate::member::last_member;
@@ -48,42 +49,54 @@ pub(crate) fn span_at(spans: &[Span], position: usize) -> Option<Span>
     spans.get(position).copied()
 }
 
-/// Returns where the element at a position of the array at a member begins, or the document's value if
-/// there is no such element.
-fn element_offset(
+/// Returns where the value of a document lies.
+fn whole_span(document: &[u8]) -> Span
+    ensures lies { (d : Data) → IsJson document.now d → IsWhole document.now result d }
+    ensures within { IsWithin (length document.now) (Some result) }
+{
+    let start = value_start(document);
+    Span {
+        start,
+        end: value_end(document, start),
+    }
+}
+
+/// Returns where the element at a position of the array at a member lies, or the document's value if there is no such
+/// element.
+fn element_span(
     alloc: Global,
     document: &[u8],
     name: &str,
     position: usize,
-) -> Result<usize, AllocError>
-    ensures begins { IfOk result (λ offset. (d : Data) → IsJson document.now d
-        → BeginsIn document.now offset name.now position d) }
-    ensures within { IfOk result (λ offset. offset ≤ length document.now) }
+) -> Result<Span, AllocError>
+    ensures lies { IfOk result (λ span. (d : Data) → IsJson document.now d
+        → LiesIn document.now span name.now position d) }
+    ensures within { IfOk result (λ span. IsWithin (length document.now) (Some span)) }
     ensures memory { OnErr result (0 < length document.now) }
 {
     let start = value_start(document);
     let elements = elements_in(alloc, document, start, name)?;
     match span_at(&elements, position) {
-        Some(element) => Ok(element.start),
-        None => Ok(start),
+        Some(element) => Ok(element),
+        None => Ok(whole_span(document)),
     }
 }
 
-/// Returns where the value that a place names begins in a document that is JSON.
-fn value_offset(alloc: Global, document: &[u8], place: Place) -> Result<usize, AllocError>
-    ensures begins { IfOk result (λ offset. (d : Data) → IsJson document.now d
-        → ValueBeginsAt document.now offset d place) }
-    ensures within { IfOk result (λ offset. offset ≤ length document.now) }
+/// Returns where the value that a place names lies in a document that is JSON.
+fn value_span(alloc: Global, document: &[u8], place: Place) -> Result<Span, AllocError>
+    ensures lies { IfOk result (λ span. (d : Data) → IsJson document.now d
+        → ValueLiesAt document.now span d place) }
+    ensures within { IfOk result (λ span. IsWithin (length document.now) (Some span)) }
     ensures memory { OnErr result (0 < length document.now) }
 {
     match place {
         Place::Batch | Place::Outcomes | Place::Responses | Place::Events => {
-            Ok(value_start(document))
+            Ok(whole_span(document))
         }
-        Place::Request(at) => element_offset(alloc, document, "requests", at),
-        Place::Outcome(at) => element_offset(alloc, document, "outcomes", at),
-        Place::Response(at) => element_offset(alloc, document, "responses", at),
-        Place::Event(at) => element_offset(alloc, document, "events", at),
+        Place::Request(at) => element_span(alloc, document, "requests", at),
+        Place::Outcome(at) => element_span(alloc, document, "outcomes", at),
+        Place::Response(at) => element_span(alloc, document, "responses", at),
+        Place::Event(at) => element_span(alloc, document, "events", at),
     }
 }
 
@@ -112,22 +125,31 @@ pub(crate) fn error_at(
     }
 }
 
-/// Returns the offset of the position in a document, by where the parser stopped in one that is not JSON.
-pub(crate) fn offset_of(
+/// Returns where the first wrong byte of a document lies that is not JSON, by where the parser stopped: an empty span.
+fn error_span(alloc: Global, document: &[u8], error: ParseError) -> Result<Span, AllocError>
+    ensures within { IfOk result (λ span. IsWithin (length document.now) (Some span)) }
+    ensures memory { OnErr result (0 < length document.now) }
+{
+    let at = fault_in(alloc, document, error)?;
+    Ok(Span { start: at, end: at })
+}
+
+/// Returns where the value that a place names lies in a document, by where the parser stopped in one that is not JSON.
+pub(crate) fn span_by(
     alloc: Global,
     document: &[u8],
     error: Option<ParseError>,
     place: Place,
-) -> Result<usize, AllocError>
+) -> Result<Span, AllocError>
     requires { IfSome error (λ _. (d : Data) → ¬ IsJson document.now d) }
-    ensures begins { IfOk result (λ offset. (d : Data) → IsJson document.now d
-        → ValueBeginsAt document.now offset d place) }
-    ensures within { IfOk result (λ offset. offset ≤ length document.now) }
+    ensures lies { IfOk result (λ span. (d : Data) → IsJson document.now d
+        → ValueLiesAt document.now span d place) }
+    ensures within { IfOk result (λ span. IsWithin (length document.now) (Some span)) }
     ensures memory { OnErr result (0 < length document.now) }
 {
     match error {
-        Some(error) => fault_in(alloc, document, error),
-        None => value_offset(alloc, document, place),
+        Some(error) => error_span(alloc, document, error),
+        None => value_span(alloc, document, place),
     }
 }
 
@@ -161,66 +183,69 @@ pub fn documents_in(line: &[u8]) -> Option<(Span, Span)>
     pair_in(line, value_start(line))
 }
 
-/// Returns where the value that a place names begins in a part of a line that is a document.
-fn offset_in_part(alloc: Global, line: &[u8], part: Span, place: Place) -> Result<usize, AllocError>
+/// Returns where the value that a place names lies in a part of a line that is a document.
+fn span_in_part(alloc: Global, line: &[u8], part: Span, place: Place) -> Result<Span, AllocError>
     requires order { part.start ≤ part.end }
     requires within { part.end ≤ length line.now }
-    ensures begins { IfOk result (λ offset. (d : Data) → IsTextAt line.now part d
-        → BeginsInPart line.now part offset d place) }
-    ensures within { IfOk result (λ offset. offset ≤ length line.now) }
+    ensures lies { IfOk result (λ span. (d : Data) → IsTextAt line.now part d
+        → LiesInPart line.now part span d place) }
+    ensures within { IfOk result (λ span. IsWithin (length line.now) (Some span)) }
     ensures memory { OnErr result (0 < length line.now) }
 {
-    let offset = value_offset(alloc, part.bytes_in(line), place)?;
-    Ok(part.start + offset)
+    let span = value_span(alloc, part.bytes_in(line), place)?;
+    Ok(Span {
+        start: part.start + span.start,
+        end: part.start + span.end,
+    })
 }
 
-/// Returns where the value that a place names begins in a line that is JSON and holds a pair, or where
-/// the line's value begins if that is not a pair.
-fn value_offset_in_pair(alloc: Global, line: &[u8], place: Place) -> Result<usize, AllocError>
-    ensures begins { IfOk result (λ offset. BeginsInPair line.now offset place) }
-    ensures within { IfOk result (λ offset. offset ≤ length line.now) }
+/// Returns where the value that a place names lies in a line that is JSON and holds a pair, or where the line's value lies
+/// if that is not a pair.
+fn value_span_in_pair(alloc: Global, line: &[u8], place: Place) -> Result<Span, AllocError>
+    ensures lies { IfOk result (λ span. LiesInPair line.now span place) }
+    ensures within { IfOk result (λ span. IsWithin (length line.now) (Some span)) }
     ensures memory { OnErr result (0 < length line.now) }
 {
-    let start = value_start(line);
-    match pair_in(line, start) {
+    match pair_in(line, value_start(line)) {
         Some((batch, second)) => {
             if is_in_batch(place) {
-                offset_in_part(alloc, line, batch, place)
+                span_in_part(alloc, line, batch, place)
             } else {
-                offset_in_part(alloc, line, second, place)
+                span_in_part(alloc, line, second, place)
             }
         }
-        None => Ok(start),
+        None => Ok(whole_span(line)),
     }
 }
 
-/// Returns the offset of the position in a line that holds a pair.
-fn offset_in_pair(
+/// Returns where the value that a place names lies in a line that holds a pair.
+fn span_in_pair_by(
     alloc: Global,
     line: &[u8],
     error: Option<ParseError>,
     place: Place,
-) -> Result<usize, AllocError>
+) -> Result<Span, AllocError>
     requires { IfSome error (λ _. (d : Data) → ¬ IsJson line.now d) }
-    ensures begins { IfOk result (λ offset. BeginsInPair line.now offset place) }
-    ensures within { IfOk result (λ offset. offset ≤ length line.now) }
+    ensures lies { IfOk result (λ span. LiesInPair line.now span place) }
+    ensures within { IfOk result (λ span. IsWithin (length line.now) (Some span)) }
     ensures memory { OnErr result (0 < length line.now) }
 {
     match error {
-        Some(error) => fault_in(alloc, line, error),
-        None => value_offset_in_pair(alloc, line, place),
+        Some(error) => error_span(alloc, line, error),
+        None => value_span_in_pair(alloc, line, place),
     }
 }
 
-/// Returns where the element that a place names begins in a document.
+/// Returns where the element that a place names begins in a document, and where it ends.
 ///
 /// `Request` names an element of `requests`, `Outcome` one of `outcomes`, `Response` one of `responses`
 /// and `Event` one of `events`. If a name repeats in an object, its last member counts. If there is no
 /// such element, and for the place of a whole document, the position is that of the document's value.
 ///
-/// If the document is not JSON, the position for a whole document is that of the first byte that cannot be
-/// there, or the end of a document that ends too soon. A document larger than
-/// [`odb_doc::MAX_DOCUMENT_BYTES`] is not parsed: the position is that of its value.
+/// The element ends without a blank, and lies in one place: [`crate::laws::one_element`]. If the document is not JSON, the
+/// position for a whole document is that of the first byte that cannot be there, or the end of a document that ends too
+/// soon, and its end is the same. A document larger than [`odb_doc::MAX_DOCUMENT_BYTES`] is not parsed: the position is
+/// that of its value.
 ///
 /// Costs O(n) for a document of n bytes; if it is not JSON, O(k log k) more for a wrong token of k bytes.
 ///
@@ -252,11 +277,11 @@ pub fn position_by(
     ensures stands { IfOk result (λ position. Stands document.now place position) }
     ensures memory { OnErr result (0 < length document.now) }
 {
-    let offset = offset_of(alloc, document, error, place)?;
-    Ok(Position::at(document, offset))
+    let span = span_by(alloc, document, error, place)?;
+    Ok(Position::at(document, span))
 }
 
-/// Returns where the element that a place names begins in a line that holds an array of a batch and a
+/// Returns where the element that a place names begins and ends in a line that holds an array of a batch and a
 /// second document: `Batch` and `Request` are places in the first, the others in the second.
 ///
 /// In its document the element is found as by [`position_of`]. If the line is not an array of two, the
@@ -292,6 +317,6 @@ pub fn position_in_pair_by(
     ensures stands { IfOk result (λ position. StandsInPair line.now place position) }
     ensures memory { OnErr result (0 < length line.now) }
 {
-    let offset = offset_in_pair(alloc, line, error, place)?;
-    Ok(Position::at(line, offset))
+    let span = span_in_pair_by(alloc, line, error, place)?;
+    Ok(Position::at(line, span))
 }

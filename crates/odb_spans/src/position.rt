@@ -2,12 +2,13 @@
 
 ghost use Rattle.std.specs.Prelude.{◌≡◌, ◌≤◌, ◌<◌, ◌+◌, ℕ, count_by, get_or, length, take, false};
 ghost use Rattle.std.specs.List.{after_last};
-ghost use Rattle.odb_spans.specs.Positions.{IsPosition};
+ghost use Rattle.odb_spans.specs.Positions.{IsPosition, span_of};
 ghost use Rattle.odb_spans.specs.Positions as spec;
 
+use crate::span::Span;
 use memchr::{memchr, memrchr};
 
-/// A position in a text.
+/// A position in a text, and where what begins there ends.
 #[derive(Clone, Copy, Debug, Drop, PartialEq, Eq)]
 pub struct Position {
     /// Counted from 1. A line ends with a newline.
@@ -16,6 +17,8 @@ pub struct Position {
     pub column: usize,
     /// The number of bytes before the position.
     pub offset: usize,
+    /// The number of bytes before the end.
+    pub end: usize,
 }
 
 /// Returns whether the byte begins a character of UTF-8.
@@ -132,6 +135,7 @@ impl Position {
         line: 1,
         column: 1,
         offset: 0,
+        end: 0,
     };
 
     /// Returns this position, or the start of the text if the offset comes before it.
@@ -147,14 +151,16 @@ impl Position {
         }
     }
 
-    /// Returns the line and the column of an offset. They are counted on from this position, or from the
-    /// start of the text if the offset comes before it.
-    pub(crate) fn moved_to(self, text: &[u8], offset: usize) -> Self
+    /// Returns the line and the column at which a span begins, and its end. They are counted on from this position, or
+    /// from the start of the text if the span begins before it.
+    pub(crate) fn moved_to(self, text: &[u8], span: Span) -> Self
         requires counts { IsPosition text.now self }
-        requires within { offset ≤ length text.now }
+        requires order { span.start ≤ span.end }
+        requires within { span.end ≤ length text.now }
         ensures counts { IsPosition text.now result }
-        ensures offset { result.offset ≡ offset }
+        ensures span { span_of result ≡ span }
     {
+        let offset = span.start;
         let from = self.not_after(text, offset);
         let line = line_at(text, from, offset);
         let column = column_at(text, line_reached(text, from, offset), offset);
@@ -162,15 +168,17 @@ impl Position {
             line,
             column,
             offset,
+            end: span.end,
         }
     }
 
-    /// Returns the line and the column of an offset.
-    pub(crate) fn at(text: &[u8], offset: usize) -> Self
-        requires { offset ≤ length text.now }
+    /// Returns the line and the column at which a span begins, and its end.
+    pub(crate) fn at(text: &[u8], span: Span) -> Self
+        requires order { span.start ≤ span.end }
+        requires within { span.end ≤ length text.now }
         ensures counts { IsPosition text.now result }
-        ensures offset { result.offset ≡ offset }
+        ensures span { span_of result ≡ span }
     {
-        Position::START.moved_to(text, offset)
+        Position::START.moved_to(text, span)
     }
 }

@@ -1,13 +1,14 @@
-//! Where the elements begin that the places of many faults name, in one scan.
+//! Where the elements lie that the places of many faults name, in one scan.
 
-ghost use Rattle.std.specs.Prelude.{◌≤◌, ◌<◌, length, IfOk, IfSome, OnErr};
+ghost use Rattle.std.specs.Prelude.{◌<◌, length, IfOk, IfSome, OnErr, Some};
 ghost use Rattle.std.specs.List.{AllZip};
 ghost use Rattle.serde_json.specs.Data.{Data};
 ghost use Rattle.odb_doc.specs.Documents.{IsJson};
-ghost use Rattle.odb_spans.specs.Parts.{BeginRequests};
-ghost use Rattle.odb_spans.specs.Positions.{IsPosition, Stands, ValueBeginsAt};
+ghost use Rattle.odb_spans.specs.Parts.{LieRequests};
+ghost use Rattle.odb_spans.specs.Positions.{IsPosition, Stands, ValueLiesAt};
+ghost use Rattle.odb_spans.specs.Spans.{IsWithin};
 
-use crate::locate::{elements_in, error_at, offset_of, span_at};
+use crate::locate::{elements_in, error_at, span_at, span_by};
 use crate::parsing::ParseError;
 use crate::position::Position;
 use crate::span::Span;
@@ -17,7 +18,7 @@ use std::alloc::{AllocError, Global};
 
 /// Returns where the requests of a batch lie, if the last fault is one of a request.
 fn requests_in(alloc: Global, document: &[u8], faults: &[Refusal]) -> Result<Vec<Span>, AllocError>
-    ensures found { IfOk result (λ found. BeginRequests document.now found.items) }
+    ensures found { IfOk result (λ found. LieRequests document.now found.items) }
     ensures memory { OnErr result (0 < length faults.now) }
 {
     match faults.last() {
@@ -31,26 +32,26 @@ fn requests_in(alloc: Global, document: &[u8], faults: &[Refusal]) -> Result<Vec
     }
 }
 
-/// Returns the offset of a place, without a scan if it is that of one of these requests.
-fn offset_among(
+/// Returns where the value that a place names lies, without a scan if it is one of these requests.
+fn span_among(
     alloc: Global,
     document: &[u8],
     error: Option<ParseError>,
     requests: &[Span],
     place: Place,
-) -> Result<usize, AllocError>
+) -> Result<Span, AllocError>
     requires error { IfSome error (λ _. (d : Data) → ¬ IsJson document.now d) }
-    requires requests { BeginRequests document.now requests.now }
-    ensures begins { IfOk result (λ offset. (d : Data) → IsJson document.now d
-        → ValueBeginsAt document.now offset d place) }
-    ensures within { IfOk result (λ offset. offset ≤ length document.now) }
+    requires requests { LieRequests document.now requests.now }
+    ensures lies { IfOk result (λ span. (d : Data) → IsJson document.now d
+        → ValueLiesAt document.now span d place) }
+    ensures within { IfOk result (λ span. IsWithin (length document.now) (Some span)) }
 {
     match place {
         Place::Request(at) => match span_at(requests, at) {
-            Some(request) => Ok(request.start),
-            None => offset_of(alloc, document, error, place),
+            Some(request) => Ok(request),
+            None => span_by(alloc, document, error, place),
         },
-        _ => offset_of(alloc, document, error, place),
+        _ => span_by(alloc, document, error, place),
     }
 }
 
@@ -64,15 +65,15 @@ fn next_position(
     place: Place,
 ) -> Result<Position, AllocError>
     requires error { IfSome error (λ _. (d : Data) → ¬ IsJson document.now d) }
-    requires requests { BeginRequests document.now requests.now }
+    requires requests { LieRequests document.now requests.now }
     requires counts { IsPosition document.now last }
     ensures { IfOk result (Stands document.now place) }
 {
-    let offset = offset_among(alloc, document, error, requests, place)?;
-    Ok(last.moved_to(document, offset))
+    let span = span_among(alloc, document, error, requests, place)?;
+    Ok(last.moved_to(document, span))
 }
 
-/// Returns for each fault where the element begins that its place names, as [`crate::position_of`] does.
+/// Returns for each fault where the element begins and ends that its place names, as [`crate::position_of`] does.
 ///
 /// Costs O(n) for a document of n bytes and any number of faults, if all are of requests and come in the
 /// order of their positions, as those of a check do. A fault of a whole document costs O(n).

@@ -3,6 +3,7 @@
 ghost use Rattle.std.specs.Prelude.{◌≡◌, ◌≤◌, ◌<◌, ℕ, List, ◌∷◌, length, get_or, true, false, IsUtf8};
 ghost use Rattle.std.specs.Str.{IsCharBoundary};
 ghost use Rattle.json.specs.Token.{Token};
+ghost use Rattle.json.specs.Word.{is_space};
 ghost use Rattle.json.specs.Lex as lexer;
 ghost use Rattle.json.specs.Align.{is_blank, is_good};
 ghost use Rattle.odb_spans.specs.Cuts.{IsClear, IsCut};
@@ -21,6 +22,7 @@ pub(crate) fn past_blanks(text: &[u8], at: usize) -> usize
         → IsCharBoundary text.now result }
     ensures cut { IsCut text.now at → IsCut text.now result }
     ensures clear { IsCut text.now at → IsClear text.now at → IsClear text.now result }
+    ensures blanks { (k : ℕ) → at ≤ k → k < result → is_space (get_or text.now k 0) ≡ true }
 {
     let mut end = at;
     while end < text.len() {

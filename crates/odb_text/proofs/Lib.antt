@@ -11,3 +11,4 @@ mod QuotedLemmas
 mod ArrowLemmas
 mod DrawnLineLemmas
 mod PlaceLemmas
+mod LocatedJsonLemmas

@@ -1,6 +1,6 @@
 -- The results of check, plan and match, and a fault, as JSON values, members in byte order, but those of a position after the
 -- others; and as lines.
-use Rattle.std.specs.Prelude.{ℕ, List, [], ◌∷◌, ◌++◌, Option, None, Some, length, map, option_map, slice_index, codes}
+use Rattle.std.specs.Prelude.{◌<◌, ◌^◌, ℕ, List, [], ◌∷◌, ◌++◌, Option, None, Some, length, map, option_map, slice_index, codes}
 use Rattle.serde_json.specs.Data.{Data, unsigned, number, string, array, object, member, no_members, put}
 use Rattle.serde_json.specs.View.{items_of}
 use Rattle.serde_json.specs.Written.{compact_text}
@@ -46,6 +46,25 @@ fault_value fault = object (put (codes "fault") (fault_object fault) no_members)
 -- `{"faults":[..]}`, in this order
 abbrev pub faults_value : List PrintedAt → Data
 faults_value faults = object (put (codes "faults") (array (items_of (map fault_object faults))) no_members)
+
+-- a fault and where it is
+abbrev pub located : Printed × Position → PrintedAt
+located (refusal, position) = record { refusal = refusal; position = Some position }
+
+-- what the object of such a fault is read as: the same members in byte order
+unfoldable pub located_object : Printed × Position → Data
+located_object (refusal, position) =
+    object (
+    put (codes "code") (string refusal.code) (
+    put (codes "column") (number (unsigned position.column)) (
+    put (codes "line") (number (unsigned position.line)) (
+    put (codes "name") (string refusal.name) (
+    put (codes "offset") (number (unsigned position.offset)) (
+    put (codes "place") (string (place_text refusal.place)) no_members))))))
+
+-- the numbers of a position have 64 bits
+abbrev pub FitsWords : Position → Type 0
+FitsWords position = (position.line < 2 ^ 64) × (position.column < 2 ^ 64) × (position.offset < 2 ^ 64)
 
 -- `{"groups":M,"requests":N}`
 abbrev pub counts_value : ℕ → ℕ → Data

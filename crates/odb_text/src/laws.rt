@@ -2,10 +2,12 @@
 //!
 //! The laws are clauses of functions that change nothing. They speak of the words that the calls of this crate cite.
 
-ghost use Rattle.std.specs.Prelude.{◌≡◌, ◌<◌, ◌^◌, ◌++◌, ◌∷◌, [], ℕ, Contains, IfSome, List, None, Option, Some, get_or, length, map, slice_get, slice_index};
+ghost use Rattle.std.specs.Prelude.{◌≡◌, ◌<◌, ◌^◌, ◌++◌, ◌∷◌, [], ℕ, Contains, IfSome, List, None, Option, Some, codes, get_or, length, map, slice_get, slice_index};
 ghost use Rattle.serde_json.specs.Read.{read};
 ghost use Rattle.odb_doc.specs.Refusals.{Printed};
-ghost use Rattle.serde_json.specs.Data.{Data};
+ghost use Rattle.std.specs.List.{AllByRecursion};
+ghost use Rattle.serde_json.specs.Data.{Data, array, no_members, object, put};
+ghost use Rattle.serde_json.specs.View.{items_of};
 ghost use Rattle.odb_check.specs.declared.need.Need.TheVariants.{Group, One};
 ghost use Rattle.odb_check.specs.Firsts.{joined_below, list_below};
 ghost use Rattle.odb_check.specs.Levels.{level_at};
@@ -24,21 +26,29 @@ ghost use Rattle.odb_text.specs.Labels.{IsOneString, quoted};
 ghost use Rattle.odb_text.specs.Lines.{unlocated};
 ghost use Rattle.odb_text.specs.Traces.{step_line, trace_text, undo_line};
 ghost use Rattle.odb_text.specs.SamePlans.{IsSamePlan};
+ghost use Rattle.odb_spans.specs.declared.position.Position.{Position};
 ghost use Rattle.odb_spans.specs.declared.span.Span.{Span};
 ghost use Rattle.odb_text.specs.FullPlans.{full_plan_value};
-ghost use Rattle.odb_text.specs.Results.{counts_value, fault_value, faults_value, json_line, match_value, plan_value};
+ghost use Rattle.odb_text.specs.Results.{FitsWords, counts_value, fault_value, faults_value, json_line, located, located_object, match_value, plan_value};
 
 /// A result or a fault as JSON is one line that is read as the value it shows: an object with the members that
 /// docs/schemas/ lists.
 ///
 /// `serde_json` reads the line, with its newline, as just this value. So does [`odb_doc::parse`], unless the line is
 /// longer than a document may be (F01). The numbers of a batch that was read are far below 2^64. A fault with its
-/// position is no such line: its members are not in byte order.
+/// position is read as the same members in byte order (`located`, `all_located`): a line has those of the position last.
 pub fn every_result()
     ensures fault { (refusal : Printed)
         → read (json_line (fault_value (unlocated refusal))) ≡ Some (fault_value (unlocated refusal)) }
     ensures faults { (refusals : List Printed) → read (json_line (faults_value (map unlocated refusals)))
         ≡ Some (faults_value (map unlocated refusals)) }
+    ensures located { (refusal : Printed) (position : Position) → FitsWords position
+        → read (json_line (fault_value (located (refusal, position))))
+        ≡ Some (object (put (codes "fault") (located_object (refusal, position)) no_members)) }
+    ensures all_located { (faults : List (Printed × Position))
+        → AllByRecursion (λ fault. FitsWords fault.1) faults
+        → read (json_line (faults_value (map located faults)))
+        ≡ Some (object (put (codes "faults") (array (items_of (map located_object faults))) no_members)) }
     ensures counts { (requests groups : ℕ) → requests < 2 ^ 64 → groups < 2 ^ 64
         → read (json_line (counts_value requests groups)) ≡ Some (counts_value requests groups) }
     ensures plan { (batch : List Record) → length batch < 2 ^ 64

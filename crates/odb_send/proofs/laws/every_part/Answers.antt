@@ -14,7 +14,7 @@ pub returns-clause-needs : goal.returns-clause-needs
 returns-clause-needs c = needs_met_after
 
 pub returns-clause-limit : goal.returns-clause-limit
-returns-clause-limit c = λ batch states limit locations part is. at_most batch is.done is.left limit (kept part) (urls part) is.part_is.units
+returns-clause-limit c = λ batch states limit locations part is. at_most batch is.done is.left limit locations (kept part) (urls part) is.part_is.units
 
 pub returns-clause-some : goal.returns-clause-some
 returns-clause-some c = some_go

@@ -3,14 +3,16 @@ use Rattle.std.specs.Prelude.{Vec}
 use Rattle.std.specs.declared.alloc.Global.{Global}
 use Rattle.std.specs.Borrow.{Bor}
 use Rattle.std.proofs.lemmas.List.{length-map}
+use Rattle.odb_check.specs.PlanGraph.{unit_needed}
 use Rattle.odb_check.specs.Plans.{plan_records}
 use Rattle.odb_check.specs.Positions.{names_at}
 use Rattle.odb_doc.specs.Names.{texts_in}
 use Rattle.odb_doc.specs.batch.Records.{record_of}
+use Rattle.odb_check.specs.Units.{unit_at}
 use Rattle.odb_check.specs.declared.need.Need.{Need}
 use Rattle.odb_check.specs.declared.need.Need.TheVariants.{One}
 use Rattle.odb_send.specs.Rests.{is_kept_name}
-use Rattle.odb_send.specs.Units.{marked, unit_needed}
+use Rattle.odb_send.specs.Units.{marked}
 use Rattle.odb_send.proofs.DependsLemmas.{needs_long, kept_there, keep_next, drop_next, names_of, name_there}
 use Rattle.odb_send.proofs.names.kept_names.Goals as goal
 use Rattle.odb_send.proofs.names.kept_names.Goals.{then-is_marked+in_ok-push, else-is_marked}
@@ -36,8 +38,8 @@ loop-k-preserved c =
     let less : k < length names = omega (arith, c.loop-k-test.true) in
     let within : k < length (names_at rs i) = rw (listed, length-map) less in
     let here : get_or (names_at rs i) k [] ≡ (get_or names k none).now = ap (λ (xs : List (List ℕ)). get_or xs k []) listed ∙ name_there names k none less in
-    let same : is_kept_name rs kept (get_or names k none).now ≡ marked kept (unit_needed rs (get_or c.needs-needs.result.now k (One 0))) =
-    ap (is_kept_name rs kept) (sym here) ∙ kept_there rs kept c.every_plan.ensures.good i k (One 0) within ∙ ap (λ (needs : List Need). marked kept (unit_needed rs (get_or needs k (One 0)))) (sym c.needs-needs.ensures.value) in
+    let same : is_kept_name rs kept (get_or names k none).now ≡ marked kept (unit_needed (unit_at rs) (get_or c.needs-needs.result.now k (One 0))) =
+    ap (is_kept_name rs kept) (sym here) ∙ kept_there rs kept c.every_plan.ensures.good i k (One 0) within ∙ ap (λ (needs : List Need). marked kept (unit_needed (unit_at rs) (get_or needs k (One 0)))) (sym c.needs-needs.ensures.value) in
     elim c.if-is_marked.branch [
       | then-is_marked+in_ok-push w ↦
           let items : c.if-is_marked.found.items ≡ c.loop-k.found.items ++ get_or names k none ∷ [] = ap (λ (v : Vec (Bor (List ℕ)) Global). v.items) w.found-is ∙ w.in_ok-push.ensures.items in

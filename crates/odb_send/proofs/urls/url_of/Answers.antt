@@ -1,4 +1,4 @@
-use Rattle.std.proofs.Common.{◌≡◌, ◌∙◌, ◌<◌, ℕ, Bool, List, Option, None, Some, length, get_or, refl, sym, ap, subst, arith}
+use Rattle.std.proofs.Common.{◌≡◌, ◌≢◌, ◌∙◌, [], ◌<◌, ℕ, Bool, List, Option, None, Some, length, get_or, refl, sym, ap, subst, arith}
 use Rattle.std.specs.Prelude.{string_bytes}
 use Rattle.std.proofs.lemmas.Option.{same_Some, slice_get-get_or}
 use Rattle.std.proofs.lemmas.Bool.{true≢false}
@@ -37,8 +37,9 @@ returns-then-branch-clause-url c =
     let within : p < length found = omega (arith, referred_within rs c.args.i p c.in-Some.ensures.refers, c.requires.locations) in
     let some : get_or found p None ≡ Some location = c.in-Some-locations.is in
     let recorded : text_at (texts_of found) p ≡ Some location.now = recorded_at found p (Some location) (slice_get-get_or found p None within ∙ ap Some some) in
-    let plain : IsPlain made = subst IsPlain c.as_str.ensures.value (c.in_ok-is_plain.ensures.0 c.if-branch.true) in
-    url_made rs c.args.kept.now (text_at (texts_of found)) c.args.i p (record_of c.request.result.now) location.now made c.in-Some.ensures c.request.ensures.value recorded c.in_ok-made.ensures plain
+    let usable = c.in_ok-is_usable.ensures.0 c.if-branch.true in
+    let plain : IsPlain made = subst IsPlain c.as_str.ensures.value usable.1 in
+    url_made rs c.args.kept.now (text_at (texts_of found)) c.args.i p (record_of c.request.result.now) location.now made c.in-Some.ensures c.request.ensures.value recorded usable.0 c.in_ok-made.ensures plain
 
 pub returns-else-branch-clause-lacks : goal.returns-else-branch-clause-lacks
 returns-else-branch-clause-lacks c =
@@ -50,7 +51,7 @@ returns-else-branch-clause-lacks c =
     let within : p < length found = omega (arith, referred_within rs c.args.i p c.in-Some.ensures.refers, c.requires.locations) in
     let some : get_or found p None ≡ Some location = c.in-Some-locations.is in
     let recorded : text_at (texts_of found) p ≡ Some location.now = recorded_at found p (Some location) (slice_get-get_or found p None within ∙ ap Some some) in
-    let bad : ¬ IsPlain made = λ plain. true≢false (sym (c.in_ok-is_plain.ensures.1 (subst IsPlain (sym c.as_str.ensures.value) plain)) ∙ c.if-branch.false) in
+    let bad : ¬ ((location.now ≢ []) × IsPlain made) = λ usable. true≢false (sym (c.in_ok-is_usable.ensures.1 (usable.0, subst IsPlain (sym c.as_str.ensures.value) usable.1)) ∙ c.if-branch.false) in
     (refl, lacks_plain rs c.args.kept.now (text_at (texts_of found)) c.args.i p (record_of c.request.result.now) location.now made c.in-Some.ensures c.request.ensures.value recorded c.in_ok-made.ensures bad)
 
 pub returns-in_default-clause-missing : goal.returns-in_default-clause-missing
@@ -74,8 +75,8 @@ returns-in_err-made-clause-missing c q leaves none =
     let recorded : text_at (texts_of found) p ≡ Some location.now = recorded_at found p (Some location) (slice_get-get_or found p None within ∙ ap Some some) in
     absurd (never rs c.args.kept.now (text_at (texts_of found)) c.args.i p q location.now c.in-Some.ensures recorded leaves none)
 
-pub returns-in_err-is_plain-clause-missing : goal.returns-in_err-is_plain-clause-missing
-returns-in_err-is_plain-clause-missing c q leaves none =
+pub returns-in_err-is_usable-clause-missing : goal.returns-in_err-is_usable-clause-missing
+returns-in_err-is_usable-clause-missing c q leaves none =
     let rs = plan_records c.args.plan.now in
     let found = c.args.locations.now in
     let p = c.in-Some.p in

@@ -68,5 +68,6 @@ returns-in-None c =
             first_text = first.text_of;
             second_text = next.text_of;
             first_lies = subst (λ js. LiesAt c.args.line.now c.in_ok-batch.batch first.value (items_tokens js ++ [])) (next.is ∙ ap (json.item next.value) none) first.lies;
+            second_lies = subst (λ js. LiesAt c.args.line.now c.in_ok-second.second next.value (items_tokens js ++ [])) none next.lies;
           }),
     )

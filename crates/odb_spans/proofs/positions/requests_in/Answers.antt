@@ -1,7 +1,7 @@
-use Rattle.std.proofs.Common.{codes, length, subst, arith}
+use Rattle.std.proofs.Common.{codes, length, subst}
 use Rattle.odb_spans.specs.Spans.{IsWithin}
-use Rattle.odb_spans.specs.Parts.{BeginRequests, FindsElements}
-use Rattle.odb_spans.proofs.FoundLemmas.{found-begins}
+use Rattle.odb_spans.specs.Parts.{FindsElements, LieRequests}
+use Rattle.odb_spans.proofs.FoundLemmas.{found-lies}
 use Rattle.odb_spans.proofs.PartLemmas.{if-ok}
 use Rattle.odb_spans.proofs.positions.requests_in.Goals as goal
 
@@ -9,8 +9,9 @@ pub returns-in-Some-Request-clause-found : goal.returns-in-Some-Request-clause-f
 returns-in-Some-Request-clause-found c =
     let text = c.args.document.now in
     let start = c.value_start in
-    if-ok (λ found. FindsElements (codes "requests") text start.result found.items) (λ found. BeginRequests text found.items) c.elements_in.result
-    (λ found all at span same.
-    (let within = subst (IsWithin (length text)) same (all at).bounds in
-    (omega (arith, within.0, within.1), λ d is. found-begins (codes "requests") text start.result found.items at span d start.ensures all same is)))
+    if-ok (λ found. FindsElements (codes "requests") text start.result found.items) (λ found. LieRequests text found.items) c.elements_in.result
+    (λ found all at span same. (
+      subst (IsWithin (length text)) same (all at).bounds,
+      λ d is. found-lies (codes "requests") text start.result found.items at span d start.ensures all same is,
+    ))
     c.elements_in.ensures.found

@@ -6,8 +6,8 @@ use Rattle.odb_check.proofs.PlanLemmas.{shaped}
 use Rattle.odb_send.specs.NextPart.{MayGo, member_count}
 use Rattle.odb_send.specs.Units.{marked}
 use Rattle.odb_send.proofs.NextPartLemmas.{AreFirst-none, AreFirst-over, AreFirst-more, may_go, may_not_done, may_not_wait, part_full, members_spanned}
-use Rattle.odb_send.proofs.next_part.next_units.Goals as goal
-use Rattle.odb_send.proofs.next_part.next_units.Goals.{then-not-done-u+then-not-index+else-count-room, else-not-done-u, else-not-done-u-via-then-not-done-u+else-not-index, else-not-done-u-via-else-not-done-u}
+use Rattle.odb_send.proofs.next_part.fitting_units.Goals as goal
+use Rattle.odb_send.proofs.next_part.fitting_units.Goals.{then-not-done-u+then-not-index+else-count-room, else-not-done-u, else-not-done-u-via-then-not-done-u+else-not-index, else-not-done-u-via-else-not-done-u}
 
 pub loop-u-init : goal.loop-u-init
 loop-u-init c =
