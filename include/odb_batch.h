@@ -195,18 +195,19 @@ uint32_t odb_explain(const uint8_t *code, size_t code_size,
  * Returns ODB_DONE or ODB_SMALL_BUFFER. Allocates nothing, and is the same text in each call. */
 uint32_t odb_constants(uint8_t *text, size_t text_size, size_t *text_length);
 
-/* Where an element begins in a document. */
+/* Where an element begins and ends in a document: its bytes are those from `offset` up to `end`. */
 typedef struct odb_position {
     size_t line;   /* from 1 */
     size_t column; /* from 1, in characters of UTF-8 */
     size_t offset; /* in bytes, from 0 */
+    size_t end;    /* likewise, after its last byte */
 } odb_position;
 
-/* Sets `*position` to where the element that a place names begins in a document. `place` is the last word in the line of a
- * fault: `batch`, `outcomes`, `responses` or `events` for a document, or the path to an element, as `/requests/3`. `batch`
+/* Sets `*position` to where the element that a place names begins and ends in a document. `place` is the last word in the line
+ * of a fault: `batch`, `outcomes`, `responses` or `events` for a document, or the path to an element, as `/requests/3`. `batch`
  * and `/requests/3` are in the batch, all others in the second document. If there is no such element, the position is that
  * of the document's value. If the document is not JSON (F02) and the place is a document, it is that of the first byte that
- * cannot be there, or the end: this one is tested, not proved. Returns ODB_DONE; or, with `*position` as it was,
+ * cannot be there, or the end, and ends there: this one is tested, not proved. Returns ODB_DONE; or, with `*position` as it was,
  * ODB_WRONG_OPTION if the text is no place, or ODB_OUT_OF_MEMORY. `position` must not be NULL, nor overlap the document or
  * the place. Takes O(n) time for a document of n bytes; for F02 O(n log k), if the wrong token has k bytes. */
 uint32_t odb_where(const uint8_t *document, size_t document_size,
@@ -221,7 +222,7 @@ typedef struct odb_part {
 
 #define ODB_NONE SIZE_MAX
 
-/* A fault of a batch: where the words of its line lie in a text, and where the element of its place begins. */
+/* A fault of a batch: where the words of its line lie in a text, and where the element of its place begins and ends. */
 typedef struct odb_fault {
     odb_part code;  /* as F41 */
     odb_part name;  /* as ForwardName */
@@ -247,6 +248,7 @@ typedef struct odb_request {
     odb_part rest;    /* of the URL after the id that it refers to: /Lines of $a/Lines; else the whole URL */
     odb_part headers; /* a JSON object of strings, names in lower case; an empty one if there are none */
     odb_part group;   /* the atomicity group; ODB_NONE if it has none */
+    odb_part needs;   /* the names in its line of `odb_plan_as`, with commas between them; of length 0 if there are none */
     odb_part body;    /* in the document, the bytes as they were written; ODB_NONE if it has none */
     size_t reference; /* the position of the request that the URL refers to, or ODB_NONE */
 } odb_request;
@@ -313,9 +315,9 @@ uint32_t odb_resolve(const uint8_t *base, size_t base_size, const uint8_t *roots
 /* A live run: a caller starts requests and reports how they ended, and learns what may start then. Requests are
  * named by their positions in the batch, from 0.
  *
- *   Handle     `odb_run_open` writes a handle to its place, and `odb_run_close` ends it. Until then each call
- *              takes the address of that place, or of a copy of it. A caller must pass a handle that was opened
- *              and is not closed; nothing checks that.
+ *   Handle     A pointer, whose struct only the library knows. `odb_run_open` writes it to its place, and `odb_run_close`
+ *              ends it. Until then each call takes the address of that place, or of a copy of it. A caller must pass a
+ *              handle that was opened and is not closed; nothing checks that.
  *   Threads    One thread at a time may be in the calls on one handle, on any thread; runs of their own need
  *              no lock.
  *   Memory     A handle owns a copy of the ids and groups of the batch, and of all that was reported. No call keeps
@@ -323,9 +325,7 @@ uint32_t odb_resolve(const uint8_t *base, size_t base_size, const uint8_t *roots
  *   NULL       `run`, `count` and `position` must not be NULL. `positions` and `id` may be, which are a buffer
  *              and an id of size 0.
  *   Overlap    The place of the handle, `*count` and `*position` must not overlap the other arguments. */
-typedef struct odb_live_run {
-    void *at;
-} odb_live_run;
+typedef struct odb_open_run *odb_live_run;
 
 /* Opens the run of a batch after recorded events, which may be none: the document {"events":[]}.
  * Returns ODB_DONE, and `*run` is a handle, with no text; what was there before is forgotten. Otherwise `*run` is as
@@ -398,14 +398,16 @@ uint32_t odb_run_start_unit(odb_live_run *run, uint32_t position);
 /* Gives the next part of a run as the text of a batch of its own, which the check accepts, and the positions of its requests:
  * requests that may be sent together, `limit` of them at most, none of which was in a part before. What they need is in the part
  * or has succeeded: dependencies on what has succeeded are left out, and `$id` in a URL is replaced by the Location that this request
- * has reported. Each body is the bytes of `batch`, which is the document of the run. `*count` is set to the number of positions; it is
- * 0 if nothing may be sent now. A run that is not finished gives a part with a request, or has one that is not reported yet.
+ * has reported. It ends before the first unit with a request that refers to one that has reported no Location of use.
+ * Each body is the bytes of `batch`, which is the document of the run. `*count` is set to the number of positions; it is
+ * 0 if nothing may be sent now. A run that is not finished gives a part with a request, or has one that is not reported yet, or such a
+ * unit is the first that may begin.
  * Returns ODB_DONE, and from now on the requests are in a part: once it is answered, pass it with its responses to `odb_run_take`,
  * or start its units one after another by `odb_run_start_unit`, and report their requests. Otherwise the run and `positions` are as
  * they were: returns ODB_SMALL_BUFFER if one of the buffers has too little room, and `*text_length` and `*count` say how much is needed. Else `*count`
  * is 0, and it returns ODB_WRONG_OPTION if `batch` has not the ids and groups of the run's batch, or if one of its groups has more
- * than `limit` requests; what `odb_check_as` does if the batch is refused, or by F90 if a request refers to one that has reported no
- * Location of use; or ODB_OUT_OF_MEMORY. A handle as above. Takes O(n log n) time for n bytes of the document. */
+ * than `limit` requests; what `odb_check_as` does if the batch is refused, or by F90 at the first such request of the first unit that may
+ * begin: start this unit by `odb_run_start_unit`, report its requests, and ask again; or ODB_OUT_OF_MEMORY. A handle as above. Takes O(n log n) time for n bytes of the document. */
 uint32_t odb_run_part(odb_live_run *run, const uint8_t *batch, size_t batch_size, uint32_t limit,
                       uint8_t *text, size_t text_size, size_t *text_length,
                       uint32_t *positions, size_t positions_size, size_t *count, uint64_t seed);
@@ -413,9 +415,9 @@ uint32_t odb_run_part(odb_live_run *run, const uint8_t *batch, size_t batch_size
 /* Takes what a service has answered a part that `odb_run_part` gave, at once: starts its requests, and reports each by the response with
  * its id: status, headers, and the bytes of the body. `part` is the text of the part, `responses` the response document, and `mode` what
  * an error does to the service: in ODB_STOP a request without a response is answered 424. What does not start, as its unit has failed or
- * the run was stopped before, is answered 424. In ODB_STOP the requests with errors start before one of them is reported: with a width
- * of ODB_MAX_WIDTH all of these are kept; but in a group without an error a 3xx becomes 424 if it depends on a member that is answered
- * 424, as that this one was undone does not show. Returns ODB_DONE, with no text; or, with the run as it was, ODB_REFUSED if
+ * the run was stopped before, is answered 424. In ODB_STOP the requests with errors start before one of them is reported; and if a 3xx
+ * depends on a member of its group that is answered 424, and there is no error, the group starts as one, and this member is reported as
+ * 204, which its group has undone. With a width of ODB_MAX_WIDTH all of these are kept. Returns ODB_DONE, with no text; or, with the run as it was, ODB_REFUSED if
  * `odb_match_with` refuses the part or the responses, or by F70 if a status is below 200 or headers are not those of a report: the text
  * is the line of the fault; ODB_SMALL_BUFFER if the line does not fit; ODB_WRONG_OPTION unless `mode` is one of these two, if a request
  * is running, or if one of the part is in none that was given or has started; or ODB_OUT_OF_MEMORY. A handle as above. Takes
@@ -579,7 +581,7 @@ static inline uint32_t odb_inline_faults(ODB_INLINE_IN(batch), ODB_INLINE_TEXT, 
                                          size_t *count, uint64_t seed)
 {
     uint8_t none = 0;
-    odb_fault no_fault = {{0, 0}, {0, 0}, {0, 0}, {0, 0, 0}};
+    odb_fault no_fault = {{0, 0}, {0, 0}, {0, 0}, {0, 0, 0, 0}};
     return odb_faults(ODB_INLINE_SLICE(batch), ODB_INLINE_SLICE(text), text_length,
                       faults && faults_size ? faults : &no_fault, faults ? faults_size : 0, count, seed);
 }
@@ -588,7 +590,7 @@ static inline uint32_t odb_inline_requests(ODB_INLINE_IN(batch), ODB_INLINE_TEXT
                                            size_t requests_size, size_t *count, uint64_t seed)
 {
     uint8_t none = 0;
-    odb_request no_request = {{0, 0}, {0, 0}, {0, 0}, {0, 0}, {0, 0}, {0, 0}, {0, 0}, 0};
+    odb_request no_request = {{0, 0}, {0, 0}, {0, 0}, {0, 0}, {0, 0}, {0, 0}, {0, 0}, {0, 0}, 0};
     return odb_requests(ODB_INLINE_SLICE(batch), ODB_INLINE_SLICE(text), text_length,
                         requests && requests_size ? requests : &no_request, requests ? requests_size : 0, count, seed);
 }
@@ -645,7 +647,7 @@ static inline uint32_t odb_inline_run_open_requests(ODB_INLINE_IN(batch), ODB_IN
                                                     uint64_t seed)
 {
     uint8_t none = 0;
-    odb_request no_request = {{0, 0}, {0, 0}, {0, 0}, {0, 0}, {0, 0}, {0, 0}, {0, 0}, 0};
+    odb_request no_request = {{0, 0}, {0, 0}, {0, 0}, {0, 0}, {0, 0}, {0, 0}, {0, 0}, {0, 0}, 0};
     return odb_run_open_requests(ODB_INLINE_SLICE(batch), ODB_INLINE_SLICE(events), mode, width, run,
                                  ODB_INLINE_SLICE(text), text_length, requests && requests_size ? requests : &no_request,
                                  requests ? requests_size : 0, count, seed);

@@ -140,6 +140,12 @@ lists-found all P Are form refusals (Err (halts.Refused refusal)) so are ended t
 lists-found all P Are form refusals (Err halts.Read) so are ended text none = absurd none
 lists-found all P Are form refusals (Err halts.OutOfMemory) so are ended text none = absurd none
 
+-- what a command writes may be written in more cases
+pub lists-weaker : (all : Bool) (P Q : WritesIn) (Are : List Printed → Type 0) (form : Form) → ((ended : Ended) (text : List ℕ) → P form ended text → Q form ended text) → (ended : Ended) (text : List ℕ) → Lists all P Are form ended text → Lists all Q Are form ended text
+lists-weaker false P Q Are form to ended text so = to ended text so
+lists-weaker true P Q Are form to ended text (inl (ends, so)) = inl (ends, to Done text so)
+lists-weaker true P Q Are form to ended text (inr is) = inr (record { line = is.line; refused = to Refused is.line is.refused; refusals = is.refusals; all = is.all; ends = is.ends; prints = is.prints })
+
 -- an answer that is written so
 pub lists-in : {E : Type 0} (all : Bool) (P : WritesIn) (Are : List Printed → Type 0) (form : Form) (refusals : List Printed) (found : FoundText) (result : Result Answer E) → Found P form found → (all ≡ true → IfErr found (Halted (λ _. Are refusals)))
     → IfOk result (λ answer. listed_found all form refusals found answer.ended answer.text.items) → IfOk result (λ answer. Lists all P Are form answer.ended answer.text.items)

@@ -22,6 +22,7 @@ use Rattle.odb_engine.specs.declared.halt.Halt.TheVariants as halts
 use Rattle.odb_engine.specs.Inputs.{most_read, GivesDocument, SomeDocument}
 use Rattle.odb_doc.specs.Refusals.{Printed}
 use Rattle.odb_engine.specs.Cascade.{Writes, WritesIn, Prints, Reports, RefusesBytes, AcceptsValue, AnswersValue, HasFault, IsLeastOfBatch, OfDocument}
+use Rattle.odb_engine.specs.Contents.{IfRead}
 use Rattle.odb_engine.specs.Engines.{Ends, WritesPrefix}
 use Rattle.odb_engine.specs.declared.form.Form.{Form}
 use Rattle.odb_engine.specs.Forms.{fault_text}
@@ -69,15 +70,32 @@ Halted-weaker Is Js to (halts.Refused refusal) so = to _ so
 Halted-weaker Is Js to halts.Read so = tt
 Halted-weaker Is Js to halts.OutOfMemory so = tt
 
+-- what holds of each fault holds of one that was found
+pub err-all : (Is : Printed → Type 0) → ((refusal : Printed) → Is refusal) → (found : FoundText) → IfErr found (Halted Is)
+err-all Is all (Ok text) = tt
+err-all Is all (Err (halts.Refused refusal)) = all (refusals.printed refusal)
+err-all Is all (Err halts.Read) = tt
+err-all Is all (Err halts.OutOfMemory) = tt
+
+pub err-weaker : (Is Js : Printed → Type 0) → ((refusal : Printed) → Is refusal → Js refusal) → (found : FoundText) → IfErr found (Halted Is) → IfErr found (Halted Js)
+err-weaker Is Js to (Ok text) so = tt
+err-weaker Is Js to (Err halt) so = Halted-weaker Is Js to halt so
+
+pub Halted-both : (Is Js Ks : Printed → Type 0) → ((refusal : Printed) → Is refusal → Js refusal → Ks refusal) → (halt : Halt) → Halted Is halt → Halted Js halt → Halted Ks halt
+Halted-both Is Js Ks to (halts.Refused refusal) one two = to _ one two
+Halted-both Is Js Ks to halts.Read one two = tt
+Halted-both Is Js Ks to halts.OutOfMemory one two = tt
+
 pub reports : (Is : Printed → Type 0) (form : Form) (refusal : Printed) → Is refusal → Reports Is form Refused (fault_text form refusal)
 reports Is form refusal is = record { refusal = refusal; is = is; ends = refl; prints = refl }
 
 -- no document was read, so there is no value
-pub unread-value : {T : Type 0} (left : Option (List ℕ)) (Q : List ℕ → T → Type 0) (Is : List ℕ → Printed → Type 0) (halt : Halt) (r : Result T Halt) → IsErrAnd r (λ other. other ≡ halt) → Halted (λ refusal. ⊥) halt
-    → SomeDocument left (λ bytes. IfOk r (Q bytes) × IfErr r (Halted (Is bytes)))
-unread-value left Q Is halt r is unrefused =
+pub unread-value : {T : Type 0} (left : Option (List ℕ)) (Q : List ℕ → T → Type 0) (Is : List ℕ → Printed → Type 0) (So : List ℕ → Type 0) (halt : Halt) (r : Result T Halt) → IsErrAnd r (λ other. other ≡ halt) → Halted (λ refusal. ⊥) halt
+    → SomeDocument left (λ bytes. (IfOk r (Q bytes) × IfErr r (Halted (Is bytes))) × IfRead (So bytes) r)
+unread-value left Q Is So halt r is unrefused =
     let (bytes, gives) = some-document left in
-    (bytes, gives, exit-error (λ x. IfOk x (Q bytes) × IfErr x (Halted (Is bytes))) halt r is (tt, Halted-weaker (λ refusal. ⊥) (Is bytes) (λ refusal none. absurd none) halt unrefused))
+    let none = λ (Js : Printed → Type 0). Halted-weaker (λ refusal. ⊥) Js (λ refusal none. absurd none) halt unrefused in
+    (bytes, gives, exit-error (λ x. (IfOk x (Q bytes) × IfErr x (Halted (Is bytes))) × IfRead (So bytes) x) halt r is ((tt, none (Is bytes)), none (λ refusal. So bytes)))
 
 -- the value of a document at a place is written so
 pub of-value : (place : Place) (P : Data → WritesIn) (bytes : List ℕ) (value : Data) → IsDocument bytes value → (form : Form) (ended : Ended) (text : List ℕ) → P value form ended text → OfDocument place P bytes form ended text
@@ -119,6 +137,10 @@ Refuses-weaker P Q form halt to = Halted-weaker (λ refusal. P form Refused (fau
 pub found-weaker : (P Q : WritesIn) (form : Form) (found : FoundText) → ((ended : Ended) (text : List ℕ) → P form ended text → Q form ended text) → Found P form found → Found Q form found
 found-weaker P Q form (Ok text) to so = to Done (string_bytes text) so
 found-weaker P Q form (Err halt) to so = Refuses-weaker P Q form halt to so
+
+-- what was found of a batch that the check accepts
+pub found-accepted : (P : List Record → WritesIn) (value : Data) (batch planned : List Record) (form : Form) (found : FoundText) → IsWellShaped value → IsBatchOf value batch → HasGoodNames batch → planned ≡ batch → Found (P planned) form found → Found (AnswersValue P value) form found
+found-accepted P value batch planned form found shaped is_batch names same = found-weaker (P planned) (AnswersValue P value) form found (λ ended text so. inr (accepted-value value batch planned (λ requests. P requests form ended text) shaped is_batch names same so))
 
 prefix-weaker : (P Q : Writes) (old new : Option (List ℕ)) → ((ended : Ended) (text : List ℕ) → P ended text → Q ended text) → WritesPrefix old new P → WritesPrefix old new Q
 prefix-weaker P Q old new to part = record { ended = part.ended; text = part.text; so = to part.ended part.text part.so; written = part.written }

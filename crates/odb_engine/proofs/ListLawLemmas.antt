@@ -96,7 +96,7 @@ all-faults-one law bytes refusals others (inr one) (inr two) =
 
 -- ---- what is written
 
-done-refused : Done ≡ Refused → ⊥
+pub done-refused : Done ≡ Refused → ⊥
 done-refused same = cc (same)
 
 -- one text is written with the first fault, so one is with all of them

@@ -10,7 +10,7 @@ use Rattle.odb_check.specs.declared.need.Need.{Need}
 use Rattle.odb_check.specs.declared.need.Need.TheVariants.{One, Group}
 use Rattle.odb_check.specs.Firsts.{joined_below}
 use Rattle.odb_check.specs.LeastNameFault.{HasGoodNames}
-use Rattle.odb_check.specs.PlanGraph.{IsPlan, IsPlanGraphOf, needs_of, unit_of}
+use Rattle.odb_check.specs.PlanGraph.{IsPlan, IsPlanGraphOf, needs_of, unit_of, unit_needed}
 use Rattle.odb_check.specs.Units.{unit_at, unit_count}
 use Rattle.odb_check.proofs.BelowLemmas.{get_or-list_below}
 use Rattle.odb_check.proofs.UnitLemmas.{unit_before}
@@ -20,7 +20,6 @@ use Rattle.odb_sched.specs.declared.states.RequestState.{RequestState}
 use Rattle.odb_sched.specs.declared.states.RequestState.TheVariants.{Waiting, Ready, Running, Reported, Skipped}
 use Rattle.odb_sched.specs.run.Failing.{Fails}
 use Rattle.odb_sched.specs.run.Failing.Fails.{own as failing_own, propagated as failing_propagated}
-use Rattle.odb_sched.specs.run.Failing.{unit_needed as needed_in}
 use Rattle.odb_sched.specs.run.Laws.{IsNeverStuck}
 use Rattle.odb_sched.specs.run.State.{State, has_failed, has_succeeded as phase_succeeded, is_reported, is_unstarted, phase_at, size}
 use Rattle.odb_sched.specs.run.States.{request_state, state_in}
@@ -28,9 +27,9 @@ use Rattle.odb_sched.specs.run.Steps.{all_satisfied, is_finished, is_stopped, pl
 use Rattle.odb_sched.specs.run.Units.{IsOver, has_begun}
 use Rattle.odb_sched.proofs.BelowLemmas.{any_below-Decides}
 use Rattle.odb_sched.proofs.FailingLemmas.{Fails-from_fails, fails-from_Fails}
-use Rattle.odb_send.specs.NextPart.{HasNoLonger, HasProgress, HasToWait, IsWhole, MayGo, has_succeeded, may_start, position_in, positions_in, state_at}
+use Rattle.odb_send.specs.NextPart.{HasNoLonger, HasProgress, HasToWait, MayGo, has_succeeded, may_start, position_in, positions_in, state_at}
 use Rattle.odb_send.specs.Rests.{is_kept, kept}
-use Rattle.odb_send.specs.Units.{marked, unit_needed}
+use Rattle.odb_send.specs.Units.{IsWhole, marked}
 use Rattle.odb_send.specs.Units.IsBarred.{own, needing}
 use Rattle.odb_send.proofs.MarkLemmas.{marked-kept, marked-set, not_marked}
 use Rattle.odb_send.proofs.PartLawLemmas.{fresh, needs_met_after, some_go}
@@ -184,7 +183,7 @@ module _ (rs : List Record) (run : State) (out : List Bool) (count : size run �
 
     -- where a unit may go, it has a request
     pub part-some : HasNoLonger rs limit → (u : ℕ) → MayGo rs is.part_is.done is.part_is.left u → (i : ℕ) × Contains part.positions.items i
-    part-some short u goes = let (i, within, stays) = some_go rs is.part_is.done is.part_is.left limit (kept is.rest) is.part_is.part_is.units short u goes in (i, in-part i within stays)
+    part-some short u goes = let (i, within, stays) = some_go rs is.part_is.done is.part_is.left limit (location run) (kept is.rest) is.part_is.part_is.units short u goes in (i, in-part i within stays)
 
 -- ---- a run that goes on
 
@@ -235,7 +234,7 @@ module _ (rs : List Record) (live : Live) (graph : IsPlanGraphOf rs live.run.pla
   ]
 
   -- what a request needs, by the numbers of the run and by the batch
-  needed-same : (i : ℕ) (need : Need) → i < length rs → Contains (needs_of live.run.plan_graph i) need → needed_in live.run.plan_graph need ≡ unit_needed rs need
+  needed-same : (i : ℕ) (need : Need) → i < length rs → Contains (needs_of live.run.plan_graph i) need → unit_needed (unit_of live.run.plan_graph) need ≡ unit_needed (unit_at rs) need
   needed-same i (One r) within has = let before : r < i = laws.earlier i (One r) (inside i within) has in graph.units r (omega (arith, before, within))
   needed-same i (Group u) within has = refl
 
@@ -251,15 +250,15 @@ module _ (rs : List Record) (live : Live) (graph : IsPlanGraphOf rs live.run.pla
         ])
   ]
   waits-failed done left progress v (needing i need within bound needs waits) =
-      let failed = waits-failed done left progress (unit_needed rs need) waits in
-      elim (cases_eq (unit_needed rs need) (unit_at rs i)) [
+      let failed = waits-failed done left progress (unit_needed (unit_at rs) need) waits in
+      elim (cases_eq (unit_needed (unit_at rs) need) (unit_at rs i)) [
         | inl same ↦ ap (unit_failed live.run) (sym same) ∙ failed
         | inr other ↦
             let has : Contains (needs_of live.run.plan_graph i) need = subst (λ (ns : List Need). Contains ns need) (sym (graph.needs i within)) needs in
             let needed = needed-same i need within has in
             let unit = graph.units i within in
-            let apart : needed_in live.run.plan_graph need ≢ unit_of live.run.plan_graph i = λ same. other (sym needed ∙ same ∙ unit) in
-            let fails_too : Fails live.run.plan_graph bad (needed_in live.run.plan_graph need) = subst (Fails live.run.plan_graph bad) (sym needed) (Fails-from_fails live.run.plan_graph bad (unit_needed rs need) failed) in
+            let apart : unit_needed (unit_of live.run.plan_graph) need ≢ unit_of live.run.plan_graph i = λ same. other (sym needed ∙ same ∙ unit) in
+            let fails_too : Fails live.run.plan_graph bad (unit_needed (unit_of live.run.plan_graph) need) = subst (Fails live.run.plan_graph bad) (sym needed) (Fails-from_fails live.run.plan_graph bad (unit_needed (unit_at rs) need) failed) in
             fails-from_Fails live.run.plan_graph bad (unit_at rs i) laws (subst (Fails live.run.plan_graph bad) unit (failing_propagated i need (inside i within) has apart fails_too))
       ]
 

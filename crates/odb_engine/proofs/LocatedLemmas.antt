@@ -1,5 +1,5 @@
 -- Faults with where they are, and what is written of two documents.
-use Rattle.std.proofs.Common.{◌≡◌, ◌∙◌, ◌↔◌, ◌<◌, ◌+◌, ℕ, zero, suc, arith, Bool, true, false, List, [], ◌∷◌, ◌++◌, length, take, get_or, map, cond, Option, None, Some, Result, Ok, Err, IfErr, IfOk, option_map, IsSomeAnd, inl, inr, refl, sym, ap, subst}
+use Rattle.std.proofs.Common.{◌≡◌, ◌∙◌, ◌<◌, ◌+◌, ℕ, zero, suc, arith, Bool, true, false, List, [], ◌∷◌, ◌++◌, length, take, get_or, map, cond, Option, None, Some, Result, Ok, Err, IfErr, IfOk, option_map, IsSomeAnd, inl, inr, ◌⊎◌, is_some, refl, sym, ap, subst}
 use Rattle.std.specs.List.{All, AllZip}
 use Rattle.std.proofs.lemmas.List.{map-append, take_more}
 use Rattle.std.proofs.lemmas.List.Elements.{All-nil, All-append, All-cons}
@@ -23,14 +23,22 @@ use Rattle.odb_engine.specs.declared.ending.Ended.TheVariants.{Done, Refused}
 use Rattle.odb_engine.specs.declared.form.Form.{Form}
 use Rattle.odb_engine.specs.declared.halt.Halt.{Halt}
 use Rattle.odb_engine.specs.declared.halt.Halt.TheVariants as halts
-use Rattle.odb_engine.specs.Cascade.{Answers, IsLeast, IsLeastOfBatch, WritesIn, at_place}
+use Rattle.odb_doc.specs.batch.LeastFault.{IsLeastFault}
+use Rattle.odb_engine.specs.Cascade.{HasFault, WritesIn, at_place}
+use Rattle.odb_engine.specs.Contents.{AreFaultsOfContent, Content, IsBytesOf, OfBatch, RefusesContent, bytes_in, given_of}
+use Rattle.odb_engine.specs.Contents.Content.{Bytes, Held}
+use Rattle.odb_engine.specs.AllFaults.{AreFaultsIn}
 use Rattle.odb_engine.specs.Forms.{fault_text}
+use Rattle.odb_engine.specs.Tasks.{OfLine, lists_all, takes_second}
+use Rattle.odb_engine.specs.declared.tasks.task.Task.{Task}
+use Rattle.odb_engine.specs.lines.Numbers.{OfLocated}
 use Rattle.odb_engine.specs.declared.tasks.answer.Answer.{Answer}
-use Rattle.odb_engine.specs.Halts.{Found, Halted}
-use Rattle.odb_engine.specs.Answered.{LocatesEither, LocatesFault, LocatesFound}
-use Rattle.odb_engine.specs.Located.{AreLocated, HasPosition, IsInEither, Locates, LocatesAll, PrintsAll, numbered}
-use Rattle.odb_engine.proofs.EngineLemmas.{FoundText, halt_in}
-use Rattle.odb_engine.proofs.RestLemmas.{least-answers}
+use Rattle.odb_engine.specs.Halts.{Found, Halted, RefusesNamesOf}
+use Rattle.odb_engine.specs.Answered.{HasSecond, LocatesEither, LocatesFault, LocatesFound, LocatesRefused, PrintsFound}
+use Rattle.odb_engine.specs.Located.{AreLocated, HasPosition, LocatesBoth, OfContents, numbered}
+use Rattle.odb_engine.proofs.EngineLemmas.{FoundText, err-all}
+use Rattle.odb_engine.proofs.AllFaultLemmas.{lists-in}
+use Rattle.odb_engine.proofs.SourceLemmas.{same-content}
 
 -- one more fault that is located
 pub located-next : (number : Option ℕ) (document : List ℕ) (refusals : List Refusal) (k : ℕ) (d : Refusal) (faults more : List Located) (fault : Located) → k < length refusals
@@ -64,10 +72,6 @@ position-at number document refusals positions k d e shown stand within is = rec
 pub located-none : (number : Option ℕ) (document : List ℕ) → AreLocated number document [] []
 located-none number document = record { are = refl; positions = All-nil (λ (shown : PrintedAt). IsSomeAnd shown.position (HasPosition number false document shown.refusal.place)) }
 
--- in a document that is no line the position is printed as it is
-pub has-position : (document : List ℕ) (place : Place) (position : Position) → HasPosition None false document place position → Stands document place position
-has-position document place position has = subst (Stands document place) (sym has.is) has.stands
-
 -- ---- the least fault of a batch document is in it
 
 -- the place of what is printed of a fault, if anything is
@@ -78,68 +82,105 @@ place_of (Some refusal) = refusal.place
 row-place : (row : Option Printed) (refusal : Printed) → row ≡ Some refusal → is_in_batch (place_of row) ≡ true → is_in_batch refusal.place ≡ true
 row-place row refusal is inside = subst (λ (o : Option Printed). is_in_batch (place_of o) ≡ true) is inside
 
-bytes-place : (row : Option Printed) → is_in_batch (place_of (option_map (at_place Batch) row)) ≡ true
-bytes-place None = refl
-bytes-place (Some refusal) = refl
+bytes-row : (row : Option Printed) → is_in_batch (place_of (option_map (at_place Batch) row)) ≡ true
+bytes-row None = refl
+bytes-row (Some refusal) = refl
 
-shape-place : (fault : DocFault) → is_in_batch (place_of (document_row fault)) ≡ true
-shape-place (doc_faults.Document rule) = refl
-shape-place (doc_faults.Request at rule) = refl
-shape-place doc_faults.OutOfMemory = refl
+shape-row : (fault : DocFault) → is_in_batch (place_of (document_row fault)) ≡ true
+shape-row (doc_faults.Document rule) = refl
+shape-row (doc_faults.Request at rule) = refl
+shape-row doc_faults.OutOfMemory = refl
 
-name-place : (fault : CheckFault) → is_in_batch (place_of (check_row fault)) ≡ true
-name-place (check_faults.Broken at rule) = refl
-name-place check_faults.OutOfMemory = refl
+name-row : (fault : CheckFault) → is_in_batch (place_of (check_row fault)) ≡ true
+name-row (check_faults.Broken at rule) = refl
+name-row check_faults.OutOfMemory = refl
 
-value-place : (value : Data) (refusal : Printed) → IsLeastOfBatch value refusal → is_in_batch refusal.place ≡ true
-value-place value refusal (inl has) = row-place (document_row has.fault) refusal has.is (shape-place has.fault)
-value-place value refusal (inr has) = row-place (check_row has.fault) refusal has.is (name-place has.fault)
+pub shape-place : (value : Data) (refusal : Printed) → HasFault IsLeastFault document_row value refusal → is_in_batch refusal.place ≡ true
+shape-place value refusal has = row-place (document_row has.fault) refusal has.is (shape-row has.fault)
 
-pub least-place : (bytes : List ℕ) (refusal : Printed) → IsLeast bytes refusal → is_in_batch refusal.place ≡ true
-least-place bytes refusal (inl has) = row-place (option_map (at_place Batch) (document_row has.fault)) refusal has.is (bytes-place (document_row has.fault))
-least-place bytes refusal (inr has) = value-place has.value refusal has.holds
+pub name-place : (batch : List Record) (refusal : Printed) → RefusesNamesOf batch refusal → is_in_batch refusal.place ≡ true
+name-place batch refusal has = row-place (check_row has.fault) refusal has.is (name-row has.fault)
 
--- ---- what is written of two documents
+pub bytes-place : (content : Content) (refusal : Printed) → RefusesContent Batch content refusal → is_in_batch refusal.place ≡ true
+bytes-place (Bytes bytes) refusal has = row-place (option_map (at_place Batch) (document_row has.fault)) refusal has.is (bytes-row (document_row has.fault))
+bytes-place (Held value) refusal none = absurd none
 
--- the fault that a command reports is printed with where it is
-pub locates-fault : (P : WritesIn) (form : Form) (batch_name batch second_name second : List ℕ) (refusal : Printed) (ended : Ended) (text : List ℕ) → P form Refused (fault_text form refusal)
-    → LocatesEither form batch_name batch second_name second refusal ended text → Locates P (IsInEither batch_name batch second_name second) form ended text
-locates-fault P form batch_name batch second_name second refusal ended text reported is = inr (record {
-  refusal = refusal;
-  reported = reported;
-  name = _;
-  position = is.position;
-  is_at = (refl, is.is_at);
-  ends = is.ends;
-  prints = is.prints;
-})
+-- ---- what is written of what was found
 
--- the batch has a fault, whatever the second document is
-pub locates-least : (P : List Record → WritesIn) (form : Form) (batch_name batch second_name other second : List ℕ) (refusal : Printed) (ended : Ended) (text : List ℕ) → IsLeast batch refusal
-    → LocatesEither form batch_name batch second_name other refusal ended text → Locates (Answers P batch) (IsInEither batch_name batch second_name second) form ended text
-locates-least P form batch_name batch second_name other second refusal ended text least is =
-    locates-fault (Answers P batch) form batch_name batch second_name second refusal ended text (least-answers P batch form refusal least)
-    (subst (λ (inside : Bool). LocatesFault (Stands (cond inside batch second) refusal.place) form (cond inside batch_name second_name) refusal ended text) (sym (least-place batch refusal least))
-    (subst (λ (inside : Bool). LocatesFault (Stands (cond inside batch other) refusal.place) form (cond inside batch_name second_name) refusal ended text) (least-place batch refusal least) is))
+module _ (two : Bool) (number : Option ℕ) (is_pair : Bool) (P : WritesIn) (Are : List Printed → Type 0) (form : Form) (batch_name batch second_name second : List ℕ) (faults : List Printed) where
+  -- the result
+  locates-done : (all : Bool) (ended : Ended) (text : List ℕ) → ended ≡ Done → P form Done text → LocatesBoth all two number is_pair P Are batch_name batch second_name second form ended text
+  locates-done all ended text ends so = at all two
+    where
+      at : (all two : Bool) → LocatesBoth all two number is_pair P Are batch_name batch second_name second form ended text
+      at true two = inl (ends, so)
+      at false true = inl (ends, so)
+      at false false = inl (ends, so)
 
--- what was found of both documents
-pub locates-found : (P : WritesIn) (form : Form) (batch_name batch second_name second : List ℕ) (found : FoundText) → Found P form found → (ended : Ended) (text : List ℕ) → LocatesFound form batch_name batch second_name second found ended text
-    → Locates P (IsInEither batch_name batch second_name second) form ended text
-locates-found P form batch_name batch second_name second (Ok found) so ended text (ends, same) = inl (ends, subst (P form Done) (sym same) so)
-locates-found P form batch_name batch second_name second (Err (halts.Refused refusal)) so ended text is = locates-fault P form batch_name batch second_name second (printed refusal) ended text so is
-locates-found P form batch_name batch second_name second (Err halts.Read) so ended text none = absurd none
-locates-found P form batch_name batch second_name second (Err halts.OutOfMemory) so ended text none = absurd none
+  -- the fault, or all faults
+  locates-refused : (all : Bool) (refusal : Printed) (ended : Ended) (text : List ℕ) → P form Refused (fault_text form refusal) → (all ≡ true → Are faults) → LocatesRefused all two number is_pair form batch_name batch second_name second faults refusal ended text
+      → LocatesBoth all two number is_pair P Are batch_name batch second_name second form ended text
+  locates-refused all refusal ended text so = at all two
+    where
+      at : (all two : Bool) → (all ≡ true → Are faults) → LocatesRefused all two number is_pair form batch_name batch second_name second faults refusal ended text
+          → LocatesBoth all two number is_pair P Are batch_name batch second_name second form ended text
+      at true two are is = inr (record { line = _; refused = so; refusals = faults; all = are refl; prints = is })
+      at false true are is = inr (record { refusal = refusal; fits = is.fits; reported = so; name = _; position = is.position; is_at = (refl, is.is_at); ends = is.ends; prints = is.prints })
+      at false false are is = inr (record { refusal = refusal; fits = is.fits; reported = so; name = _; position = is.position; is_at = (refl, is.is_at); ends = is.ends; prints = is.prints })
 
--- the same halt of results of two types
-pub same-halt : {A B : Type 0} (halt : Halt) (first : Result A Halt) (other : Result B Halt) (Failed : Type 0) → first ≡ Err halt → other ≡ Err halt → ((first ≡ Err halts.Read) ↔ Failed) → ((other ≡ Err halts.Read) ↔ Failed)
-same-halt halt first other Failed is same read = (
-  λ e. let read_halt : halt ≡ halts.Read = sym (ap halt_in same) ∙ ap halt_in e in read.0 (subst (λ (h : Halt). first ≡ Err h) read_halt is),
-  λ f. let read_halt : halt ≡ halts.Read = sym (ap halt_in is) ∙ ap halt_in (read.1 f) in subst (λ (h : Halt). other ≡ Err h) read_halt same,
-)
+-- the second document has these bytes, if there is one that a fault is in
+kept-second : (all : Bool) (place : Option Place) (number : Option ℕ) (is_pair : Bool) (content : Content) (form : Form) (batch_name batch second_name second : List ℕ) (faults : List Printed) (refusal : Printed) (ended : Ended) (text : List ℕ)
+    → (is_in_batch refusal.place ≡ true) ⊎ HasSecond place content second → LocatesRefused all (is_some place) number is_pair form batch_name batch second_name second faults refusal ended text
+    → LocatesRefused all (is_some place) number is_pair form batch_name batch second_name (bytes_in content) faults refusal ended text
+kept-second true place number is_pair content form batch_name batch second_name second faults refusal ended text has is = is
+kept-second false None number is_pair content form batch_name batch second_name second faults refusal ended text has is = is
+kept-second false (Some place) number is_pair content form batch_name batch second_name second faults refusal ended text (inl inside) is =
+    subst (λ (b : Bool). LocatesFault (Stands (cond b batch (bytes_in content)) refusal.place) form (cond b batch_name second_name) refusal ended text) (sym inside)
+    (subst (λ (b : Bool). LocatesFault (Stands (cond b batch second) refusal.place) form (cond b batch_name second_name) refusal ended text) inside is)
+kept-second false (Some place) number is_pair content form batch_name batch second_name second faults refusal ended text (inr same) is =
+    subst (λ (bytes : List ℕ). LocatesEither form batch_name batch second_name bytes refusal ended text) (same-content content second same) is
 
--- all faults are printed with where they are
-pub locates-all : {E : Type 0} (P : WritesIn) (Are : List Printed → Type 0) (name : List ℕ) (number : Option ℕ) (document : List ℕ) (form : Form) (refusal : Refusal) (refusals : List Printed) (found : FoundText) (result : Result Answer E) → found ≡ Err (halts.Refused refusal) → Found P form found
-    → IfErr found (Halted (λ _. Are refusals)) → IfOk result (λ answer. PrintsAll name number document form refusals answer.ended answer.text.items) → IfOk result (λ answer. LocatesAll P Are name number document form answer.ended answer.text.items)
-locates-all P Are name number document form refusal refusals found (Ok answer) is so are prints =
-    inr (record { line = _; refused = subst (Found P form) is so; refusals = refusals; all = subst (λ (r : FoundText). IfErr r (Halted (λ _. Are refusals))) is are; prints = prints })
-locates-all P Are name number document form refusal refusals found (Err error) is so are prints = tt
+-- by the bytes that are kept of the documents
+module _ (all : Bool) (place : Option Place) (number : Option ℕ) (is_pair : Bool) (P : WritesIn) (Are : List Printed → Type 0) (form : Form) (batch_name : List ℕ) (content : Content) (batch second_name : List ℕ) (other : Content) (second : List ℕ) (faults : List Printed) where
+  -- where a fault is, the bytes are those of the documents
+  abbrev AreKept : Printed → Type 0
+  AreKept refusal = IsBytesOf content batch × ((is_in_batch refusal.place ≡ true) ⊎ HasSecond place other second)
+
+  abbrev two : Bool
+  two = is_some place
+
+  locates-found : (found : FoundText) → Found P form found → (all ≡ true → IfErr found (Halted (λ refusal. Are faults))) → IfErr found (Halted AreKept) → (ended : Ended) (text : List ℕ)
+      → LocatesFound all two number is_pair form batch_name batch second_name second faults found ended text → LocatesBoth all two number is_pair P Are batch_name (bytes_in content) second_name (bytes_in other) form ended text
+  locates-found (Ok found) so are kept ended text (ends, same) = locates-done two number is_pair P Are form batch_name (bytes_in content) second_name (bytes_in other) faults all ended text ends (subst (P form Done) (sym same) so)
+  locates-found (Err (halts.Refused refusal)) so are kept ended text is =
+      locates-refused two number is_pair P Are form batch_name (bytes_in content) second_name (bytes_in other) faults all (printed refusal) ended text so are
+      (subst (λ (bytes : List ℕ). LocatesRefused all two number is_pair form batch_name bytes second_name (bytes_in other) faults (printed refusal) ended text) (same-content content batch kept.0)
+      (kept-second all place number is_pair other form batch_name batch second_name second faults (printed refusal) ended text kept.1 is))
+  locates-found (Err halts.Read) so are kept ended text none = absurd none
+  locates-found (Err halts.OutOfMemory) so are kept ended text none = absurd none
+
+  -- an answer that is printed so
+  pub located-in : {E : Type 0} (found : FoundText) (result : Result Answer E) → Found P form found → (all ≡ true → IfErr found (Halted (λ refusal. Are faults))) → IfErr found (Halted AreKept)
+      → IfOk result (λ answer. LocatesFound all two number is_pair form batch_name batch second_name second faults found answer.ended answer.text.items)
+      → IfOk result (λ answer. LocatesBoth all two number is_pair P Are batch_name (bytes_in content) second_name (bytes_in other) form answer.ended answer.text.items)
+  located-in found (Ok answer) so are kept is = locates-found found so are kept answer.ended answer.text.items is
+  located-in found (Err error) so are kept is = tt
+
+-- what is printed of what was found of both documents of a command
+pub contents-in : {E : Type 0} (located all : Bool) (place : Option Place) (writes : List ℕ → Data → List Record → WritesIn) (form : Form) (batch_name : List ℕ) (content : Content) (batch second_name : List ℕ) (other : Content) (second : List ℕ) (faults : List Printed) (found : FoundText) (result : Result Answer E)
+    → Found (OfBatch place writes (given_of other) content) form found → (all ≡ true → IfErr found (Halted (λ refusal. AreFaultsOfContent content faults)))
+    → (located ≡ true → IfErr found (Halted (λ refusal. IsBytesOf content batch × ((is_in_batch refusal.place ≡ true) ⊎ HasSecond place other second))))
+    → IfOk result (λ answer. PrintsFound located all (is_some place) None false form batch_name batch second_name second faults found answer.ended answer.text.items)
+    → IfOk result (λ answer. OfContents located all place writes batch_name content second_name other form answer.ended answer.text.items)
+contents-in false all place writes form batch_name content batch second_name other second faults found result so are kept is = lists-in all (OfBatch place writes (given_of other) content) (AreFaultsOfContent content) form faults found result so are is
+contents-in true all place writes form batch_name content batch second_name other second faults found result so are kept is =
+    located-in all place None false (OfBatch place writes (given_of other) content) (AreFaultsOfContent content) form batch_name content batch second_name other second faults found result so are (kept refl) is
+
+-- and of a line
+pub line-in : {E : Type 0} (located : Bool) (task : Task) (form : Form) (name : List ℕ) (number : ℕ) (line : List ℕ) (faults : List Printed) (found : FoundText) (result : Result Answer E)
+    → Found (OfLine task line) form found → (lists_all task ≡ true → IfErr found (Halted (λ refusal. AreFaultsIn line faults)))
+    → IfOk result (λ answer. PrintsFound located (lists_all task) false (Some number) (takes_second task) form name line [] [] faults found answer.ended answer.text.items)
+    → IfOk result (λ answer. OfLocated located name task number line form answer.ended answer.text.items)
+line-in false task form name number line faults found result so are is = lists-in (lists_all task) (OfLine task line) (AreFaultsIn line) form faults found result so are is
+line-in true task form name number line faults found result so are is =
+    located-in (lists_all task) None (Some number) (takes_second task) (OfLine task line) (AreFaultsIn line) form name (Bytes line) line [] (Bytes []) [] faults found result so are (err-all (λ (refusal : Printed). (line ≡ line) × ((is_in_batch refusal.place ≡ true) ⊎ HasSecond None (Bytes []) [])) (λ refusal. (refl, inr tt)) found) is

@@ -1,5 +1,5 @@
 -- What a task writes of a line with two documents is what it writes of the two documents.
-use Rattle.std.proofs.Common.{◌≡◌, ◌∙◌, ◌↔◌, Bool, true, false, ℕ, List, [], ◌-◌, drop, Some, inl, inr, refl, sym, subst, arith}
+use Rattle.std.proofs.Common.{◌≡◌, ◌∙◌, ◌↔◌, Bool, true, false, ℕ, List, [], ◌-◌, drop, Option, None, Some, is_some, inl, inr, refl, sym, ap, subst, arith}
 use Rattle.std.proofs.lemmas.Bool.{false≢true, true≢false}
 use Rattle.std.proofs.lemmas.List.{length-drop, length-take}
 use Rattle.serde_json.specs.Data.{Data, array, item, no_items}
@@ -10,26 +10,21 @@ use Rattle.odb_doc.specs.batch.Records.{Record}
 use Rattle.odb_spans.specs.Positions.{IsTextAt}
 use Rattle.odb_spans.specs.Spans.{bytes_of}
 use Rattle.odb_spans.specs.declared.span.Span.{Span}
-use Rattle.odb_sched.specs.run.Choosing.{AllowsOrder}
 use Rattle.odb_engine.specs.declared.ending.Ended.{Ended}
 use Rattle.odb_engine.specs.declared.form.Form.{Form}
 use Rattle.odb_engine.specs.declared.tasks.task.Task.{Task}
-use Rattle.odb_engine.specs.declared.tasks.task.Task.TheVariants as tasks
 use Rattle.odb_engine.specs.Cascade.{Answers, AnswersValue, OfDocument, WritesIn}
 use Rattle.odb_engine.specs.AllFaults.{AreFaultsIn, Lists}
-use Rattle.odb_engine.specs.Contents.{Given}
+use Rattle.odb_engine.specs.Contents.{Given, OfTaken}
 use Rattle.odb_engine.specs.Contents.Given.{ByReader, InHand, InMemory}
 use Rattle.odb_engine.specs.Inputs.{IsDocumentOf}
-use Rattle.odb_engine.specs.Matches.{MatchesValue}
-use Rattle.odb_engine.specs.Replays.{ReplaysValue}
-use Rattle.odb_engine.specs.Rests.{RestsValue}
-use Rattle.odb_engine.specs.Runs.{RunsValue}
-use Rattle.odb_engine.specs.Accepted.{written_alike}
-use Rattle.odb_engine.specs.Tasks.{AnswersPair, InLine, IsLineOf, OfDocuments, OfLine, OfTask, OfWholeLine, WritesPair, WritesParts, lists_all, takes_bytes, takes_second}
+use Rattle.odb_engine.specs.Accepted.{lists_alone, written_alike}
+use Rattle.odb_engine.specs.Tasks.{AnswersPair, InLine, IsLineOf, OfDocuments, OfLine, OfTask, OfValues, OfWholeLine, WritesPair, WritesParts, lists_all, second_place, takes_bytes, takes_second}
 use Rattle.odb_engine.proofs.EngineLemmas.{answers-weaker, of-value}
 use Rattle.odb_engine.proofs.LawLemmas.{refused_no_value}
 use Rattle.odb_engine.proofs.MemoryLemmas.{one_value, whole-document}
 use Rattle.odb_engine.proofs.SecondLemmas.{one_document}
+use Rattle.odb_engine.proofs.SourceLemmas.{taken-read, taken-weaker}
 use Rattle.odb_engine.proofs.TaskLawLemmas.{first-one, second-one}
 
 -- what is written of a document is written of its value
@@ -40,66 +35,47 @@ value-of place P bytes value is form ended text (inr has) = subst (λ v. P v for
 -- ---- a task over two documents lists no faults
 
 pub second-alone : (task : Task) → takes_second task ≡ true → lists_all task ≡ false
-second-alone (tasks.Check all) takes = absurd (false≢true takes)
-second-alone (tasks.Plan full) takes = refl
-second-alone tasks.Draw takes = refl
-second-alone tasks.Canon takes = refl
-second-alone (tasks.Match mode strict) takes = refl
-second-alone (tasks.Rest mode) takes = refl
-second-alone (tasks.Replay policy order traced) takes = refl
-second-alone (tasks.Run policy) takes = refl
+second-alone task takes = at (lists_all task) refl
+  where
+    at : (all : Bool) → lists_all task ≡ all → all ≡ false
+    at false is = refl
+    at true is = absurd (false≢true (sym (ap is_some (lists_alone task is)) ∙ takes))
 
-module _ (document second : List ℕ) (value : Data) (is : IsDocument second value) (form : Form) (ended : Ended) (text : List ℕ) (batch : List Record) where
+module _ (place : Option Place) (P : Data → WritesIn) (second : List ℕ) (value : Data) (is : IsDocument second value) (form : Form) (ended : Ended) (text : List ℕ) where
+  abbrev Of : Option Place → Given → Type 0
+  Of place given = OfTaken place P given form ended text
+
   -- by a second document in memory as by its value
-  in-memory : (task : Task) → OfTask task document (InHand value) batch form ended text → OfTask task document (InMemory second) batch form ended text
-  in-memory (tasks.Check all) so = so
-  in-memory (tasks.Plan full) so = so
-  in-memory tasks.Draw so = so
-  in-memory tasks.Canon so = so
-  in-memory (tasks.Match mode strict) so = of-value places.Responses (MatchesValue mode strict batch) second value is form ended text so
-  in-memory (tasks.Rest mode) so = of-value places.Responses (RestsValue mode document batch) second value is form ended text so
-  in-memory (tasks.Replay policy order traced) so = of-value places.Outcomes (ReplaysValue (AllowsOrder order) policy traced batch) second value is form ended text so
-  in-memory (tasks.Run policy) so = of-value places.Events (RunsValue policy batch) second value is form ended text so
+  in-memory : Of place (InHand value) → Of place (InMemory second)
+  in-memory = at place
+    where
+      at : (place : Option Place) → Of place (InHand value) → Of place (InMemory second)
+      at None so = so
+      at (Some place) so = of-value place P second value is form ended text so
 
-  in-hand : (task : Task) → OfTask task document (InMemory second) batch form ended text → OfTask task document (InHand value) batch form ended text
-  in-hand (tasks.Check all) so = so
-  in-hand (tasks.Plan full) so = so
-  in-hand tasks.Draw so = so
-  in-hand tasks.Canon so = so
-  in-hand (tasks.Match mode strict) so = value-of places.Responses (MatchesValue mode strict batch) second value is form ended text so
-  in-hand (tasks.Rest mode) so = value-of places.Responses (RestsValue mode document batch) second value is form ended text so
-  in-hand (tasks.Replay policy order traced) so = value-of places.Outcomes (ReplaysValue (AllowsOrder order) policy traced batch) second value is form ended text so
-  in-hand (tasks.Run policy) so = value-of places.Events (RunsValue policy batch) second value is form ended text so
+  in-hand : Of place (InMemory second) → Of place (InHand value)
+  in-hand = at place
+    where
+      at : (place : Option Place) → Of place (InMemory second) → Of place (InHand value)
+      at None so = so
+      at (Some place) so = value-of place P second value is form ended text so
 
   -- and as by the document of a reader that has just this left
   whole : IsDocumentOf second second
   whole = whole-document second (λ _. Unit {0}) (record { value = value; document = is; holds = tt })
 
-  by-reader : (task : Task) → OfTask task document (InMemory second) batch form ended text → OfTask task document (ByReader (Some second)) batch form ended text
-  by-reader (tasks.Check all) so = so
-  by-reader (tasks.Plan full) so = so
-  by-reader tasks.Draw so = so
-  by-reader tasks.Canon so = so
-  by-reader (tasks.Match mode strict) so = (second, whole, so)
-  by-reader (tasks.Rest mode) so = (second, whole, so)
-  by-reader (tasks.Replay policy order traced) so = (second, whole, so)
-  by-reader (tasks.Run policy) so = (second, whole, so)
-
-  of-reader : (task : Task) → OfTask task document (ByReader (Some second)) batch form ended text → OfTask task document (InMemory second) batch form ended text
-  of-reader (tasks.Check all) so = so
-  of-reader (tasks.Plan full) so = so
-  of-reader tasks.Draw so = so
-  of-reader tasks.Canon so = so
-  of-reader (tasks.Match mode strict) (bytes, gives, so) = subst (λ b. OfDocument places.Responses (MatchesValue mode strict batch) b form ended text) (one_document second bytes second gives whole) so
-  of-reader (tasks.Rest mode) (bytes, gives, so) = subst (λ b. OfDocument places.Responses (RestsValue mode document batch) b form ended text) (one_document second bytes second gives whole) so
-  of-reader (tasks.Replay policy order traced) (bytes, gives, so) =
-      subst (λ b. OfDocument places.Outcomes (ReplaysValue (AllowsOrder order) policy traced batch) b form ended text) (one_document second bytes second gives whole) so
-  of-reader (tasks.Run policy) (bytes, gives, so) = subst (λ b. OfDocument places.Events (RunsValue policy batch) b form ended text) (one_document second bytes second gives whole) so
+  of-reader : Of place (ByReader (Some second)) → Of place (InMemory second)
+  of-reader = at place
+    where
+      at : (place : Option Place) → Of place (ByReader (Some second)) → Of place (InMemory second)
+      at None so = so
+      at (Some place) (bytes, gives, so) = subst (λ b. OfDocument place P b form ended text) (one_document second bytes second gives whole) so
 
 module _ (task : Task) (takes : takes_second task ≡ true) (alone : takes_bytes task ≡ false) (batch second line : List ℕ) (is : IsLineOf batch second line) (form : Form) (ended : Ended) (text : List ℕ) where
   -- whatever the bytes are
   alike : (document other : List ℕ) (given : Given) (requests : List Record) → OfTask task document given requests form ended text → OfTask task other given requests form ended text
-  alike document other given requests = written_alike task document other (λ bytes. absurd (true≢false (sym bytes ∙ alone))) given requests form ended text
+  alike document other given requests = taken-weaker (second_place task) (λ d. OfValues task document d requests) (λ d. OfValues task other d requests) given form ended text
+      (λ d. written_alike task document other (λ bytes. absurd (true≢false (sym bytes ∙ alone))) d requests form ended text)
 
   abbrev OfPairs : Data → WritesIn
   OfPairs = AnswersPair false (OfTask task) line
@@ -124,22 +100,22 @@ module _ (task : Task) (takes : takes_second task ≡ true) (alone : takes_bytes
           let other = second-one is.batch_value is.second_value y.first y.second y.pair in
           let so = subst (λ v. AnswersValue (OfTask task y.document (InHand v)) is.batch_value form ended text) (sym other) (subst (λ v. AnswersValue (OfTask task y.document (InHand y.second)) v form ended text) (sym first) y.so) in
           of-value places.Batch (AnswersValue (OfTask task batch (InMemory second))) batch is.batch_value is.batch_is form ended text
-          (answers-weaker (OfTask task y.document (InHand is.second_value)) (OfTask task batch (InMemory second)) is.batch_value form ended text (λ requests so. in-memory batch second is.second_value is.second_is form ended text requests task (alike y.document batch (InHand is.second_value) requests so)) so)
+          (answers-weaker (OfTask task y.document (InHand is.second_value)) (OfTask task batch (InMemory second)) is.batch_value form ended text (λ requests so. in-memory (second_place task) (λ d. OfValues task batch d requests) second is.second_value is.second_is form ended text (alike y.document batch (InHand is.second_value) requests so)) so)
 
   pub pair-from : Answers (OfTask task batch (InMemory second)) batch form ended text → OfLine task line form ended text
   pair-from so =
-      let here = answers-weaker (OfTask task batch (InMemory second)) (OfTask task [] (InHand is.second_value)) is.batch_value form ended text (λ requests so. alike batch [] (InHand is.second_value) requests (in-hand batch second is.second_value is.second_is form ended text requests task so))
+      let here = answers-weaker (OfTask task batch (InMemory second)) (OfTask task [] (InHand is.second_value)) is.batch_value form ended text (λ requests so. alike batch [] (InHand is.second_value) requests (in-hand (second_place task) (λ d. OfValues task batch d requests) second is.second_value is.second_is form ended text so))
       (value-of places.Batch (AnswersValue (OfTask task batch (InMemory second))) batch is.batch_value is.batch_is form ended text so) in
       line-from (of-value places.Batch OfPairs line pair is.line_is form ended text (inr (record { first = is.batch_value; second = is.second_value; pair = refl; document = []; taken = refl; so = here })))
 
   pub readers-to : OfLine task line form ended text → Answers (OfTask task batch (ByReader (Some second))) batch form ended text
   readers-to so = of-value places.Batch (AnswersValue (OfTask task batch (ByReader (Some second)))) batch is.batch_value is.batch_is form ended text
-      (answers-weaker (OfTask task batch (InMemory second)) (OfTask task batch (ByReader (Some second))) is.batch_value form ended text (λ requests. by-reader batch second is.second_value is.second_is form ended text requests task)
+      (answers-weaker (OfTask task batch (InMemory second)) (OfTask task batch (ByReader (Some second))) is.batch_value form ended text (λ requests. taken-read (Some second) second (whole-document second (λ _. Unit {0}) (record { value = is.second_value; document = is.second_is; holds = tt })) (second_place task) (λ d. OfValues task batch d requests) form ended text)
       (value-of places.Batch (AnswersValue (OfTask task batch (InMemory second))) batch is.batch_value is.batch_is form ended text (pair-to so)))
 
   pub readers-from : Answers (OfTask task batch (ByReader (Some second))) batch form ended text → OfLine task line form ended text
   readers-from so = pair-from (of-value places.Batch (AnswersValue (OfTask task batch (InMemory second))) batch is.batch_value is.batch_is form ended text
-      (answers-weaker (OfTask task batch (ByReader (Some second))) (OfTask task batch (InMemory second)) is.batch_value form ended text (λ requests. of-reader batch second is.second_value is.second_is form ended text requests task)
+      (answers-weaker (OfTask task batch (ByReader (Some second))) (OfTask task batch (InMemory second)) is.batch_value form ended text (λ requests. of-reader (second_place task) (λ d. OfValues task batch d requests) second is.second_value is.second_is form ended text)
       (value-of places.Batch (AnswersValue (OfTask task batch (ByReader (Some second)))) batch is.batch_value is.batch_is form ended text so)))
 
 -- so what it writes is its result or the first fault
@@ -176,8 +152,8 @@ module _ (task : Task) (takes : takes_second task ≡ true) (bytes : takes_bytes
       let same = sym parts.is ∙ y.pair in
       let document = bytes_of line first in
       let answer = bytes_of line other in
-      let one = part-document line both y.first first is (subst (IsTextAt line first) (first-one parts.batch parts.second y.first y.second same) parts.first_text) in
-      let two = part-document line both y.second other is (subst (IsTextAt line other) (second-one parts.batch parts.second y.first y.second same) parts.other_text) in
+      let one = part-document line both y.first first is (subst (IsTextAt line first) (first-one parts.batch parts.second y.first y.second same) parts.first_place.text) in
+      let two = part-document line both y.second other is (subst (IsTextAt line other) (second-one parts.batch parts.second y.first y.second same) parts.other_place.text) in
       let so = subst (λ b. AnswersValue (OfTask task b (InHand y.second)) y.first form ended text) y.taken.is y.so in
       record {
         first = first;
@@ -186,7 +162,7 @@ module _ (task : Task) (takes : takes_second task ≡ true) (bytes : takes_bytes
         so =
             (whole-documents task takes (InMemory answer) document form ended text).1
             (of-value places.Batch (AnswersValue (OfTask task document (InMemory answer))) document y.first one form ended text
-            (answers-weaker (OfTask task document (InHand y.second)) (OfTask task document (InMemory answer)) y.first form ended text (λ requests. in-memory document answer y.second two form ended text requests task) so));
+            (answers-weaker (OfTask task document (InHand y.second)) (OfTask task document (InMemory answer)) y.first form ended text (λ requests. in-memory (second_place task) (λ d. OfValues task document d requests) answer y.second two form ended text) so));
       }
 
   pub parts-to : OfWholeLine task line form ended text → WritesParts task line both form ended text

@@ -1,13 +1,8 @@
 -- The exits of a rest, and its result.
-use Rattle.std.proofs.Common.{◌≡◌, ◌⊎◌, ◌++◌, ◌∷◌, ℕ, List, [], Bool, IsSome, is_some, inl, inr, refl, ap}
-use Rattle.odb_check.specs.LeastNameFault.{HasGoodNames}
+use Rattle.std.proofs.Common.{◌≡◌, ◌++◌, ◌∷◌, ℕ, List, [], Bool, IsSome, is_some, inl, inr, refl, ap}
 use Rattle.odb_check.specs.Texts.{newline}
-use Rattle.odb_doc.specs.declared.fault.Place.TheVariants.{Batch}
-use Rattle.odb_doc.specs.Documents.{IsDocument}
-use Rattle.odb_doc.specs.Refusals.{Printed}
-use Rattle.odb_doc.specs.batch.LeastFault.{IsWellShaped}
 use Rattle.serde_json.specs.Data.{Data}
-use Rattle.odb_doc.specs.batch.Records.{Record, IsBatchOf}
+use Rattle.odb_doc.specs.batch.Records.{Record}
 use Rattle.odb_sched.specs.declared.policy.Mode.{Mode}
 use Rattle.odb_reply.specs.MatchFaults.{MatchFault}
 use Rattle.odb_reply.specs.declared.response_fault.ResponseFault.{ResponseFault}
@@ -23,14 +18,10 @@ use Rattle.odb_send.specs.Rests.{IsRestOf}
 use Rattle.odb_send.specs.Texts.{IsTextOf}
 use Rattle.odb_send.specs.Units.{AreMarksOf, IsInRest}
 use Rattle.odb_send.specs.Parts.{IsBatchIn}
-use Rattle.odb_engine.specs.declared.ending.Ended.{Ended}
 use Rattle.odb_engine.specs.declared.ending.Ended.TheVariants.{Done, Refused}
 use Rattle.odb_engine.specs.declared.halt.Halt.{Halt}
-use Rattle.odb_engine.specs.Cascade.{Accepts, Answers, IsLeast, IsLeastOfBatch, RefusesBytes, WritesIn}
 use Rattle.odb_engine.specs.declared.form.Form.{Form}
 use Rattle.odb_engine.specs.Forms.{fault_text}
-use Rattle.odb_engine.specs.Contents.{IsAskedFor}
-use Rattle.odb_engine.specs.Contents.Content.{Bytes}
 use Rattle.odb_engine.specs.Halts.{Refuses, HaltsBy}
 use Rattle.odb_engine.specs.Matches.{IsFaultOfResponses, Lists, Misfits, decided}
 use Rattle.odb_engine.specs.Rests.{LacksLocations, RestsValue}
@@ -78,19 +69,3 @@ found-rest mode form document batch value entries places statuses line text rest
     writes = inr (record { rest = rest; rest_is = is; line = line; line_is = written; ends = refl; prints = same });
   }),
 )
-
--- ---- the batch in a document
-
--- the least fault of the batch may be written
-pub least-answers : (P : List Record → WritesIn) (bytes : List ℕ) (form : Form) (refusal : Printed) → IsLeast bytes refusal → Answers P bytes form Refused (fault_text form refusal)
-least-answers P bytes form refusal (inl is) = inl (reports (RefusesBytes Batch bytes) form refusal is)
-least-answers P bytes form refusal (inr has) = inr (record { value = has.value; document = has.document; holds = inl (reports (IsLeastOfBatch has.value) form refusal has.holds) })
-
--- what is written of a batch that is accepted
-pub accepted-answers : (P : List Record → WritesIn) (bytes : List ℕ) (value : Data) (batch : List Record) (form : Form) (ended : Ended) (text : List ℕ) → IsDocument bytes value → IsWellShaped value → IsBatchOf value batch → HasGoodNames batch → P batch form ended text → Answers P bytes form ended text
-accepted-answers P bytes value batch form ended text document shaped is good writes = inr (record { value = value; document = document; holds = inr (record { batch = batch; shaped = shaped; is_batch = is; holds = (good, writes) }) })
-
--- the second reader was asked only after the first
-pub asked-after : {S : Type 0} (was_read : Type 0) (bytes : List ℕ) (old new : S) → was_read → (new ≡ old) ⊎ Accepts bytes (λ _. Unit {0}) → IsAskedFor was_read (Bytes bytes) old new
-asked-after was_read bytes old new was (inl same) = inl same
-asked-after was_read bytes old new was (inr accepts) = inr (was, accepts)

@@ -1,20 +1,29 @@
 -- What is written of the document that a source gives.
-use Rattle.std.proofs.Common.{◌≡◌, ◌⊎◌, ℕ, Bool, true, List, inl, inr, sym, subst}
+use Rattle.std.proofs.Common.{◌≡◌, ◌⊎◌, ℕ, Bool, true, List, Option, None, Some, Result, Ok, Err, IfOk, inl, inr, sym, subst}
+use Rattle.std.proofs.lemmas.Result.{IfOk-weaker}
 use Rattle.serde_json.specs.Data.{Data}
 use Rattle.odb_doc.specs.declared.fault.Place.{Place}
 use Rattle.odb_doc.specs.declared.fault.Place.TheVariants.{Batch}
 use Rattle.odb_doc.specs.Documents.{IsJson}
+use Rattle.odb_doc.specs.Refusals.{Printed}
 use Rattle.odb_doc.specs.batch.Records.{Record}
 use Rattle.odb_engine.specs.declared.halt.Halt.{Halt}
 use Rattle.odb_engine.specs.declared.halt.Halt.TheVariants as halts
 use Rattle.odb_engine.specs.declared.ending.Ended.{Ended}
+use Rattle.odb_engine.specs.declared.ending.Ended.TheVariants.{Refused}
+use Rattle.odb_engine.specs.declared.tasks.answer.Answer.{Answer}
 use Rattle.odb_engine.specs.declared.form.Form.{Form}
+use Rattle.odb_engine.specs.AllFaults.{Lists}
+use Rattle.odb_engine.specs.Answered.{IsSecond, RefusesSecond}
 use Rattle.odb_engine.specs.Cascade.{WritesIn, AcceptsValue, AnswersValue}
-use Rattle.odb_engine.specs.Contents.{Content, Given, AcceptsContent, IsAskedFor, IsBytesOf, IsValueOf, OfContent, OfGiven, RefusesContent, SomeContent, bytes_in}
+use Rattle.odb_engine.specs.Contents.{Content, Given, AcceptsContent, IfRead, IsAskedFor, IsBytesOf, IsValueOf, OfBatch, OfContent, OfTaken, RefusesContent, SomeContent, bytes_in, given_of, nothing}
 use Rattle.odb_engine.specs.Contents.Content.{Bytes, Held}
 use Rattle.odb_engine.specs.Contents.Given.{ByReader, InHand, InMemory}
+use Rattle.odb_engine.specs.Forms.{fault_text}
 use Rattle.odb_engine.specs.Halts.{Found, Halted, Refuses}
-use Rattle.odb_engine.proofs.EngineLemmas.{FoundText, answers-weaker, found-weaker, halt-document, of-value}
+use Rattle.odb_engine.specs.Inputs.{GivesDocument}
+use Rattle.odb_engine.proofs.AllFaultLemmas.{lists-weaker}
+use Rattle.odb_engine.proofs.EngineLemmas.{FoundText, Halted-weaker, answers-weaker, found-weaker, halt-document, of-value, some-document}
 
 -- the document that is given has a weaker property
 pub some-weaker : (given : Given) (P Q : Content → Type 0) → ((content : Content) → P content → Q content) → SomeContent given P → SomeContent given Q
@@ -43,16 +52,70 @@ pub asked-for : {S : Type 0} (was_read : Type 0) (content : Content) (value : Da
 asked-for was_read content value old new is was (inl same) = inl same
 asked-for was_read content value old new is was (inr accepts) = inr (was, accepts-content (λ _. Unit {0}) content value is accepts)
 
--- what was found of the value of a second document
-pub given-found : (given : Given) (place : Place) (P : Data → WritesIn) (value : Data) (W : Content → Type 0) (form : Form) (found : FoundText) → SomeContent given (λ content. (IsValueOf content value × W content) × Unit {0}) → Found (P value) form found → Found (OfGiven given place P) form found
-given-found given place P value W form found some = found-weaker (P value) (OfGiven given place P) form found (λ ended text so.
-    some-weaker given _ (λ content. OfContent place P content form ended text) (λ content is. of-content place P content value is.0.0 form ended text so) some)
+-- what is so of each document that was read
+pub if-read : {T : Type 0} (So : Type 0) → So → (r : Result T Halt) → IfRead So r
+if-read So so (Ok value) = so
+if-read So so (Err (halts.Refused refusal)) = so
+if-read So so (Err halts.Read) = tt
+if-read So so (Err halts.OutOfMemory) = tt
 
--- the bytes of a second document are refused
-pub given-halt : (given : Given) (place : Place) (P : Data → WritesIn) (form : Form) (halt : Halt) → SomeContent given (λ content. Unit {0} × Halted (RefusesContent place content) halt) → Refuses (OfGiven given place P) form halt
-given-halt given place P form (halts.Refused refusal) some = some-weaker given _ _ (λ content is. halt-content place P content form (halts.Refused refusal) is.1) some
-given-halt given place P form halts.Read some = tt
-given-halt given place P form halts.OutOfMemory some = tt
+-- some document is given
+pub some-content : (given : Given) → SomeContent given (λ content. Unit {0})
+some-content (ByReader left) = let (bytes, gives) = some-document left in (bytes, gives, tt)
+some-content (InMemory bytes) = tt
+some-content (InHand value) = tt
+
+-- ---- the second document of a command, if it takes one
+
+-- what is written by its value is written by the document
+pub by-value : (place : Option Place) (P : Data → WritesIn) (content : Content) (value : Data) → IsSecond place content value → (form : Form) (ended : Ended) (text : List ℕ) → P value form ended text → OfTaken place P (given_of content) form ended text
+by-value None P content value is form ended text so = subst (λ d. P d form ended text) is so
+by-value (Some place) P (Bytes bytes) value is form ended text so = of-value place P bytes value is form ended text so
+by-value (Some place) P (Held held) value is form ended text so = subst (λ d. P d form ended text) is so
+
+-- its bytes are refused
+pub by-refusal : (place : Option Place) (P : Data → WritesIn) (content : Content) (form : Form) (halt : Halt) → Halted (RefusesSecond place content) halt → Refuses (OfTaken place P (given_of content)) form halt
+by-refusal None P content form halt none = Halted-weaker (λ refusal. ⊥) (λ refusal. P nothing form Refused (fault_text form refusal)) (λ refusal so. absurd so) halt none
+by-refusal (Some place) P (Bytes bytes) form halt refused = halt-document place P bytes form halt refused
+by-refusal (Some place) P (Held held) form halt refused = halt-content place P (Held held) form halt refused
+
+-- no bytes are refused where there is none
+pub refused-alone : (place : Option Place) (content : Content) (halt : Halt) (Is : Printed → Type 0) → place ≡ None → Halted (RefusesSecond place content) halt → Halted Is halt
+refused-alone place content halt Is none so = Halted-weaker (λ refusal. ⊥) Is (λ refusal so. absurd so) halt (subst (λ (place : Option Place). Halted (RefusesSecond place content) halt) none so)
+
+-- what is written of a document may be written in more cases
+content-weaker : (place : Place) (P Q : Data → WritesIn) (content : Content) (form : Form) (ended : Ended) (text : List ℕ) → ((value : Data) → P value form ended text → Q value form ended text) → OfContent place P content form ended text → OfContent place Q content form ended text
+content-weaker place P Q (Bytes bytes) form ended text to (inl x) = inl x
+content-weaker place P Q (Bytes bytes) form ended text to (inr has) = inr (record { value = has.value; document = has.document; holds = to has.value has.holds })
+content-weaker place P Q (Held value) form ended text to so = to value so
+
+pub taken-weaker : (place : Option Place) (P Q : Data → WritesIn) (given : Given) (form : Form) (ended : Ended) (text : List ℕ) → ((value : Data) → P value form ended text → Q value form ended text) → OfTaken place P given form ended text → OfTaken place Q given form ended text
+taken-weaker None P Q given form ended text to so = to nothing so
+taken-weaker (Some place) P Q given form ended text to so =
+    some-weaker given (λ content. OfContent place P content form ended text) (λ content. OfContent place Q content form ended text) (λ content. content-weaker place P Q content form ended text to) so
+
+-- by the document of a reader as by the same bytes
+pub taken-read : (left : Option (List ℕ)) (bytes : List ℕ) → GivesDocument left bytes → (place : Option Place) (P : Data → WritesIn) (form : Form) (ended : Ended) (text : List ℕ) → OfTaken place P (InMemory bytes) form ended text → OfTaken place P (ByReader left) form ended text
+taken-read left bytes gives None P form ended text so = so
+taken-read left bytes gives (Some place) P form ended text so = (bytes, gives, so)
+
+-- the same of all that a command writes of a batch document
+module _ (all : Bool) (place : Option Place) (writes : List ℕ → Data → List Record → WritesIn) (content : Content) (Are : List Printed → Type 0) (form : Form) where
+  abbrev Of : Given → WritesIn
+  Of given = OfBatch place writes given content
+
+  batch-read : (left : Option (List ℕ)) (bytes : List ℕ) → GivesDocument left bytes → (ended : Ended) (text : List ℕ) → Of (InMemory bytes) form ended text → Of (ByReader left) form ended text
+  batch-read left bytes gives ended text =
+      let P = λ (given : Given) (batch : List Record). OfTaken place (λ second. writes (bytes_in content) second batch) given in
+      content-weaker Batch (AnswersValue (P (InMemory bytes))) (AnswersValue (P (ByReader left))) content form ended text
+      (λ value. answers-weaker (P (InMemory bytes)) (P (ByReader left)) value form ended text (λ batch. taken-read left bytes gives place (λ second. writes (bytes_in content) second batch) form ended text))
+
+  pub lists-given : (given : Given) (found : Result Answer Halt) → SomeContent given (λ other. IfOk found (λ answer. Lists all (Of (given_of other)) Are form answer.ended answer.text.items)) → IfOk found (λ answer. Lists all (Of given) Are form answer.ended answer.text.items)
+  lists-given (ByReader left) found (bytes, gives, so) =
+      IfOk-weaker found (λ answer. Lists all (Of (InMemory bytes)) Are form answer.ended answer.text.items) (λ answer. Lists all (Of (ByReader left)) Are form answer.ended answer.text.items)
+      (λ answer. lists-weaker all (Of (InMemory bytes)) (Of (ByReader left)) Are form (batch-read left bytes gives) answer.ended answer.text.items) so
+  lists-given (InMemory bytes) found so = so
+  lists-given (InHand value) found so = so
 
 -- what follows from whatever document is given
 pub some-so : (given : Given) (P : Content → Type 0) (Q : Type 0) → ((content : Content) → P content → Q) → SomeContent given P → Q
@@ -65,7 +128,7 @@ pub json-content : (content : Content) (bytes : List ℕ) (value : Data) → IsB
 json-content (Bytes document) bytes value same is = subst (λ b. IsJson b value) (sym same) is.1
 json-content (Held held) bytes value none is = absurd none
 
-same-content : (content : Content) (bytes : List ℕ) → IsBytesOf content bytes → bytes ≡ bytes_in content
+pub same-content : (content : Content) (bytes : List ℕ) → IsBytesOf content bytes → bytes ≡ bytes_in content
 same-content (Bytes document) bytes same = same
 same-content (Held held) bytes none = absurd none
 

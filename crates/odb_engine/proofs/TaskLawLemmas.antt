@@ -63,7 +63,7 @@ pub first-json : (takes : Bool) (line : List ℕ) (first second : Data) (bytes :
 first-json false line first second bytes taken same = absurd (true≢false (sym same))
 first-json true line first second bytes taken same =
     let parts = taken.parts in
-    subst (IsJson bytes) (sym (first-one first second parts.batch parts.second parts.is)) (subst (λ b. IsJson b parts.batch) (sym taken.is) parts.first_text.reads)
+    subst (IsJson bytes) (sym (first-one first second parts.batch parts.second parts.is)) (subst (λ b. IsJson b parts.batch) (sym taken.is) parts.first_place.text.reads)
 
 -- the first of the two documents in a line lies in one place
 abbrev pub IsOnePair : Type 0

@@ -1,12 +1,15 @@
 -- For private clauses: what is written of an answer in memory, of all faults, and of a fault with where it is.
-use Rattle.std.specs.Prelude.{◌≡◌, ℕ, Bool, true, false, List, Some, Result, Ok, Err, String, string_bytes, if◌then◌else◌}
+use Rattle.std.specs.Prelude.{◌≡◌, ℕ, Bool, true, false, List, Option, None, Some, Result, Ok, Err, String, string_bytes, if◌then◌else◌}
 use Rattle.std.specs.declared.alloc.Global.{Global}
+use Rattle.serde_json.specs.Data.{Data}
+use Rattle.odb_doc.specs.declared.fault.Place.{Place}
 use Rattle.odb_doc.specs.Refusals.{Printed, printed}
 use Rattle.odb_doc.specs.batch.Records.{Record}
 use Rattle.odb_check.specs.AllNameFaults.{AreNameFaults}
 use Rattle.odb_check.specs.FaultTable.{check_row}
 use Rattle.odb_spans.specs.Positions.{Stands, is_in_batch}
 use Rattle.odb_spans.specs.declared.position.Position.{Position}
+use Rattle.odb_text.specs.Places.{FitsWord}
 use Rattle.odb_engine.specs.declared.tasks.answer.Answer.{Answer}
 use Rattle.odb_engine.specs.declared.ending.Ended.{Ended}
 use Rattle.odb_engine.specs.declared.ending.Ended.TheVariants.{Refused}
@@ -15,7 +18,9 @@ use Rattle.odb_engine.specs.declared.halt.Halt.{Halt}
 use Rattle.odb_engine.specs.declared.halt.Halt.TheVariants as halts
 use Rattle.odb_engine.specs.AllFaults.{ArePrinted}
 use Rattle.odb_engine.specs.Cascade.{Prints, Writes}
+use Rattle.odb_engine.specs.Contents.{Content, IsBytesOf, IsValueOf, RefusesContent, nothing}
 use Rattle.odb_engine.specs.Forms.{fault_text, faults_text, located_text}
+use Rattle.odb_engine.specs.Located.{HasPosition, PrintsAll}
 
 -- what is written of an answer, if there is one
 abbrev pub answer_found : Result Answer Halt → Writes
@@ -40,6 +45,7 @@ listed_found all form refusals (Err halts.OutOfMemory) ended text = ⊥
 
 -- a fault is printed with where it is, under this name
 pub record LocatesFault (IsAt : Position → Type 0) (form : Form) (name : List ℕ) (refusal : Printed) (ended : Ended) (text : List ℕ) : Type 0 where
+  pub fits : FitsWord refusal.place
   pub position : Position
   pub is_at : IsAt position
   pub ends : ended ≡ Refused
@@ -50,9 +56,37 @@ abbrev pub LocatesEither : Form → List ℕ → List ℕ → List ℕ → List 
 LocatesEither form batch_name batch second_name second refusal =
     LocatesFault (Stands (if is_in_batch refusal.place then batch else second) refusal.place) form (if is_in_batch refusal.place then batch_name else second_name) refusal
 
--- what is written of what was found of two documents
-abbrev pub LocatesFound : Form → List ℕ → List ℕ → List ℕ → List ℕ → Result (String Global) Halt → Writes
-LocatesFound form batch_name batch second_name second (Ok found) ended text = Prints (string_bytes found) ended text
-LocatesFound form batch_name batch second_name second (Err (halts.Refused refusal)) ended text = LocatesEither form batch_name batch second_name second (printed refusal) ended text
-LocatesFound form batch_name batch second_name second (Err halts.Read) ended text = ⊥
-LocatesFound form batch_name batch second_name second (Err halts.OutOfMemory) ended text = ⊥
+-- a fault is printed with where it is, or all these are if they are listed
+abbrev pub LocatesRefused : Bool → Bool → Option ℕ → Bool → Form → List ℕ → List ℕ → List ℕ → List ℕ → List Printed → Printed → Writes
+LocatesRefused true two number is_pair form batch_name batch second_name second faults refusal = PrintsAll batch_name number batch form faults
+LocatesRefused false true number is_pair form batch_name batch second_name second faults refusal = LocatesEither form batch_name batch second_name second refusal
+LocatesRefused false false number is_pair form batch_name batch second_name second faults refusal = LocatesFault (HasPosition number is_pair batch refusal.place) form batch_name refusal
+
+-- what is written of what was found
+abbrev pub LocatesFound : Bool → Bool → Option ℕ → Bool → Form → List ℕ → List ℕ → List ℕ → List ℕ → List Printed → Result (String Global) Halt → Writes
+LocatesFound all two number is_pair form batch_name batch second_name second faults (Ok found) ended text = Prints (string_bytes found) ended text
+LocatesFound all two number is_pair form batch_name batch second_name second faults (Err (halts.Refused refusal)) ended text = LocatesRefused all two number is_pair form batch_name batch second_name second faults (printed refusal) ended text
+LocatesFound all two number is_pair form batch_name batch second_name second faults (Err halts.Read) ended text = ⊥
+LocatesFound all two number is_pair form batch_name batch second_name second faults (Err halts.OutOfMemory) ended text = ⊥
+
+-- the same, with where the faults are if they are located
+abbrev pub PrintsFound : Bool → Bool → Bool → Option ℕ → Bool → Form → List ℕ → List ℕ → List ℕ → List ℕ → List Printed → Result (String Global) Halt → Writes
+PrintsFound false all two number is_pair form batch_name batch second_name second faults = listed_found all form faults
+PrintsFound true all two number is_pair form batch_name batch second_name second faults = LocatesFound all two number is_pair form batch_name batch second_name second faults
+
+-- ---- the second document of a command
+
+-- this is its value, or nothing if there is none
+abbrev pub IsSecond : Option Place → Content → Data → Type 0
+IsSecond None content value = value ≡ nothing
+IsSecond (Some place) content value = IsValueOf content value
+
+-- its bytes have this refusal
+abbrev pub RefusesSecond : Option Place → Content → Printed → Type 0
+RefusesSecond None content refusal = ⊥
+RefusesSecond (Some place) content refusal = RefusesContent place content refusal
+
+-- these are its bytes, if there is one
+abbrev pub HasSecond : Option Place → Content → List ℕ → Type 0
+HasSecond None content bytes = Unit {0}
+HasSecond (Some place) content bytes = IsBytesOf content bytes

@@ -1,14 +1,19 @@
 -- What a document comes from, the document that it gives, and what is written of it.
-use Rattle.std.specs.Prelude.{◌≡◌, ◌⊎◌, ℕ, List, [], Option}
+use Rattle.std.specs.Prelude.{◌≡◌, ◌⊎◌, ℕ, List, [], Option, None, Some, Result, Ok, Err}
 use Rattle.serde_json.specs.Data.{Data}
+use Rattle.serde_json.specs.View.{view}
+use Rattle.serde_json.specs.declared.value.Value.TheVariants.{Null}
 use Rattle.odb_io.specs.Devices.{Reading}
 use Rattle.odb_doc.specs.declared.fault.Place.{Place}
+use Rattle.odb_doc.specs.declared.fault.Place.TheVariants as places
 use Rattle.odb_doc.specs.Documents.{IsDocument}
 use Rattle.odb_doc.specs.Refusals.{Printed}
 use Rattle.odb_doc.specs.batch.Records.{Record}
 use Rattle.odb_engine.specs.AllFaults.{AreFaultsIn, AreFaultsOf}
-use Rattle.odb_engine.specs.Cascade.{WritesIn, Accepts, AcceptsValue, OfDocument, RefusesBytes}
+use Rattle.odb_engine.specs.Cascade.{WritesIn, Accepts, AcceptsValue, AnswersValue, OfDocument, RefusesBytes}
+use Rattle.odb_engine.specs.Halts.{Halted}
 use Rattle.odb_engine.specs.Inputs.{SomeDocument, WasRead}
+use Rattle.odb_engine.specs.declared.halt.Halt.{Halt}
 
 -- the bytes of a document, or its value
 pub data Content : Type 0 where
@@ -56,6 +61,24 @@ OfContent place P (Held value) form ended text = P value form ended text
 abbrev pub OfGiven : Given → Place → (Data → WritesIn) → WritesIn
 OfGiven given place P form ended text = SomeContent given (λ content. OfContent place P content form ended text)
 
+-- the value of a second document where there is none
+abbrev pub nothing : Data
+nothing = view Null
+
+-- the same if a document is taken; if none is, what P writes of nothing
+abbrev pub OfTaken : Option Place → (Data → WritesIn) → Given → WritesIn
+OfTaken None P given = P nothing
+OfTaken (Some place) P given = OfGiven given place P
+
+-- just this document is given
+abbrev pub given_of : Content → Given
+given_of (Bytes bytes) = InMemory bytes
+given_of (Held value) = InHand value
+
+-- what a command writes of a batch document and of the second document that is given, by their values and the bytes of the first
+abbrev pub OfBatch : Option Place → (List ℕ → Data → List Record → WritesIn) → Given → Content → WritesIn
+OfBatch place writes given content = OfContent places.Batch (AnswersValue (λ batch. OfTaken place (λ second. writes (bytes_in content) second batch) given)) content
+
 -- the document is a batch that the check accepts, and its requests have this property
 abbrev pub AcceptsContent : Content → (List Record → Type 0) → Type 0
 AcceptsContent (Bytes bytes) P = Accepts bytes P
@@ -79,3 +102,8 @@ AskedFor remaining first read bytes old new = IsAskedFor (WasRead remaining firs
 abbrev pub WasReadAs : {R : Type 0} → (R → Option (List ℕ)) → Reading R → Reading R → Content → Type 0
 WasReadAs remaining old new (Bytes bytes) = WasRead remaining old new bytes
 WasReadAs remaining old new (Held value) = ⊥
+
+-- this is so if the document was read, and either has a value or is refused
+abbrev pub IfRead : {T : Type 0} → Type 0 → Result T Halt → Type 0
+IfRead So (Ok value) = So
+IfRead So (Err halt) = Halted (λ _. So) halt

@@ -6,6 +6,7 @@ use Rattle.odb_doc.specs.batch.Records.{Record}
 use Rattle.odb_doc.specs.Refusals.{Printed}
 use Rattle.odb_check.specs.Firsts.{list_below}
 use Rattle.odb_check.specs.Needs.{needs_at}
+use Rattle.odb_check.specs.PlanGraph.{unit_needed}
 use Rattle.odb_check.specs.declared.need.Need.{Need}
 use Rattle.odb_check.specs.Units.{unit_at}
 use Rattle.odb_reply.specs.Responses.{labels_of}
@@ -16,14 +17,15 @@ use Rattle.odb_sched.specs.run.State.{State, has_succeeded, is_running, phase_at
 use Rattle.odb_sched.specs.run.States.{request_state}
 use Rattle.odb_sched.specs.run.Steps.{unit_failed}
 use Rattle.odb_sched.specs.run.Units.{IsOver, has_begun}
-use Rattle.odb_send.specs.Faults.{RestFault, RefusesRest, rest_row}
+use Rattle.odb_send.specs.Faults.{RestFault, rest_row}
 use Rattle.odb_send.specs.declared.rest.Rest.{Rest}
 use Rattle.odb_send.specs.Locations.{location_in}
-use Rattle.odb_send.specs.NextPart.{HasNoLonger, HasProgress, IsNextPart, IsPartAfter, may_start, positions_in}
+use Rattle.odb_send.specs.NextPart as parts
+use Rattle.odb_send.specs.NextPart.{AreFitting, HasNoLonger, HasProgress, IsPartAfter, may_start, positions_in}
 use Rattle.odb_send.specs.Parts.{IsBatchIn}
 use Rattle.odb_send.specs.Rests.{kept}
 use Rattle.odb_send.specs.Texts.{IsTextOf}
-use Rattle.odb_send.specs.Units.{marked, unit_needed}
+use Rattle.odb_send.specs.Units.{marked}
 use Rattle.odb_engine.specs.declared.live.parts.Part.{Part}
 use Rattle.odb_engine.specs.Cascade.{Accepts, IsLeast}
 use Rattle.odb_engine.specs.Live.{Live}
@@ -55,9 +57,9 @@ pub record IsPart (document : List ℕ) (batch : List Record) (run : State) (out
   pub text_is : (d : Data) → IsBatchIn document d batch → IsTextOf document d batch rest (string_bytes part.text)
   pub positions_are : part.positions.items ≡ positions_in batch (kept rest)
 
--- the fault is at the first request of the next part that lacks a Location
+-- the fault is at the first request that lacks a Location, of the first unit that may be sent
 abbrev pub LacksLocations : List Record → State → List Bool → ℕ → RestFault → Type 0
-LacksLocations batch run out limit fault = (done left units : List Bool) → HasProgress batch (states_of run out) done left → IsNextPart batch done left limit units → RefusesRest fault batch units (location run)
+LacksLocations batch run out limit fault = (done left fitting : List Bool) → HasProgress batch (states_of run out) done left → AreFitting batch done left limit fitting → parts.RefusesPart fault batch fitting (location run)
 
 -- it is the batch of the run, and each of its units fits into a part
 abbrev pub MayBeParted : Live → List Record → ℕ → Type 0
@@ -68,7 +70,7 @@ abbrev pub IsFoundPart : Live → List ℕ → List Record → ℕ → Option Pa
 IsFoundPart live document batch limit None = ¬ MayBeParted live batch limit
 IsFoundPart live document batch limit (Some part) = MayBeParted live batch limit × IsPart document batch live.run live.out limit part × All (λ i. i < size live.run) part.positions.items
 
--- a request of the part lacks a Location
+-- a request of the first unit that may be sent lacks a Location
 pub record RefusesPart (live : Live) (batch : List Record) (limit : ℕ) (refusal : Printed) : Type 0 where
   pub fault : RestFault
   pub may : MayBeParted live batch limit
@@ -83,7 +85,7 @@ IsPartIn live document limit part = Accepts document (λ batch. MayBeParted live
 abbrev pub HasNoParts : Live → List ℕ → ℕ → Type 0
 HasNoParts live document limit = Accepts document (λ batch. ¬ MayBeParted live batch limit)
 
--- why there is no part: the least fault of the batch, or a request of the part that lacks a Location
+-- why there is no part: the least fault of the batch, or a request that lacks a Location, of the first unit that may be sent
 pub data IsLeastOfPart (live : Live) (document : List ℕ) (limit : ℕ) (refusal : Printed) : Type 0 where
   OfBatch : IsLeast document refusal → IsLeastOfPart live document limit refusal
   OfLocation : (fault : RestFault) → Accepts document (λ batch. MayBeParted live batch limit × LacksLocations batch live.run live.out limit fault) → rest_row fault ≡ Some refusal → IsLeastOfPart live document limit refusal
@@ -104,7 +106,7 @@ with_part live positions = record live { out = marks_after live.out positions }
 -- what a request of the part needs is in the part, or each request of its unit has succeeded
 abbrev pub RestsOnPart : List Record → State → List ℕ → Type 0
 RestsOnPart batch run positions = (i : ℕ) (need : Need) → Contains positions i → Contains (needs_at batch i) need
-    → (r : ℕ) → r < size run → unit_at batch r ≡ unit_needed batch need → Contains positions r ⊎ (has_succeeded (phase_at run r) ≡ true)
+    → (r : ℕ) → r < size run → unit_at batch r ≡ unit_needed (unit_at batch) need → Contains positions r ⊎ (has_succeeded (phase_at run r) ≡ true)
 
 -- with a request all of its unit are in the part
 abbrev pub HasWholeUnits : List Record → List ℕ → Type 0

@@ -1,6 +1,7 @@
 -- What a task writes: of the requests of a batch and a second document, and of one line of a log.
-use Rattle.std.specs.Prelude.{◌≡◌, ◌⊎◌, ℕ, Bool, true, false, List, []}
+use Rattle.std.specs.Prelude.{◌≡◌, ◌⊎◌, ℕ, Bool, true, false, List, [], Option, None, Some, is_some}
 use Rattle.serde_json.specs.Data.{Data}
+use Rattle.odb_doc.specs.declared.fault.Place.{Place}
 use Rattle.odb_doc.specs.declared.fault.Place.TheVariants as places
 use Rattle.odb_doc.specs.Documents.{IsDocument}
 use Rattle.odb_doc.specs.batch.Records.{Record}
@@ -16,7 +17,7 @@ use Rattle.odb_engine.specs.declared.tasks.task.Task.TheVariants as tasks
 use Rattle.odb_engine.specs.AllFaults.{AreFaultsIn, Lists}
 use Rattle.odb_engine.specs.Cascade.{WritesIn, Answers, AnswersValue, OfDocument, Reports}
 use Rattle.odb_engine.specs.Commands.{Canonical, Counts, Drawings, Plans}
-use Rattle.odb_engine.specs.Contents.{Given, OfGiven}
+use Rattle.odb_engine.specs.Contents.{Given, OfTaken}
 use Rattle.odb_engine.specs.Contents.Given.{InHand, InMemory}
 use Rattle.odb_engine.specs.FullPlans.{ShowsPlaces}
 use Rattle.odb_engine.specs.Matches.{MatchesValue}
@@ -31,27 +32,35 @@ abbrev pub PlansBy : Bool → List ℕ → List Record → WritesIn
 PlansBy false document = Plans
 PlansBy true document = ShowsPlaces document
 
--- what a task writes of the requests of the batch in these bytes, by the second document if it takes one
-abbrev pub OfTask : Task → List ℕ → Given → List Record → WritesIn
-OfTask (tasks.Check all) document second batch = Counts batch
-OfTask (tasks.Plan full) document second batch = PlansBy full document batch
-OfTask tasks.Draw document second batch = Drawings batch
-OfTask tasks.Canon document second batch = Canonical batch
-OfTask (tasks.Match mode strict) document second batch = OfGiven second places.Responses (MatchesValue mode strict batch)
-OfTask (tasks.Rest mode) document second batch = OfGiven second places.Responses (RestsValue mode document batch)
-OfTask (tasks.Replay policy order traced) document second batch = OfGiven second places.Outcomes (ReplaysValue (AllowsOrder order) policy traced batch)
-OfTask (tasks.Run policy) document second batch = OfGiven second places.Events (RunsValue policy batch)
+-- what a task writes of the requests of the batch in these bytes, by the value of the second document if it takes one
+abbrev pub OfValues : Task → List ℕ → Data → List Record → WritesIn
+OfValues (tasks.Check all) document second batch = Counts batch
+OfValues (tasks.Plan full) document second batch = PlansBy full document batch
+OfValues tasks.Draw document second batch = Drawings batch
+OfValues tasks.Canon document second batch = Canonical batch
+OfValues (tasks.Match mode strict) document second batch = MatchesValue mode strict batch second
+OfValues (tasks.Rest mode) document second batch = RestsValue mode document batch second
+OfValues (tasks.Replay policy order traced) document second batch = ReplaysValue (AllowsOrder order) policy traced batch second
+OfValues (tasks.Run policy) document second batch = RunsValue policy batch second
+
+-- the place of the second document of a task, if it takes one
+abbrev pub second_place : Task → Option Place
+second_place (tasks.Check all) = None
+second_place (tasks.Plan full) = None
+second_place tasks.Draw = None
+second_place tasks.Canon = None
+second_place (tasks.Match mode strict) = Some places.Responses
+second_place (tasks.Rest mode) = Some places.Responses
+second_place (tasks.Replay policy order traced) = Some places.Outcomes
+second_place (tasks.Run policy) = Some places.Events
 
 -- whether a task takes a second document
 abbrev pub takes_second : Task → Bool
-takes_second (tasks.Check all) = false
-takes_second (tasks.Plan full) = false
-takes_second tasks.Draw = false
-takes_second tasks.Canon = false
-takes_second (tasks.Match mode strict) = true
-takes_second (tasks.Rest mode) = true
-takes_second (tasks.Replay policy order traced) = true
-takes_second (tasks.Run policy) = true
+takes_second task = is_some (second_place task)
+
+-- what a task writes of the requests of the batch in these bytes, by the second document if it takes one
+abbrev pub OfTask : Task → List ℕ → Given → List Record → WritesIn
+OfTask task document given batch = OfTaken (second_place task) (λ second. OfValues task document second batch) given
 
 -- whether a task takes the bytes of the batch document, beside its value
 abbrev pub takes_bytes : Task → Bool

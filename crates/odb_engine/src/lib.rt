@@ -42,7 +42,7 @@ pub use live::{
 pub use rule::EngineRule;
 pub use setup::{Faults, Setup};
 pub use tasks::{
-    Answer, Command, Document, Names, Slice, Source, Task, answer_documents, answer_in_memory,
-    answer_line, answer_task, canon_batch, check_batch, faults_in, match_batch, plan_batch,
+    Answer, Command, Document, Kept, Names, Slice, Source, Task, answer_documents,
+    answer_in_memory, answer_line, canon_batch, check_batch, faults_in, match_batch, plan_batch,
     replay_batch, run_batch,
 };

@@ -34,8 +34,7 @@ impl Faults {
 pub struct Setup {
     /// The form of the result, and of the fault of a refused document.
     pub form: Form,
-    /// How the faults of a refused document are printed. [`crate::answer_task`] and the calls that are named after a
-    /// command print them as they are.
+    /// How the faults of a refused document are printed. The number of a line is that of [`crate::answer_line`].
     pub faults: Faults,
     /// The seed of the tables of names. If it is drawn at random and kept secret, look-ups are fast
     /// whatever the names.

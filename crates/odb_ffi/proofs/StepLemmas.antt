@@ -23,7 +23,7 @@ use Rattle.odb_ffi.specs.Live as calls
 use Rattle.odb_ffi.specs.Sessions.{Call, Does, IsSession}
 use Rattle.odb_ffi.specs.Sessions as session
 use Rattle.odb_ffi.specs.Refused.{RefusesBody, RefusesHeaders}
-use Rattle.odb_ffi.specs.Steps.{Adds, AreSteps, Attempt, IsBadResponse, IsStep, RefusesOne, RefusesReply, attempts_at, attempts_with, bytes_at, if_wanted, reports, starts_alone, starts_unit}
+use Rattle.odb_ffi.specs.Steps.{Adds, AreSteps, Attempt, IsBadResponse, IsStep, RefusesOne, RefusesReply, attempts_at, attempts_with, bytes_at, if_wanted, reports, starts_alone, starts_unit, undone_at}
 use Rattle.odb_ffi.specs.Steps as steps
 use Rattle.odb_ffi.specs.Takes.{Follows, IsTried}
 use Rattle.odb_ffi.specs.declared.steps.Pass.{Pass}
@@ -67,6 +67,13 @@ pub adds-more : (document : List ℕ) (pass : Pass) (replies : List Reply) (k : 
 adds-more document pass replies k d first now new within one two =
     let f : ℕ → List Attempt = λ j. attempts_at pass (slice_get replies j) in
     rw add-one (adds-both document (joined_below k f) (f k) first now new one (subst (λ (x : Option Reply). Adds document (attempts_at pass x) now new) (sym (slice_get-get_or replies k d within)) two))
+
+-- the same of what was undone
+pub adds-undone : (document : List ℕ) (replies : List Reply) (k : ℕ) (d : Reply) (first now new : List Step) → k < length replies → Adds document (joined_below k (λ j. undone_at (slice_get replies j))) first now → Adds document (undone_at (Some (get_or replies k d))) now new
+    → Adds document (joined_below (k + 1) (λ j. undone_at (slice_get replies j))) first new
+adds-undone document replies k d first now new within one two =
+    let f : ℕ → List Attempt = λ j. undone_at (slice_get replies j) in
+    rw add-one (adds-both document (joined_below k f) (f k) first now new one (subst (λ (x : Option Reply). Adds document (undone_at x) now new) (sym (slice_get-get_or replies k d within)) two))
 
 pub refused-at : (document : List ℕ) (replies : List Reply) (k : ℕ) (d : Reply) (halt : Halt) → k < length replies → Halted (RefusesReply document (get_or replies k d)) halt → Halted (RefusesOne document replies) halt
 refused-at document replies k d halt within = Halted-weaker (RefusesReply document (get_or replies k d)) (RefusesOne document replies) (λ refusal is. (get_or replies k d, Contains-get_or replies k d within, is)) halt

@@ -1,4 +1,4 @@
--- What the call returns that says where the element of a place begins.
+-- What the call returns that says where the element of a place begins and ends.
 use Rattle.std.specs.Prelude.{◌≡◌, ◌≢◌, ◌<◌, ℕ, List, length}
 use Rattle.odb_doc.specs.declared.fault.Place.{Place}
 use Rattle.odb_spans.specs.declared.position.Position as spans
@@ -9,7 +9,7 @@ use Rattle.odb_ffi.specs.declared.position.Position.{Position}
 
 -- a position as numbers
 abbrev pub position_in : spans.Position → Position
-position_in found = record { line = found.line; column = found.column; offset = found.offset }
+position_in found = record { line = found.line; column = found.column; offset = found.offset; end = found.end }
 
 -- What is returned by the text of a place, and what is then in the position of the caller. Without a document no memory is
 -- needed.

@@ -35,6 +35,7 @@ request_of parts = record {
   rest = part_of parts.rest;
   headers = part_of parts.headers;
   group = part_if parts.group;
+  needs = part_of parts.needs;
   body = part_if parts.body;
   reference = position_if parts.reference;
 }

@@ -1,7 +1,7 @@
 -- What is tried with the answers to a part of a run: starts and reports of its requests, pass by pass (OData JSON Format 4.01,
 -- sections 19.1 and 19.4; OData Protocol 4.01, section 8.2.8.3).
 use Rattle.std.specs.Prelude.{◌≡◌, ◌==◌, ◌⊎◌, ◌&&◌, ℕ, Bool, true, false, not, List, [], ◌∷◌, ◌++◌, length, Contains, Option, Some, None, slice_get, if◌then◌else◌}
-use Rattle.std.specs.List.{AllZip}
+use Rattle.std.specs.List.{AllZip, list_any}
 use Rattle.odb_doc.specs.Refusals.{Printed}
 use Rattle.odb_doc.specs.Statuses.{is_error, is_success}
 use Rattle.odb_check.specs.Firsts.{joined_below}
@@ -36,6 +36,7 @@ abbrev pub has : Pass → ℕ → Bool
 has passes.Each status = true
 has passes.Successes status = is_success status
 has passes.Others status = not (is_success status) && not (is_error status)
+has passes.OtherUnits status = not (is_success status) && not (is_error status)
 has passes.ErrorStarts status = is_own_error status
 has passes.Errors status = is_own_error status
 has passes.Skipped status = not (is_success status) && not (is_own_error status)
@@ -44,6 +45,7 @@ abbrev pub starts_unit : Pass → Bool
 starts_unit passes.Each = true
 starts_unit passes.Successes = false
 starts_unit passes.Others = false
+starts_unit passes.OtherUnits = true
 starts_unit passes.ErrorStarts = true
 starts_unit passes.Errors = true
 starts_unit passes.Skipped = false
@@ -52,6 +54,7 @@ abbrev pub starts_alone : Pass → Bool
 starts_alone passes.Each = false
 starts_alone passes.Successes = true
 starts_alone passes.Others = true
+starts_alone passes.OtherUnits = false
 starts_alone passes.ErrorStarts = true
 starts_alone passes.Errors = true
 starts_alone passes.Skipped = true
@@ -60,6 +63,7 @@ abbrev pub reports : Pass → Bool
 reports passes.Each = true
 reports passes.Successes = true
 reports passes.Others = true
+reports passes.OtherUnits = true
 reports passes.ErrorStarts = false
 reports passes.Errors = true
 reports passes.Skipped = true
@@ -80,11 +84,31 @@ attempts_at pass (Some reply) = if has pass reply.status then attempts_with pass
 abbrev pub attempts_in : Pass → List Reply → List Attempt
 attempts_in pass replies = joined_below (length replies) (λ k. attempts_at pass (slice_get replies k))
 
+-- a success without headers or body: of a member that was answered 424 but performed, and undone with its group
+abbrev pub undone : Reply → Reply
+undone reply = record reply { status = 204; headers = None; body = None }
+
+-- what is tried with an answer that may be that of such a member: only if its request runs the report may come
+abbrev pub undone_at : Option Reply → List Attempt
+undone_at None = []
+undone_at (Some reply) = if_wanted (reply.status == 424) (Report (undone reply))
+
+-- the same of all answers, in their order
+abbrev pub undone_in : List Reply → List Attempt
+undone_in replies = joined_below (length replies) (λ k. undone_at (slice_get replies k))
+
+-- a request has an error of its own, at which the service stops
+abbrev pub has_own_error : List Reply → Bool
+has_own_error replies = list_any (λ reply. is_own_error reply.status) replies
+
+abbrev pub undone_unless : Bool → List Reply → List Attempt
+undone_unless stops replies = if stops then [] else undone_in replies
+
 -- What is tried with the answers: one after another; or, if the service stops at an error, the successes, the starts of the errors, what
--- is neither, the errors, and what is left.
+-- is neither, alone and else with its unit, the errors, if there are none what was undone, and what is left.
 abbrev pub attempts : Mode → List Reply → List Attempt
 attempts Continue replies = attempts_in passes.Each replies
-attempts Stop replies = attempts_in passes.Successes replies ++ (attempts_in passes.ErrorStarts replies ++ (attempts_in passes.Others replies ++ (attempts_in passes.Errors replies ++ attempts_in passes.Skipped replies)))
+attempts Stop replies = attempts_in passes.Successes replies ++ (attempts_in passes.ErrorStarts replies ++ (attempts_in passes.Others replies ++ (attempts_in passes.OtherUnits replies ++ (attempts_in passes.Errors replies ++ (undone_unless (has_own_error replies) replies ++ attempts_in passes.Skipped replies)))))
 
 -- ---- the steps
 

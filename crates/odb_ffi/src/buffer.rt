@@ -4,7 +4,7 @@ ghost use Rattle.std.specs.Prelude.{◌≤◌, length};
 ghost use Rattle.odb_ffi.specs.Lists.{BeginsWith, Gives};
 ghost use Rattle.odb_ffi.specs.Returns.{Fills};
 
-use crate::status::{DONE, SMALL_BUFFER};
+use crate::status::SMALL_BUFFER;
 
 /// Copies a list to the start of a buffer.
 pub fn copy_to<T: Copy>(buffer: &mut [T], items: &[T])
@@ -14,16 +14,16 @@ pub fn copy_to<T: Copy>(buffer: &mut [T], items: &[T])
     buffer[..items.len()].copy_from_slice(items);
 }
 
-/// Copies a text to the buffer if it fits, sets its length, and returns the status.
-pub fn give_text(found: &str, text: &mut [u8], text_length: &mut usize) -> u32
-    ensures { Fills found.now 0 result text_length.new text.old text.new }
+/// Copies a text to the buffer if it fits, sets its length, and returns the status, which is then `done`.
+pub fn give_text(found: &str, done: u32, text: &mut [u8], text_length: &mut usize) -> u32
+    ensures { Fills found.now done result text_length.new text.old text.new }
 {
     *text_length = found.len();
     if found.len() > text.len() {
         return SMALL_BUFFER;
     }
     copy_to(text, found.as_bytes());
-    DONE
+    done
 }
 
 /// Copies a text and a list to the buffers if both fit, sets how long they are, and returns the status, which is then `done`.

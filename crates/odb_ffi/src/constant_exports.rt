@@ -4,6 +4,7 @@ ghost use Rattle.odb_ffi.specs.Constants.{GivesConstants};
 
 use crate::buffer::give_text;
 use crate::constants::CONSTANTS;
+use crate::status::DONE;
 
 /// Writes a JSON object with the names of the states, modes, orders, forms and steps by their numbers, the limits, and the
 /// names of headers and ids that the packages for other languages treat apart.
@@ -14,5 +15,5 @@ use crate::constants::CONSTANTS;
 pub extern "C" fn odb_constants(text: &mut [u8], text_length: &mut usize) -> u32
     ensures { GivesConstants result text_length.new text.old text.new }
 {
-    give_text(CONSTANTS, text, text_length)
+    give_text(CONSTANTS, DONE, text, text_length)
 }

@@ -3,7 +3,7 @@
 ghost use Rattle.odb_ffi.specs.Explanations.{Explains};
 
 use crate::buffer::give_text;
-use crate::status::WRONG_OPTION;
+use crate::status::{DONE, WRONG_OPTION};
 use odb_explain::explanation_of;
 
 /// Copies the explanation of a code to the buffer if it fits, sets its length, and returns the status.
@@ -12,7 +12,7 @@ pub fn give_explanation(code: &[u8], text: &mut [u8], text_length: &mut usize) -
 {
     *text_length = 0;
     match explanation_of(code) {
-        Some(found) => give_text(found, text, text_length),
+        Some(found) => give_text(found, DONE, text, text_length),
         None => WRONG_OPTION,
     }
 }

@@ -8,7 +8,7 @@ use crate::status::OUT_OF_MEMORY;
 use std::alloc::Global;
 
 /// Gives all faults of the batch in a document, as [`crate::exports::odb_check_all_as`] finds them and in its order: the words of
-/// each in the text, which has a line for each, and where its element begins in the document, as
+/// each in the text, which has a line for each, and where its element begins and ends in the document, as
 /// [`crate::place_exports::odb_where`] says. All positions are found in one scan.
 ///
 /// Sets `count` to the number of faults, and `text_length` to the length of the text. Returns 0 if there are none, and else 1,

@@ -1,18 +1,21 @@
 //! What is true of every list of calls on the handle of a live run.
 
-ghost use Rattle.std.specs.Prelude.{◌≡◌, ◌≤◌, ◌++◌, ℕ, List, Option, length};
+ghost use Rattle.std.specs.Prelude.{◌≡◌, ◌≤◌, ◌++◌, ℕ, List, Option, Contains, false, length};
 ghost use Rattle.std.specs.List.{filter};
 ghost use Rattle.odb_doc.specs.Documents.{most_bytes};
 ghost use Rattle.odb_sched.specs.declared.policy.Mode.{Mode};
 ghost use Rattle.odb_sched.specs.declared.policy.Policy.{Policy};
+ghost use Rattle.odb_sched.specs.run.Steps.{is_finished};
 ghost use Rattle.odb_reply.specs.declared.strictness.Strictness.{Strictness};
 ghost use Rattle.odb_reply.specs.declared.strictness.Strictness.TheVariants.{Units};
 ghost use Rattle.odb_engine.specs.declared.ending.Ended.TheVariants.{Done};
 ghost use Rattle.odb_engine.specs.declared.form.Form.{Form};
 ghost use Rattle.odb_engine.specs.declared.form.Form.TheVariants.{Lines};
 ghost use Rattle.odb_engine.specs.declared.tasks.task.Task.TheVariants as tasks;
+ghost use Rattle.odb_engine.specs.declared.live.parts.Part.{Part};
 ghost use Rattle.odb_engine.specs.Cascade.{Accepts};
 ghost use Rattle.odb_engine.specs.Live.{Live, Opens};
+ghost use Rattle.odb_engine.specs.LiveParts.{IsIdle, IsPartIn};
 ghost use Rattle.odb_engine.specs.Written.{Allows, IsDone};
 ghost use Rattle.odb_ffi.specs.Live.{Responds};
 ghost use Rattle.odb_ffi.specs.Sessions.{AreAlike, Call, IsSession, KeepsSession, is_taken};
@@ -20,12 +23,16 @@ ghost use Rattle.odb_ffi.specs.Sessions.{AreAlike, Call, IsSession, KeepsSession
 use odb_check::laws::every_batch;
 use odb_doc::laws::{every_value, one_history, one_record};
 use odb_engine::laws::one_live_run;
+use odb_engine::laws::parts::every_part;
 use odb_engine::laws::written::every_match;
 use odb_sched::laws::{every_live_run, every_possible_live};
 
 /// Whatever calls are made on the handle of a live run, it keeps what is promised of every live run (`kept`), and each
 /// answer has the status, the headers and the bytes of the body with which it was reported. So `match` accepts the
 /// response that [`crate::run_exports::odb_run_response`] writes, unless it is too long, also as strict by units (`matched`).
+///
+/// A run that is not finished, and on which nothing is on its way, gives a part with a request, unless its first unit lacks a Location
+/// (`gives`).
 ///
 /// Calls may be taken apart and put together (`joined`): a call of [`crate::part_exports::odb_run_take`] is the starts and the reports
 /// that its clause names.
@@ -41,6 +48,10 @@ pub fn every_session()
         → Opens policy batch events first → IsSession first calls last
         → Responds last Lines Done text → length text ≤ most_bytes → Allows Units strict
         → IsDone (tasks.Match mode strict) batch text }
+    ensures gives { (policy : Policy) (batch events : List ℕ) (first last : Live) (calls : List Call)
+        (limit : ℕ) (part : Part) → Opens policy batch events first → IsSession first calls last
+        → is_finished last.run ≡ false → IsIdle last → IsPartIn last batch limit part
+        → (i : ℕ) × Contains part.positions.items i }
     ensures joined { (first middle last : Live) (before after : List Call) → IsSession first before middle
         → IsSession middle after last → IsSession first (before ++ after) last }
 {
@@ -50,6 +61,7 @@ pub fn every_session()
     every_value();
     one_history();
     every_match();
+    every_part();
 }
 
 /// Two sessions on runs that were opened for the same documents under the same policy end alike if the calls that are taken

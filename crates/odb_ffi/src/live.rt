@@ -1,13 +1,16 @@
 //! What the calls on a live run do, as numbers.
 
-ghost use Rattle.std.specs.Prelude.{◌≡◌, ◌<◌, ◌+◌, IfOk};
+ghost use Rattle.std.specs.Prelude.{◌≡◌, ◌<◌, ◌+◌, true, IfOk};
 ghost use Rattle.odb_engine.specs.Cascade.{Prints};
 ghost use Rattle.odb_engine.specs.Labels.{id_lines};
 ghost use Rattle.odb_engine.specs.declared.form.Form.TheVariants.{Lines};
 ghost use Rattle.odb_sched.specs.run.State as state;
-ghost use Rattle.odb_sched.specs.run.Steps.{report_number};
+ghost use Rattle.odb_sched.specs.run.Steps.{is_finished, report_number};
 ghost use Rattle.odb_ffi.specs.Live as calls;
+ghost use Rattle.odb_ffi.specs.Returns.{Returns};
 
+use crate::answer::give;
+use crate::buffer::give_text;
 use crate::outcome::{body_of, outcome_of};
 use crate::status;
 use odb_doc::Outcome;
@@ -101,9 +104,24 @@ pub fn ids(live: &LiveRun, alloc: Global) -> Result<Answer, AllocError>
 }
 
 /// Returns what a run by recorded events writes after the same events.
-pub fn response(live: &LiveRun, alloc: Global) -> Result<Answer, AllocError>
+fn response(live: &LiveRun, alloc: Global) -> Result<Answer, AllocError>
     ensures { IfOk result (λ answer. calls.Responds live.now Lines
         answer.ended answer.text.items) }
 {
     Answer::of(alloc, Form::Lines, live.response(alloc))
+}
+
+/// What is written of a run that is not finished: the line of F66.
+const UNFINISHED: &str = "fault F66 Unfinished events\n";
+
+/// Gives what a run by recorded events writes after the same events. The line of F66 is given whatever memory there is.
+pub fn give_response(live: &LiveRun, alloc: Global, text: &mut [u8], text_length: &mut usize) -> u32
+    ensures text { Returns (calls.Responds live.now Lines) result text_length.new text.old text.new }
+    ensures memory { result ≡ 4 → is_finished live.now.run ≡ true }
+{
+    if live.run().is_finished() {
+        give(response(live, alloc), text, text_length)
+    } else {
+        give_text(UNFINISHED, status::REFUSED, text, text_length)
+    }
 }

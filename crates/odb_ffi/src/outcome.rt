@@ -67,6 +67,13 @@ fn bare(alloc: Global, status: u16) -> Outcome
     }
 }
 
+/// Returns the outcome of a success without headers or body. It allocates nothing.
+pub fn no_content(alloc: Global) -> Outcome
+    ensures { IsReported 204 [] result }
+{
+    bare(alloc, 204)
+}
+
 /// Returns the outcome with this status, these headers and no body.
 fn outcome_with(alloc: Global, status: u16, headers: Value) -> Result<Outcome, Halt>
     ensures some { IfOk result (HasParts status (Some (view headers)) None) }

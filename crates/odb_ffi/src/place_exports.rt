@@ -1,4 +1,4 @@
-//! The call for C that says where the element of a place begins.
+//! The call for C that says where the element of a place begins and ends.
 
 ghost use Rattle.odb_ffi.specs.Places.{GivesPlace};
 
@@ -8,12 +8,12 @@ use odb_spans::position_of;
 use odb_text::place_of;
 use std::alloc::Global;
 
-/// Says where the element begins in a document that a place names, as the line of a fault has it: `batch`, `outcomes`,
-/// `responses` or `events` for the document, or the path to an element, as `/requests/3`.
+/// Says where the element begins and ends in a document that a place names, as the line of a fault has it: `batch`,
+/// `outcomes`, `responses` or `events` for the document, or the path to an element, as `/requests/3`.
 ///
 /// Returns 0, and `position` is that of the element, or of the document's value if there is no such element. In a document
-/// that is not JSON it is where reading stops, if the place is the document. Returns 2 if the text is no place, and 4 if an
-/// allocation fails: then `position` is as it was.
+/// that is not JSON it is where reading stops, if the place is the document, and so is its end. Returns 2 if the text is no
+/// place, and 4 if an allocation fails: then `position` is as it was.
 #[unsafe(no_mangle)]
 pub extern "C" fn odb_where(
     alloc: Global,

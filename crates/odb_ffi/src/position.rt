@@ -5,7 +5,7 @@ ghost use Rattle.odb_ffi.specs.Places.{position_in};
 
 use odb_spans::Position as Found;
 
-/// Where an element begins in a document.
+/// Where an element begins and ends in a document.
 #[repr(C)]
 #[derive(Clone, Copy, Drop)]
 pub struct Position {
@@ -15,6 +15,8 @@ pub struct Position {
     pub column: usize,
     /// How many bytes come before it.
     pub offset: usize,
+    /// How many bytes come before its end.
+    pub end: usize,
 }
 
 impl Position {
@@ -26,6 +28,7 @@ impl Position {
             line: found.line,
             column: found.column,
             offset: found.offset,
+            end: found.end,
         }
     }
 }

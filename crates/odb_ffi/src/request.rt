@@ -27,6 +27,7 @@ pub struct Request {
     pub rest: Part,
     pub headers: Part,
     pub group: Part,
+    pub needs: Part,
     pub body: Part,
     /// The position of the request that the URL refers to, or [`NONE`].
     pub reference: usize,
@@ -79,6 +80,7 @@ impl Request {
             rest: Part::of(parts.rest),
             headers: Part::of(parts.headers),
             group: Part::of_some(parts.group),
+            needs: Part::of(parts.needs),
             body: Part::of_some(parts.body),
             reference: position_or_none(parts.reference),
         }

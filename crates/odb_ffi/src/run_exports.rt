@@ -2,7 +2,7 @@
 //!
 //! A handle by reference is the address of a `void *` for C, and by value it is the pointer.
 
-ghost use Rattle.std.specs.Prelude.{◌≡◌, ◌≢◌, ◌<◌, ◌≤◌, ◌↔◌, ℕ, false, IfOk, IfErr};
+ghost use Rattle.std.specs.Prelude.{◌≡◌, ◌≢◌, ◌<◌, ◌≤◌, ◌↔◌, ℕ, false, true, IfOk, IfErr};
 ghost use Rattle.odb_dense.specs.Lists.{ListsOnce};
 ghost use Rattle.odb_engine.specs.Cascade.{Prints};
 ghost use Rattle.odb_engine.specs.Halts.{Halted};
@@ -244,7 +244,7 @@ pub extern "C" fn odb_run_ids(
 
 /// Writes what [`crate::exports::odb_run_as`] writes after the same events, but with each reported body as it
 /// is: the response and a newline, or the line of F66 if the run is not finished. The arguments and the
-/// status are those of [`crate::exports::odb_check_as`].
+/// status are those of [`crate::exports::odb_check_as`]; of a run that is not finished it is never 4.
 ///
 /// Nothing is read again: takes O(n) for a text of n bytes.
 #[unsafe(no_mangle)]
@@ -255,9 +255,10 @@ pub extern "C" fn odb_run_response(
     text_length: &mut usize,
 ) -> u32
     ensures text { Returns (calls.Responds run.old.value Lines) result text_length.new text.old text.new }
+    ensures memory { result ≡ 4 → steps.is_finished run.old.value.run ≡ true }
     ensures same { run.new.value ≡ run.old.value }
 {
-    give(live::response(run.live(), alloc), text, text_length)
+    live::give_response(run.live(), alloc, text, text_length)
 }
 
 /// Frees a run. Its handle is not to be used any more.

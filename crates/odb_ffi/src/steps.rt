@@ -1,6 +1,6 @@
 //! What is tried with the answers to a part: starts and reports of its requests, pass by pass.
 
-ghost use Rattle.std.specs.Prelude.{◌≡◌, ◌≢◌, ◌++◌, All, Err, IfErr, IfOk, OnOk, Some, length};
+ghost use Rattle.std.specs.Prelude.{◌≡◌, ◌≢◌, ◌++◌, ℕ, List, All, Err, IfErr, IfOk, OnOk, Some, length};
 ghost use Rattle.odb_spans.specs.Spans.{IsWithin};
 ghost use Rattle.odb_doc.specs.declared.refusal.Refusal.{Refusal};
 ghost use Rattle.odb_engine.specs.declared.halt.Halt.TheVariants as halts;
@@ -9,7 +9,7 @@ ghost use Rattle.odb_engine.specs.Replies.{LiesIn};
 ghost use Rattle.odb_ffi.specs.Steps as specs;
 ghost use Rattle.odb_sched.specs.declared.policy.Mode.TheVariants.{Stop};
 
-use crate::outcome::{body_of, outcome_of};
+use crate::outcome::{body_of, no_content, outcome_of};
 use odb_doc::Outcome;
 use odb_doc::status::{FAILED_DEPENDENCY, is_error, is_success};
 use odb_engine::{Halt, Reply};
@@ -38,6 +38,8 @@ pub enum Pass {
     Successes,
     /// The same with those that are neither a success nor an error.
     Others,
+    /// The same, whose unit is started as one if they may not start alone: they depend on a member that was undone.
+    OtherUnits,
     /// The errors but 424, of which all are started before one is reported.
     ErrorStarts,
     /// The same, which are reported now.
@@ -62,6 +64,7 @@ impl Pass {
             Pass::Each => true,
             Pass::Successes => is_success(status),
             Pass::Others => !is_success(status) && !is_error(status),
+            Pass::OtherUnits => !is_success(status) && !is_error(status),
             Pass::ErrorStarts => is_own_error(status),
             Pass::Errors => is_own_error(status),
             Pass::Skipped => !is_success(status) && !is_own_error(status),
@@ -72,14 +75,17 @@ impl Pass {
     fn starts_unit(self) -> bool
         ensures { result ≡ specs.starts_unit self }
     {
-        matches!(self, Pass::Each | Pass::ErrorStarts | Pass::Errors)
+        matches!(
+            self,
+            Pass::Each | Pass::OtherUnits | Pass::ErrorStarts | Pass::Errors
+        )
     }
 
     /// Returns whether a request is started alone.
     fn starts_alone(self) -> bool
         ensures { result ≡ specs.starts_alone self }
     {
-        !matches!(self, Pass::Each)
+        !matches!(self, Pass::Each | Pass::OtherUnits)
     }
 
     /// Returns whether a request is reported.
@@ -219,6 +225,50 @@ fn push_pass(
     Ok(())
 }
 
+/// Appends the report of a request that was answered 424 as that of a success, which its group has undone.
+fn push_undone(alloc: Global, steps: &mut Vec<Step>, reply: Reply) -> Result<(), AllocError>
+    ensures { OnOk result ((document : List ℕ) → specs.Adds document (specs.undone_at (Some reply)) steps.old.items steps.new.items) }
+{
+    let step = Step::Report(reply.position, no_content(alloc), None);
+    push_if(steps, step, reply.status == FAILED_DEPENDENCY)
+}
+
+/// Appends these reports of all requests that were answered 424.
+fn push_all_undone(
+    alloc: Global,
+    steps: &mut Vec<Step>,
+    replies: &[Reply],
+) -> Result<(), AllocError>
+    ensures { OnOk result ((document : List ℕ) → specs.Adds document (specs.undone_in replies.now) steps.old.items steps.new.items) }
+{
+    for k in 0..replies.len() {
+        push_undone(alloc, steps, replies[k])?;
+    }
+    Ok(())
+}
+
+/// Appends them unless the service stops at an error.
+fn push_undone_unless(
+    alloc: Global,
+    steps: &mut Vec<Step>,
+    replies: &[Reply],
+    stops: bool,
+) -> Result<(), AllocError>
+    ensures { OnOk result ((document : List ℕ) → specs.Adds document (specs.undone_unless stops replies.now) steps.old.items steps.new.items) }
+{
+    if stops {
+        return Ok(());
+    }
+    push_all_undone(alloc, steps, replies)
+}
+
+/// Returns whether a request has an error of its own, at which the service stops.
+fn has_own_error(replies: &[Reply]) -> bool
+    ensures { result ≡ specs.has_own_error replies.now }
+{
+    replies.iter().any(|reply| is_own_error(reply.status))
+}
+
 /// Returns the steps by which the answers to a part reach its run, by what an error does to the service. If it stops, all errors are
 /// kept: their requests are started before one of them is reported.
 pub fn steps_of(
@@ -255,6 +305,8 @@ fn push_passes(
     push_pass(alloc, steps, document, replies, Pass::Successes)?;
     push_pass(alloc, steps, document, replies, Pass::ErrorStarts)?;
     push_pass(alloc, steps, document, replies, Pass::Others)?;
+    push_pass(alloc, steps, document, replies, Pass::OtherUnits)?;
     push_pass(alloc, steps, document, replies, Pass::Errors)?;
+    push_undone_unless(alloc, steps, replies, has_own_error(replies))?;
     push_pass(alloc, steps, document, replies, Pass::Skipped)
 }

@@ -4,11 +4,13 @@
 //! it tests, so that it is proved while those above them still are. A module asks of
 //!
 //! - `laws`: what each law means for its caller;
-//! - `devices`: readers and writers that fail; `seeds`, `spans`: what their names say.
+//! - `devices`: readers and writers that fail; `headers`, `seeds`, `spans`: what their names say.
 #![tactic(auto)]
 
 #[cfg(test)]
 mod devices;
+#[cfg(test)]
+mod headers;
 #[cfg(test)]
 mod laws;
 #[cfg(test)]

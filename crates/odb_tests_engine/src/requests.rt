@@ -7,8 +7,8 @@ use odb_spans::Span;
 use std::rt::HostRuntime;
 use std::test::Fail;
 
-/// A document, and for each of its requests the id, the method, the URL, its rest, the headers, the group or none,
-/// the body or none, and the position that the URL refers to, or none.
+/// A document, and for each of its requests the id, the method, the URL, its rest, the headers, the group or none, the
+/// dependencies, the body or none, and the position that the URL refers to, or none.
 struct Row {
     document: &'static str,
     requests: &'static [&'static [Option<&'static str>]],
@@ -31,6 +31,7 @@ const ROWS: &[Row] = &[
                 Some("A"),
                 Some(r#"{"a":"\n","x-b":"2"}"#),
                 NONE,
+                Some(""),
                 NONE,
                 NONE,
             ],
@@ -41,6 +42,7 @@ const ROWS: &[Row] = &[
                 Some("/B?x=1#y"),
                 Some("{}"),
                 NONE,
+                Some("1"),
                 Some("[9.990 ]"),
                 Some("0"),
             ],
@@ -56,6 +58,7 @@ const ROWS: &[Row] = &[
                 Some("A"),
                 Some("{}"),
                 Some("g"),
+                Some(""),
                 Some(r#"{"n":12345678901234567890123}"#),
                 NONE,
             ],
@@ -66,6 +69,7 @@ const ROWS: &[Row] = &[
                 Some(""),
                 Some("{}"),
                 Some("g"),
+                Some("1"),
                 NONE,
                 Some("0"),
             ],
@@ -99,7 +103,18 @@ fn is_position(position: Option<u32>, want: Option<&str>) -> bool {
 
 /// Returns whether the parts of a request are as wanted.
 fn is_request(document: &[u8], text: &[u8], it: RequestParts, want: &[Option<&str>]) -> bool {
-    let [id, method, url, rest, headers, group, body, reference] = want else {
+    let [
+        id,
+        method,
+        url,
+        rest,
+        headers,
+        group,
+        needs,
+        body,
+        reference,
+    ] = want
+    else {
         return false;
     };
     is_part(text, Some(it.id), *id)
@@ -108,6 +123,7 @@ fn is_request(document: &[u8], text: &[u8], it: RequestParts, want: &[Option<&st
         && is_part(text, Some(it.rest), *rest)
         && is_part(text, Some(it.headers), *headers)
         && is_part(text, it.group, *group)
+        && is_part(text, Some(it.needs), *needs)
         && is_part(document, it.body, *body)
         && is_position(it.reference, *reference)
 }

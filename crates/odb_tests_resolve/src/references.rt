@@ -94,6 +94,8 @@ fn continues_the_url_of_what_has_no_location(rt: HostRuntime) {
     let want = Ok("http://host/odata/Books/1");
     assert!(rt; continues(rt.alloc(), Some(answered(None, false)), "/1", want));
     assert!(rt; continues(rt.alloc(), Some(answered(None, true)), "/1", Err(3)));
+    assert!(rt; continues(rt.alloc(), Some(answered(Some(""), false)), "/1", want));
+    assert!(rt; continues(rt.alloc(), Some(answered(Some(""), true)), "/1", Err(3)));
     assert!(rt; continues(rt.alloc(), None, "/1", Err(5)));
 }
 

@@ -30,6 +30,12 @@ const GROUP: &str =
     r#"{"requests":[{"id":"a","method":"get","url":"A"},{"id":"b","atomicityGroup":"g","method":"post","url":"B","body": 9.990},
     {"id":"c","atomicityGroup":"g","method":"get","url":"$b/C","dependsOn":["b"]},{"id":"d","method":"get","url":"D"}]}"#;
 
+/// `b` and the group of `d` and `e` refer to `a`, and `c` and `f` to nothing.
+const LACKING: &str =
+    r#"{"requests":[{"id":"a","method":"post","url":"A"},{"id":"c","method":"get","url":"C"},{"id":"b","method":"get","url":"$a","dependsOn":["a"]},
+    {"id":"d","atomicityGroup":"g","method":"get","url":"D"},{"id":"e","atomicityGroup":"g","method":"get","url":"$a/E","dependsOn":["a"]},
+    {"id":"f","method":"get","url":"F"}]}"#;
+
 /// `b` refers to `a`.
 const REFERENCE: &str =
     r#"{"requests":[{"id":"a","method":"post","url":"A","body":{}},{"id":"b","method":"get","url":"$a/B","dependsOn":["a"]}]}"#;
@@ -119,6 +125,46 @@ const ROWS: &[Row] = &[
     ),
     (REFERENCE, "sr", 1, &[None, None], None),
     (REFERENCE, "sr", 1, &[Some("$c"), None], None),
+    (REFERENCE, "sr", 1, &[Some(""), None], None),
+    // A part ends before a unit that lacks a Location. If that is the first, there is none, whatever comes after it.
+    (
+        LACKING,
+        "srrrrr",
+        6,
+        &[None, None, None, None, None, None],
+        Some(r#"{"requests":[{"id":"c","method":"get","url":"C"}]}"#),
+    ),
+    (
+        LACKING,
+        "ssrrrr",
+        6,
+        &[None, None, None, None, None, None],
+        None,
+    ),
+    (
+        LACKING,
+        "ssfrrr",
+        6,
+        &[None, None, None, None, None, None],
+        None,
+    ),
+    (
+        LACKING,
+        "ssfffr",
+        6,
+        &[None, None, None, None, None, None],
+        Some(r#"{"requests":[{"id":"f","method":"get","url":"F"}]}"#),
+    ),
+    // A reference within a part lacks nothing.
+    (
+        LACKING,
+        "rrrwww",
+        3,
+        &[None, None, None, None, None, None],
+        Some(
+            r#"{"requests":[{"id":"a","method":"post","url":"A"},{"id":"c","method":"get","url":"C"},{"dependsOn":["a"],"id":"b","method":"get","url":"$a"}]}"#,
+        ),
+    ),
 ];
 
 /// Returns the state that a letter stands for.

@@ -13,7 +13,8 @@ ghost use Rattle.odb_send.specs.NextPart.{HasNoLonger};
 ghost use Rattle.odb_send.specs.Units.{marked};
 ghost use Rattle.odb_engine.specs.declared.live.parts.Part.{Part};
 ghost use Rattle.odb_engine.specs.Live.{Live};
-ghost use Rattle.odb_engine.specs.LiveParts.{HasWholeUnits, IsIdle, IsPart, RestsOnPart, marks_after, with_part};
+ghost use Rattle.odb_engine.specs.Cascade.{Accepts};
+ghost use Rattle.odb_engine.specs.LiveParts.{HasWholeUnits, IsIdle, IsPart, IsPartIn, RestsOnPart, marks_after, with_part};
 
 use odb_check::laws::every_batch;
 use odb_sched::laws::every_live_run;
@@ -21,7 +22,8 @@ use odb_sched::laws::every_live_run;
 /// What holds of every part of a live run. No request is in two parts: those of a part were in none (`apart`), and a request that
 /// was given stays so (`given`, `kept`). What a request of a part needs is in the part, or has succeeded (`needs`). The groups of a
 /// part are whole (`whole`). A run that is not finished, and on which nothing is on its way, gives a part with a request
-/// (`goes_on`), since [`crate::LiveRun::part`] refuses a limit that a group exceeds.
+/// (`goes_on`), since [`crate::LiveRun::part`] refuses a limit that a group exceeds. So does [`crate::LiveRun::part`] for the document
+/// that the run was opened with, whatever events it has taken since (`gives`).
 ///
 /// `size` is what the check says of the batch of a run. The premises of `goes_on` are those of [`odb_sched::laws::every_live_run`].
 pub fn every_part()
@@ -44,7 +46,14 @@ pub fn every_part()
         → live.run ≡ live_state batch policy events → is_finished live.run ≡ false → IsIdle live
         → HasNoLonger batch limit → IsPart document batch live.run live.out limit part
         → (i : ℕ) × Contains part.positions.items i }
+    ensures gives { (policy : Policy) (events : List LiveEvent) (document : List ℕ) (live : Live)
+        (limit : ℕ) (part : Part) → Accepts document (λ batch. IsLiveRun batch policy events
+        × (live.run ≡ live_state batch policy events)) → is_finished live.run ≡ false → IsIdle live
+        → IsPartIn live document limit part → (i : ℕ) × Contains part.positions.items i }
 {
     every_batch();
     every_live_run();
+    odb_doc::laws::one_batch();
+    odb_doc::laws::one_fault();
+    odb_check::laws::one_fault();
 }

@@ -2,7 +2,7 @@
 
 ghost use Rattle.odb_engine.specs.lines.Numbers.{OfNumbered};
 
-use crate::ending::{Ended, EngineFault};
+use crate::ending::{Ended, EngineFault, end};
 use crate::lines::command::LineCommand;
 use crate::setup::Setup;
 use crate::tasks::answer::answer_line;
@@ -32,7 +32,6 @@ impl<'n> LineCommand for EachLine<'n> {
         output: &mut Output<W>,
     ) -> Result<Ended, EngineFault> {
         let answer = answer_line(alloc, self.name, number, line, self.task, self.setup)?;
-        output.put_all(&answer.text)?;
-        Ok(answer.ended)
+        end(Ok(answer), output)
     }
 }

@@ -1,6 +1,6 @@
 //! The number of a line in front of its fault.
 
-ghost use Rattle.std.specs.Prelude.{◌≡◌, ◌⊎◌, ◌<◌, ◌≤◌, length, IfOk};
+ghost use Rattle.std.specs.Prelude.{◌≡◌, ◌≤◌, true, length, IfOk};
 ghost use Rattle.odb_engine.specs.lines.Numbers.{HasNumber, StartsWords, numbered_text};
 ghost use Rattle.odb_engine.specs.declared.ending.Ended.TheVariants.{Refused};
 
@@ -8,6 +8,7 @@ use crate::ending::Ended;
 use crate::form::Form;
 use crate::setup::Setup;
 use crate::tasks::answer::Answer;
+use memchr::memchr;
 use std::alloc::{AllocError, Global};
 
 /// Returns the text of a fault with the number of its line: in front of its words, which begin at `start`, or as a
@@ -42,12 +43,12 @@ fn number_fault(
 /// name of the log.
 fn words_start(name: &str, fault: &[u8]) -> usize
     ensures within { result ≤ length fault.now }
-    ensures after { (result ≡ 0) ⊎ (length name.now < result) }
+    ensures starts { StartsWords true name.now fault.now result }
 {
     if fault.len() < name.len() {
         return 0;
     }
-    match fault[name.len()..].iter().position(|byte| *byte == b' ') {
+    match memchr(b' ', &fault[name.len()..]) {
         Some(at) => name.len() + at + 1,
         None => 0,
     }
@@ -56,7 +57,7 @@ fn words_start(name: &str, fault: &[u8]) -> usize
 /// Returns where the words of a fault begin, which is located or not.
 fn start_of(located: bool, name: &str, fault: &[u8]) -> usize
     ensures within { result ≤ length fault.now }
-    ensures starts { StartsWords located name.now result }
+    ensures starts { StartsWords located name.now fault.now result }
 {
     if located { words_start(name, fault) } else { 0 }
 }

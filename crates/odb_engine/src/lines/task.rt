@@ -17,7 +17,7 @@ use crate::input::value_or_error;
 use crate::rule::EngineRule;
 use crate::setup::Setup;
 use crate::tasks::command::{Command, text_in, text_of};
-use crate::tasks::source::Slice;
+use crate::tasks::source::{Kept, Slice};
 use crate::tasks::task::Task;
 use odb_doc::{Place, Refusal};
 use odb_spans::{ParseError, documents_in};
@@ -85,6 +85,7 @@ fn text_of_pair(
         &mut second,
         &mut task,
         setup,
+        &mut Kept::new(alloc, false),
         faults,
     )
 }
@@ -116,16 +117,18 @@ pub fn text_of_line(
     if task.takes_second() {
         return text_of_pair(alloc, line, task, setup, faults, error);
     }
-    let mut first = Slice {
-        bytes: line,
-        error: None,
-    };
-    let mut none = Slice {
-        bytes: &[],
-        error: None,
-    };
-    let mut task = task;
-    let found = text_of(alloc, &mut first, &mut none, &mut task, setup, faults);
-    *error = first.error;
+    let (mut first, mut none) = (Slice { bytes: line }, Slice { bytes: &[] });
+    let (mut kept, mut task) = (Kept::new(alloc, true), task);
+    let found = text_of(
+        alloc,
+        &mut first,
+        &mut none,
+        &mut task,
+        setup,
+        &mut kept,
+        &mut Kept::new(alloc, false),
+        faults,
+    );
+    *error = kept.error;
     found
 }

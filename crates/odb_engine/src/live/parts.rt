@@ -163,7 +163,7 @@ impl LiveRun {
 
     /// Returns the next part of the run as the text of a batch of its own: requests that may be sent together, `limit`
     /// of them at most ([`odb_send::part_of`]). None of them is in a part that was given before ([`LiveRun::give`]), and what
-    /// they need is in this one or has succeeded. `None` if `batch` has not the ids and the groups of the run's batch, or if
+    /// they need is in this one or has succeeded. It ends before the first unit that lacks a Location. `None` if `batch` has not the ids and the groups of the run's batch, or if
     /// one of its groups has more than `limit` requests.
     ///
     /// The run stays as it is. A part without requests means that nothing may be sent now. What holds of every part is in
@@ -173,8 +173,9 @@ impl LiveRun {
     ///
     /// # Errors
     ///
-    /// `Refused` by the first fault of the batch; or by F90 at the first request of the part whose URL refers to a
-    /// request that has reported no Location of use. `OutOfMemory` if an allocation fails. Never `Read`.
+    /// `Refused` by the first fault of the batch; or by F90 if the first unit that may be sent lacks a Location, at its first request
+    /// whose URL refers to one that has reported no Location of use: report this request, and the next part is that of what
+    /// is left. `OutOfMemory` if an allocation fails. Never `Read`.
     pub fn part(
         &self,
         alloc: Global,

@@ -3,13 +3,11 @@
 ghost use Rattle.std.specs.Prelude.{◌≡◌, ◌≤◌, ◌++◌, ◌↔◌, true, false, length, drop, map, Err, IfOk, IsTrue, Ok, string_bytes};
 ghost use Rattle.odb_doc.specs.Refusals.{printed};
 ghost use Rattle.odb_engine.specs.Answered.{listed_found};
-ghost use Rattle.odb_engine.specs.Contents.Given.{InMemory};
 ghost use Rattle.odb_engine.specs.declared.ending.Ended.TheVariants.{Done};
 ghost use Rattle.odb_engine.specs.declared.halt.Halt.TheVariants as halts;
 ghost use Rattle.odb_engine.specs.Halts.{text_found};
-ghost use Rattle.odb_engine.specs.Located.{LocatesDocuments};
 ghost use Rattle.odb_engine.specs.lines.Numbers.{OfLocated, OfNumbered};
-ghost use Rattle.odb_engine.specs.Tasks.{OfDocuments, OfWholeLine};
+ghost use Rattle.odb_engine.specs.Tasks.{OfWholeLine};
 
 use crate::ending::{Ended, fault_text, refused_text};
 use crate::form::Form;
@@ -17,9 +15,8 @@ use crate::halt::Halt;
 use crate::lines::number::with_number;
 use crate::lines::text_of_line;
 use crate::setup::Setup;
-use crate::tasks::command::{Command, text_of};
-use crate::tasks::located::{Names, answer_located, locate_in_memory};
-use crate::tasks::source::Slice;
+use crate::tasks::command::Command;
+use crate::tasks::located::{Documents, Names, print_found};
 use crate::tasks::task::Task;
 use odb_doc::Refusal;
 use std::alloc::{AllocError, Global};
@@ -113,92 +110,13 @@ impl Answer {
 }
 
 /// Returns the answer that was found of documents in memory, which no read of them fails.
-fn of_memory(found: Result<Answer, Halt>) -> Result<Answer, AllocError>
+pub(crate) fn of_memory(found: Result<Answer, Halt>) -> Result<Answer, AllocError>
     ensures { IfOk result (λ answer. found ≡ Ok answer) }
 {
     match found {
         Ok(answer) => Ok(answer),
         Err(_) => Err(AllocError),
     }
-}
-
-/// Returns what a task writes of documents in memory, with its faults as they are.
-fn write_in_memory(
-    alloc: Global,
-    batch: &[u8],
-    second: &[u8],
-    task: Task,
-    setup: Setup,
-) -> Result<Answer, AllocError>
-    ensures { IfOk result (λ answer. OfDocuments task (InMemory second.now) batch.now setup.form
-        answer.ended answer.text.items) }
-{
-    let all = task.lists_all();
-    let mut first = Slice {
-        bytes: batch,
-        error: None,
-    };
-    let mut second = Slice {
-        bytes: second,
-        error: None,
-    };
-    let mut task = task;
-    let mut faults = Vec::new(alloc);
-    let found = text_of(
-        alloc,
-        &mut first,
-        &mut second,
-        &mut task,
-        setup,
-        &mut faults,
-    );
-    of_memory(Answer::listed(alloc, setup.form, all, found, &faults))
-}
-
-/// Does a task on a batch document in memory, and on a second document if the task takes one: returns what
-/// is written, by the setup. The documents are not copied.
-///
-/// The documents have these names: faults are printed with them if the setup asks for where they are.
-///
-/// Example: `answered` in crates/odb_tests_tasks/src/laws/engines.rt.
-///
-/// # Errors
-///
-/// `AllocError` if an allocation fails.
-pub fn answer_in_memory(
-    alloc: Global,
-    batch: &[u8],
-    second: &[u8],
-    names: Names<'_>,
-    task: Task,
-    setup: Setup,
-) -> Result<Answer, AllocError>
-    ensures plain { setup.faults.located ≡ false → IfOk result (λ answer.
-        OfDocuments task (InMemory second.now) batch.now setup.form answer.ended answer.text.items) }
-    ensures located { setup.faults.located ≡ true → IfOk result (λ answer. LocatesDocuments task
-        names.entry.batch.now batch.now names.entry.second.now second.now setup.form
-        answer.ended answer.text.items) }
-{
-    if setup.faults.located {
-        locate_in_memory(alloc, batch, second, names, task, setup)
-    } else {
-        write_in_memory(alloc, batch, second, task, setup)
-    }
-}
-
-/// Returns what a task writes of a line, with its faults as they are.
-fn answer_plainly(
-    alloc: Global,
-    line: &[u8],
-    task: Task,
-    setup: Setup,
-) -> Result<Answer, AllocError>
-    ensures { IfOk result (λ answer. OfWholeLine task line.now setup.form answer.ended answer.text.items) }
-{
-    let mut faults = Vec::new(alloc);
-    let found = text_of_line(alloc, line, task, setup, &mut faults, &mut None);
-    let all = task.lists_all();
-    of_memory(Answer::listed(alloc, setup.form, all, found, &faults))
 }
 
 /// Returns what a task writes of the line of this number in the log of this name, with where its faults are if they are
@@ -214,11 +132,22 @@ fn answer_unnumbered(
     ensures { IfOk result (λ answer. OfLocated setup.faults.located name.now task number line.now setup.form
         answer.ended answer.text.items) }
 {
-    if setup.faults.located {
-        answer_located(alloc, line, name, Some(number), task, setup)
-    } else {
-        answer_plainly(alloc, line, task, setup)
-    }
+    let (mut faults, mut error) = (Vec::new(alloc), None);
+    let found = text_of_line(alloc, line, task, setup, &mut faults, &mut error);
+    let documents = Documents {
+        names: Names {
+            batch: name,
+            second: "",
+        },
+        batch: line,
+        batch_error: error,
+        second: b"",
+        second_error: None,
+        number: Some(number),
+        is_pair: task.takes_second(),
+    };
+    let all = task.lists_all();
+    of_memory(print_found(alloc, documents, all, false, setup, found, &faults))
 }
 
 /// Does a task on a line of a log: returns what is written of the document in it, or of the two

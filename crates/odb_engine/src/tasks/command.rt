@@ -1,6 +1,6 @@
 //! From the sources of the documents to the text that a command writes.
 
-ghost use Rattle.std.specs.Prelude.{◌≡◌, ◌≢◌, ◌↔◌, ◌⊎◌, [], true, false, map, Err, IfErr, IfOk, OnOk};
+ghost use Rattle.std.specs.Prelude.{◌≡◌, ◌≢◌, ◌↔◌, ◌⊎◌, [], None, Some, true, map, Err, IfErr, IfOk, IfSome, OnOk};
 ghost use Rattle.odb_doc.specs.Refusals.{printed};
 ghost use Rattle.odb_doc.specs.batch.Batches.{records};
 ghost use Rattle.odb_doc.specs.declared.fault.Place.TheVariants as places;
@@ -8,49 +8,48 @@ ghost use Rattle.odb_check.specs.LeastNameFault.{HasGoodNames};
 ghost use Rattle.odb_check.specs.Plans.{plan_records};
 ghost use Rattle.odb_check.specs.Seeds.{IsSeeded};
 ghost use Rattle.odb_engine.specs.declared.halt.Halt.TheVariants as halts;
+ghost use Rattle.serde_json.specs.Data.{Data};
 ghost use Rattle.serde_json.specs.View.{view};
+ghost use Rattle.odb_spans.specs.Positions.{is_in_batch};
+ghost use Rattle.odb_engine.specs.Answered.{HasSecond, IsSecond, RefusesSecond};
 ghost use Rattle.odb_engine.specs.Cascade.{AcceptsValue, AnswersValue};
-ghost use Rattle.odb_engine.specs.AllFaults.{AreFaultsOf, Lists};
+ghost use Rattle.odb_engine.specs.AllFaults.{AreFaultsOf};
 ghost use Rattle.odb_doc.specs.Documents.{IsJson};
-ghost use Rattle.odb_engine.specs.Contents.{AreFaultsOfContent, IsAskedFor, OfContent, SomeContent, bytes_in};
-ghost use Rattle.odb_engine.specs.Engines.{Ends};
+ghost use Rattle.odb_engine.specs.Contents.{AreFaultsOfContent, IfRead, IsAskedFor, IsBytesOf, OfBatch, OfTaken, SomeContent, given_of};
 ghost use Rattle.odb_engine.specs.Halts.{Found, RefusesNamesOf, Halted};
 
 use crate::disposal::DropOrLeak;
-use crate::ending::{Ended, EngineFault, end};
 use crate::halt::Halt;
 use crate::setup::Setup;
 use crate::tasks::all_faults::{batch_in, noted, plan_in};
-use crate::tasks::answer::Answer;
-use crate::tasks::source::{Document, Source};
+use crate::tasks::source::{Document, Kept, Source};
 use odb_check::{Plan, check_with};
 use odb_doc::{Batch, Place, Refusal};
-use odb_io::Output;
 use serde_json::Value;
 use std::alloc::Global;
-use std::io::Write;
 
 /// What is written of a batch that the check accepts, by a second document if the command takes one.
 ///
-/// [`answer_task`] is its engine. [`crate::Task`] has the commands of the program.
+/// [`crate::answer_documents`] is its engine. [`crate::Task`] has the commands of the program.
 pub trait Command {
-    ghost use Rattle.std.specs.Prelude.{◌≡◌, ◌↔◌, ℕ, Bool, true, List, Err};
+    ghost use Rattle.std.specs.Prelude.{◌≡◌, ◌≢◌, ℕ, Bool, Option, None, true, List, Err};
     ghost use Rattle.odb_doc.specs.batch.Records.{Record};
     ghost use Rattle.odb_doc.specs.batch.Batches.{records};
+    ghost use Rattle.odb_doc.specs.declared.fault.Place.{Place};
     ghost use Rattle.odb_check.specs.Plans.{plan_records};
     ghost use Rattle.odb_check.specs.Seeds.{IsSeeded};
     ghost use Rattle.odb_engine.specs.declared.ending.Ended.{Ended};
     ghost use Rattle.odb_engine.specs.declared.ending.Ended.TheVariants.{Refused};
     ghost use Rattle.odb_engine.specs.declared.form.Form.{Form};
     ghost use Rattle.odb_engine.specs.declared.halt.Halt.TheVariants as halts;
-    ghost use Rattle.odb_engine.specs.Contents.{Given};
     ghost use Rattle.odb_engine.specs.Halts.{Found};
     ghost use Rattle.odb_send.specs.Parts.{IsBatchIn};
     ghost use Rattle.serde_json.specs.Data.{Data};
+    ghost use Rattle.serde_json.specs.View.{view};
 
-    /// How it ends by the bytes of a batch document and by what the second source gives, for the requests of the
+    /// How it ends by the bytes of a batch document and by the value of the second document, for the requests of the
     /// batch, and what it has written then, in each form.
-    ghost writes: { Self → List ℕ → Given → List Record → Form → Ended → List ℕ → Type 0 };
+    ghost writes: { Self → List ℕ → Data → List Record → Form → Ended → List ℕ → Type 0 };
 
     /// That all faults of a refused batch document are written, and not the first alone.
     ghost lists_all: { Self → Bool };
@@ -67,33 +66,40 @@ pub trait Command {
     fn takes_bytes(&self) -> bool
         ensures { result ≡ takes_bytes self.now };
 
+    /// The place of the second document, if it takes one.
+    ghost second_place: { Self → Option Place };
+
+    /// Returns the place of the second document, if it takes one.
+    fn second_place(&self) -> Option<Place>
+        ensures { result ≡ second_place self.now };
+
     /// Returns what is written of a batch and its plan, which was made with the seed of the setup. `document` has the
-    /// bytes of the batch, if the command takes them. A command over one document leaves the second source as it is.
-    fn text<S: Source>(
+    /// bytes of the batch, if the command takes them, and `second` is the value of the second document, or null.
+    fn text(
         &mut self,
         alloc: Global,
         document: &[u8],
         batch: &Batch<'_>,
         plan: &Plan<'_>,
-        second: &mut S,
+        second: Value,
         setup: Setup,
     ) -> Result<String, Halt>
         requires batch { records batch.now ≡ plan_records plan.now }
         requires seed { IsSeeded setup.seed.number plan.now }
         requires document { takes_bytes self.old ≡ true
             → (d : Data) × IsBatchIn document.now d (plan_records plan.now) }
-        requires second { S.is_fresh second.old }
-        ensures found { Found (writes self.old document.now (S.given second.old) (plan_records plan.now))
-            setup.form result }
-        ensures read { (result ≡ Err halts.Read) ↔ S.has_failed second.new }
-        ensures second { S.reads_few second.old second.new };
+        ensures found { Found (writes self.old document.now (view second) (plan_records plan.now)) setup.form
+            result }
+        ensures read { result ≢ Err halts.Read };
 
-    ghost accepts: { (command : Self) → lists_all command ≡ true → (document : List ℕ) (given : Given)
-        (batch : List Record) (form : Form) (text : List ℕ) → ¬ writes command document given batch form Refused text };
+    ghost alone: { (command : Self) → lists_all command ≡ true → second_place command ≡ None };
+
+    ghost accepts: { (command : Self) → lists_all command ≡ true → (document : List ℕ) (second : Data)
+        (batch : List Record) (form : Form) (text : List ℕ) → ¬ writes command document second batch form Refused text };
 
     ghost alike: { (command : Self) (document other : List ℕ) → (takes_bytes command ≡ true → document ≡ other)
-        → (given : Given) (batch : List Record) (form : Form) (ended : Ended) (text : List ℕ)
-        → writes command document given batch form ended text → writes command other given batch form ended text };
+        → (second : Data) (batch : List Record) (form : Form) (ended : Ended) (text : List ℕ)
+        → writes command document second batch form ended text → writes command other second batch form ended text };
 }
 
 /// Returns the plan of a batch. Here, and nowhere else, an engine uses the seed of its setup.
@@ -121,6 +127,29 @@ pub fn plan_of<'a: 'b, 'b>(
     })
 }
 
+/// Returns the value of the second document, if there is one, and else null.
+fn second_in<S: Source>(
+    alloc: Global,
+    place: Option<Place>,
+    second: &mut S,
+    kept: &mut Kept,
+) -> Result<Value, Halt>
+    requires second { S.is_fresh second.old }
+    requires kept { kept.old.error ≡ None }
+    ensures value { SomeContent (S.given second.old) (λ other.
+        (IfOk result (λ value. IsSecond place other (view value)) × IfErr result (Halted (RefusesSecond place other)))
+        × (S.has_bytes second.old → kept.old.asked ≡ true
+        → IfRead (HasSecond place other (S.bytes_of second.new kept.new.bytes.items)) result)) }
+    ensures error { IfSome kept.new.error (λ _. (d : Data) → ¬ IsJson (S.bytes_of second.new kept.new.bytes.items) d) }
+    ensures read { (result ≡ Err halts.Read) ↔ S.has_failed second.new }
+    ensures few { S.reads_few second.old second.new }
+{
+    match place {
+        Some(place) => second.read(alloc, place, kept),
+        None => Ok(Value::Null),
+    }
+}
+
 /// Returns what a command writes of the batch in a value, which was read from the document if the command takes its bytes.
 /// The second source is read only if the check accepts it. All faults of a batch that is refused are listed if the command
 /// writes them.
@@ -131,12 +160,19 @@ pub(crate) fn text_in<S: Source, C: Command>(
     second: &mut S,
     command: &mut C,
     setup: Setup,
+    kept: &mut Kept,
     faults: &mut Vec<Refusal>,
 ) -> Result<String, Halt>
     requires document { C.takes_bytes command.old ≡ true → IsJson document.now (view value.now) }
     requires second { S.is_fresh second.old }
-    ensures found { Found (AnswersValue (C.writes command.old document.now (S.given second.old))
-        (view value.now)) setup.form result }
+    requires kept { kept.old.error ≡ None }
+    ensures found { SomeContent (S.given second.old) (λ other. Found (AnswersValue (λ batch.
+        OfTaken (C.second_place command.old) (λ value. C.writes command.old document.now value batch) (given_of other))
+        (view value.now)) setup.form result
+        × (S.has_bytes second.old → kept.old.asked ≡ true
+        → IfErr result (Halted (λ refusal. (is_in_batch refusal.place ≡ true)
+        ⊎ HasSecond (C.second_place command.old) other (S.bytes_of second.new kept.new.bytes.items))))) }
+    ensures error { IfSome kept.new.error (λ _. (d : Data) → ¬ IsJson (S.bytes_of second.new kept.new.bytes.items) d) }
     ensures listed { C.lists_all command.old ≡ true
         → IfErr result (Halted (λ _. AreFaultsOf (view value.now) (map printed faults.new.items))) }
     ensures asked { (second.new ≡ second.old) ⊎ AcceptsValue (view value.now) (λ _. Unit {0}) }
@@ -149,7 +185,8 @@ pub(crate) fn text_in<S: Source, C: Command>(
         disposal: setup.disposal,
     };
     let plan = plan_in(alloc, &batch.value, all, setup, faults)?;
-    command.text(alloc, document, &batch.value, &plan.value, second, setup)
+    let other = second_in(alloc, command.second_place(), second, kept)?;
+    command.text(alloc, document, &batch.value, &plan.value, other, setup)
 }
 
 /// Returns what a command writes of the batch that the first source gives, by the second source if it takes a
@@ -166,22 +203,34 @@ pub fn text_of<R: Document, S: Source, C: Command>(
     second: &mut S,
     command: &mut C,
     setup: Setup,
+    first_kept: &mut Kept,
+    second_kept: &mut Kept,
     faults: &mut Vec<Refusal>,
 ) -> Result<String, Halt>
     requires first { R.is_fresh first.old }
     requires second { S.is_fresh second.old }
+    requires first_kept { first_kept.old.error ≡ None }
+    requires second_kept { second_kept.old.error ≡ None }
+    requires bytes { C.takes_bytes command.old ≡ true → first_kept.old.asked ≡ true }
     requires faults { faults.old.items ≡ [] }
-    ensures found { SomeContent (R.given first.old) (λ content. (Found (OfContent places.Batch
-        (AnswersValue (C.writes command.old (bytes_in content) (S.given second.old))) content) setup.form result
-        × (C.lists_all command.old ≡ true
-        → IfErr result (Halted (λ _. AreFaultsOfContent content (map printed faults.new.items)))))
-        × IsAskedFor (R.was_read first.old first.new content) content second.old second.new) }
+    ensures found { SomeContent (R.given first.old) (λ content. SomeContent (S.given second.old) (λ other.
+        Found (OfBatch (C.second_place command.old) (C.writes command.old) (given_of other) content) setup.form result
+        × (S.has_bytes second.old → first_kept.old.asked ≡ true → second_kept.old.asked ≡ true
+        → IfErr result (Halted (λ refusal. IsBytesOf content (R.bytes_of first.new first_kept.new.bytes.items)
+        × ((is_in_batch refusal.place ≡ true)
+        ⊎ HasSecond (C.second_place command.old) other (S.bytes_of second.new second_kept.new.bytes.items))))))
+        × ((C.lists_all command.old ≡ true
+        → IfErr result (Halted (λ _. AreFaultsOfContent content (map printed faults.new.items))))
+        × IsAskedFor (R.was_read first.old first.new content) content second.old second.new)) }
+    ensures first_error { IfSome first_kept.new.error (λ _. (d : Data)
+        → ¬ IsJson (R.bytes_of first.new first_kept.new.bytes.items) d) }
+    ensures second_error { IfSome second_kept.new.error (λ _. (d : Data)
+        → ¬ IsJson (S.bytes_of second.new second_kept.new.bytes.items) d) }
     ensures read { (result ≡ Err halts.Read) ↔ (R.has_failed first.new ⊎ S.has_failed second.new) }
     ensures first { R.reads_few first.old first.new }
     ensures second { S.reads_few second.old second.new }
 {
-    let mut kept = Vec::new(alloc);
-    let value = match first.read(alloc, Place::Batch, command.takes_bytes(), &mut kept) {
+    let value = match first.read(alloc, Place::Batch, first_kept) {
         Ok(value) => value,
         Err(halt) => return Err(noted(halt, command.lists_all(), faults)),
     };
@@ -189,7 +238,7 @@ pub fn text_of<R: Document, S: Source, C: Command>(
         value,
         disposal: setup.disposal,
     };
-    let document = first.bytes(&kept);
+    let document = first.bytes(first_kept);
     text_in(
         alloc,
         document,
@@ -197,49 +246,7 @@ pub fn text_of<R: Document, S: Source, C: Command>(
         second,
         command,
         setup,
+        second_kept,
         faults,
-    )
-}
-
-/// Does a task, or another command: writes what it writes of the batch that the first source gives, by the second
-/// source if it takes a second document; or the first fault, or all faults of the batch document. The second source is read
-/// only if the check accepts the batch.
-///
-/// The sources must be new, and the output must not have failed. The text is held in memory and written whole. Faults are
-/// written as they are: [`crate::answer_documents`] and [`crate::answer_in_memory`] locate those of a task, if the setup
-/// asks for that.
-///
-/// # Errors
-///
-/// - `Read` if and only if a read of one of the sources failed; nothing was written.
-/// - `Write` if and only if the output failed; it has received a prefix of the text.
-/// - `OutOfMemory` if an allocation fails; nothing was written.
-pub fn answer_task<R: Document, S: Source, W: Write, C: Command + Drop>(
-    alloc: Global,
-    first: &mut R,
-    second: &mut S,
-    output: &mut Output<W>,
-    task: C,
-    setup: Setup,
-) -> Result<Ended, EngineFault>
-    requires first { R.is_fresh first.old }
-    requires second { S.is_fresh second.old }
-    requires output { output.old.failed ≡ false }
-    ensures ends { SomeContent (R.given first.old) (λ content. Ends W.contents
-        (Lists (C.lists_all task) (OfContent places.Batch
-        (AnswersValue (C.writes task (bytes_in content) (S.given second.old))) content)
-        (AreFaultsOfContent content) setup.form)
-        (R.has_failed first.new ⊎ S.has_failed second.new) output.old output.new result
-        × IsAskedFor (R.was_read first.old first.new content) content second.old second.new) }
-    ensures memory { result ≡ Err EngineFault.OutOfMemory → output.new ≡ output.old }
-    ensures first { R.reads_few first.old first.new }
-    ensures second { S.reads_few second.old second.new }
-{
-    let all = task.lists_all();
-    let (mut task, mut faults) = (task, Vec::new(alloc));
-    let found = text_of(alloc, first, second, &mut task, setup, &mut faults);
-    end(
-        Answer::listed(alloc, setup.form, all, found, &faults),
-        output,
     )
 }

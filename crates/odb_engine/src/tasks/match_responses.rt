@@ -21,7 +21,7 @@ use crate::ending::{Ended, EngineFault};
 use crate::form::Form;
 use crate::halt::Halt;
 use crate::setup::Setup;
-use crate::tasks::command::answer_task;
+use crate::tasks::documents::answer_by_default;
 use crate::tasks::task::Task;
 use odb_check::Plan;
 use odb_io::{Input, Output};
@@ -148,5 +148,5 @@ pub fn match_batch<R: Read, S: Read, W: Write>(
         mode: Mode::Continue,
         strict: None,
     };
-    answer_task(alloc, batch, responses, output, task, Setup::plain())
+    answer_by_default(alloc, batch, responses, output, task)
 }

@@ -13,7 +13,7 @@ ghost use Rattle.odb_engine.specs.declared.form.Form.{Form};
 ghost use Rattle.odb_engine.specs.declared.form.Form.TheVariants.{Lines};
 ghost use Rattle.odb_engine.specs.declared.halt.Halt.TheVariants as halts;
 ghost use Rattle.odb_engine.specs.Cascade.{Answers};
-ghost use Rattle.odb_engine.specs.Contents.{AskedFor, OfGiven};
+ghost use Rattle.odb_engine.specs.Contents.{AskedFor};
 ghost use Rattle.odb_engine.specs.Engines.{Ends};
 ghost use Rattle.odb_engine.specs.Inputs.{IsFresh, ReadsFew, SomeDocument};
 ghost use Rattle.odb_engine.specs.Replays as replays;
@@ -23,9 +23,9 @@ use crate::disposal::{Disposal, DropOrLeak};
 use crate::ending::{Ended, EngineFault};
 use crate::halt::Halt;
 use crate::setup::Setup;
-use crate::tasks::command::{Command, answer_task};
+use crate::tasks::command::Command;
+use crate::tasks::documents::answer_by_default;
 use crate::tasks::response::push_response;
-use crate::tasks::source::Source;
 use odb_check::Plan;
 use odb_doc::{Batch, Outcomes, Place};
 use odb_exec::{Chooser, Recorded, Trace, execute};
@@ -137,11 +137,11 @@ struct Replay<C> {
 }
 
 impl<'c> Command for Replay<&'c mut dyn Chooser> {
-    ghost use Rattle.std.specs.Prelude.{false};
+    ghost use Rattle.std.specs.Prelude.{Some, false};
     ghost use Rattle.odb_engine.specs.Accepted.{never_lists};
 
-    ghost writes = { λ self _ second batch. OfGiven second places.Outcomes (replays.ReplaysValue
-        ((Chooser-dyn self.chooser.now).allows self.chooser.now.1) self.policy self.traced batch) };
+    ghost writes = { λ self _ second batch. replays.ReplaysValue
+        ((Chooser-dyn self.chooser.now).allows self.chooser.now.1) self.policy self.traced batch second };
 
     ghost lists_all = { λ _. false };
 
@@ -155,27 +155,34 @@ impl<'c> Command for Replay<&'c mut dyn Chooser> {
         false
     }
 
-    fn text<S: Source>(
+    ghost second_place = { λ _. Some places.Outcomes };
+
+    fn second_place(&self) -> Option<Place> {
+        Some(Place::Outcomes)
+    }
+
+    fn text(
         &mut self,
         alloc: Global,
         _document: &[u8],
         _batch: &Batch<'_>,
         plan: &Plan<'_>,
-        second: &mut S,
+        second: Value,
         setup: Setup,
     ) -> Result<String, Halt> {
-        let value = second.value(alloc, Place::Outcomes)?;
         let replay = Unordered {
             policy: self.policy,
             traced: self.traced,
             disposal: setup.disposal,
         };
-        replayed_by(alloc, plan, value, &mut *self.chooser, replay)
+        replayed_by(alloc, plan, second, &mut *self.chooser, replay)
     }
 
-    ghost accepts = { λ _ lists document given batch form text so. never_lists lists };
+    ghost alone = { λ _ lists. absurd (never_lists lists) };
 
-    ghost alike = { λ _ document other same given batch form ended text so. so };
+    ghost accepts = { λ _ lists document second batch form text so. never_lists lists };
+
+    ghost alike = { λ _ document other same second batch form ended text so. so };
 }
 
 /// Replays the batch in a document by the recorded outcomes in another: writes the response, after
@@ -221,5 +228,5 @@ pub fn replay_batch<R: Read, S: Read, W: Write>(
         chooser,
         traced,
     };
-    answer_task(alloc, batch, outcomes, output, replay, Setup::plain())
+    answer_by_default(alloc, batch, outcomes, output, replay)
 }

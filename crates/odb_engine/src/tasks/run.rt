@@ -23,8 +23,7 @@ use crate::disposal::{Disposal, DropOrLeak};
 use crate::ending::{Ended, EngineFault};
 use crate::halt::Halt;
 use crate::rule::EngineRule;
-use crate::setup::Setup;
-use crate::tasks::command::answer_task;
+use crate::tasks::documents::answer_by_default;
 use crate::tasks::response::push_response;
 use crate::tasks::task::Task;
 use odb_check::Plan;
@@ -158,12 +157,5 @@ pub fn run_batch<R: Read, S: Read, W: Write>(
     ensures batch { ReadsFew R.remaining batch.old batch.new }
     ensures events { ReadsFew S.remaining events.old events.new }
 {
-    answer_task(
-        alloc,
-        batch,
-        events,
-        output,
-        Task::Run { policy },
-        Setup::plain(),
-    )
+    answer_by_default(alloc, batch, events, output, Task::Run { policy })
 }

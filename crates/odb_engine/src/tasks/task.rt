@@ -12,18 +12,20 @@ use crate::halt::Halt;
 use crate::setup::Setup;
 use crate::tasks::canon::canonical_text;
 use crate::tasks::check::counts_text;
-use crate::tasks::command::{Command, answer_task};
+use crate::tasks::command::Command;
+use crate::tasks::documents::answer_by_default;
 use crate::tasks::match_responses::matched;
 use crate::tasks::plan::{drawn_text, planned_by};
 use crate::tasks::replay::{Unordered, replayed};
 use crate::tasks::rest::left_over;
 use crate::tasks::run::ran;
-use crate::tasks::source::{Slice, Source};
+use crate::tasks::source::Slice;
 use odb_check::Plan;
 use odb_doc::{Batch, Place};
 use odb_io::{Input, Output};
 use odb_reply::Strictness;
 use odb_sched::{Mode, Order, Policy};
+use serde_json::Value;
 use std::alloc::Global;
 use std::io::{Read, Write};
 
@@ -73,18 +75,15 @@ impl Task {
     pub fn takes_second(self) -> bool
         ensures { result ≡ takes_second self }
     {
-        match self {
-            Task::Check { .. } | Task::Plan { .. } | Task::Draw | Task::Canon => false,
-            Task::Match { .. } | Task::Rest { .. } | Task::Replay { .. } | Task::Run { .. } => true,
-        }
+        self.second_place().is_some()
     }
 }
 
 impl Command for Task {
-    ghost use Rattle.odb_engine.specs.Accepted.{lists_accepted, written_alike};
+    ghost use Rattle.odb_engine.specs.Accepted.{lists_accepted, lists_alone, written_alike};
     ghost use Rattle.odb_engine.specs.Tasks as tasks;
 
-    ghost writes = { OfTask };
+    ghost writes = { tasks.OfValues };
 
     ghost lists_all = { tasks.lists_all };
 
@@ -105,13 +104,24 @@ impl Command for Task {
         }
     }
 
-    fn text<S: Source>(
+    ghost second_place = { tasks.second_place };
+
+    fn second_place(&self) -> Option<Place> {
+        match *self {
+            Task::Check { .. } | Task::Plan { .. } | Task::Draw | Task::Canon => None,
+            Task::Match { .. } | Task::Rest { .. } => Some(Place::Responses),
+            Task::Replay { .. } => Some(Place::Outcomes),
+            Task::Run { .. } => Some(Place::Events),
+        }
+    }
+
+    fn text(
         &mut self,
         alloc: Global,
         document: &[u8],
         batch: &Batch<'_>,
         plan: &Plan<'_>,
-        second: &mut S,
+        second: Value,
         setup: Setup,
     ) -> Result<String, Halt> {
         match *self {
@@ -119,33 +129,25 @@ impl Command for Task {
             Task::Plan { full } => planned_by(alloc, document, plan, full, setup.form),
             Task::Draw => drawn_text(alloc, plan),
             Task::Canon => canonical_text(alloc, batch),
-            Task::Match { mode, strict } => {
-                let responses = second.value(alloc, Place::Responses)?;
-                matched(alloc, plan, responses, mode, strict, setup)
-            }
-            Task::Rest { mode } => {
-                let responses = second.value(alloc, Place::Responses)?;
-                left_over(alloc, document, plan, responses, mode, setup)
-            }
+            Task::Match { mode, strict } => matched(alloc, plan, second, mode, strict, setup),
+            Task::Rest { mode } => left_over(alloc, document, plan, second, mode, setup),
             Task::Replay {
                 policy,
                 order,
                 traced,
             } => {
-                let outcomes = second.value(alloc, Place::Outcomes)?;
                 let replay = Unordered {
                     policy,
                     traced,
                     disposal: setup.disposal,
                 };
-                replayed(alloc, plan, outcomes, order, replay)
+                replayed(alloc, plan, second, order, replay)
             }
-            Task::Run { policy } => {
-                let events = second.value(alloc, Place::Events)?;
-                ran(alloc, plan, events, policy, setup.disposal)
-            }
+            Task::Run { policy } => ran(alloc, plan, second, policy, setup.disposal),
         }
     }
+
+    ghost alone = { lists_alone };
 
     ghost accepts = { lists_accepted };
 
@@ -167,9 +169,6 @@ pub(crate) fn answer_one<R: Read, W: Write>(
     ensures memory { result ≡ Err EngineFault.OutOfMemory → output.new ≡ output.old }
     ensures reads { ReadsFew R.remaining input.old input.new }
 {
-    let mut none = Slice {
-        bytes: &[],
-        error: None,
-    };
-    answer_task(alloc, input, &mut none, output, task, Setup::plain())
+    let mut none = Slice { bytes: &[] };
+    answer_by_default(alloc, input, &mut none, output, task)
 }

@@ -1,9 +1,10 @@
 //! Responses: what two readings of them find, and what a finished run answers.
 
-ghost use Rattle.std.specs.Prelude.{◌≡◌, ℕ, List, true, length, IfSome, IsSome, OnOk};
+ghost use Rattle.std.specs.Prelude.{◌≡◌, ℕ, List, true, false, length, IfSome, IsSome, OnOk};
 ghost use Rattle.std.specs.List.{AllZip};
 ghost use Rattle.serde_json.specs.View.{view};
 ghost use Rattle.odb_check.specs.Plans.{plan_records};
+ghost use Rattle.odb_reply.specs.Completed.{has_error};
 ghost use Rattle.odb_reply.specs.Fits.{Fits, IsTableOf, ListsFit, places, statuses};
 ghost use Rattle.odb_reply.specs.LeastMatchFault.{RefusesMatch};
 ghost use Rattle.odb_reply.specs.MatchFaults as match_faults;
@@ -21,10 +22,12 @@ ghost use Rattle.odb_testing.specs.Readings.{IsReading, IsSame};
 
 use odb_check::Plan;
 use odb_check::laws::every_plan;
-use odb_reply::laws::{every_labeled, every_response, one_document, one_match, one_status};
+use odb_reply::laws::{
+    every_completion, every_labeled, every_response, one_document, one_match, one_status,
+};
 use odb_reply::{
-    Labels, MatchFault, ResponseFault, Responses, StatusFault, Strictness, Table, check_statuses,
-    match_responses,
+    Labels, MatchFault, MatchRule, ResponseFault, Responses, StatusFault, Strictness, Table,
+    check_statuses, match_responses,
 };
 use odb_sched::laws::{every_possible, every_possible_live};
 use odb_sched::{Done, Mode, OwnedRun};
@@ -86,6 +89,24 @@ fn matched_twice(
     (
         matched(alloc, plan, responses),
         matched(alloc, plan, responses),
+    )
+}
+
+/// Returns whether a match finds that a request has no response, once the responses are completed. Each has one if one of
+/// them is an error.
+fn lacks_one<'a>(alloc: Global, plan: &Plan<'a>, responses: Responses<'a>) -> bool
+    ensures { has_error (entries responses.entry) ≡ true → result ≡ false }
+{
+    every_completion();
+    let Ok(all) = responses.completed(alloc, plan) else {
+        return false;
+    };
+    matches!(
+        match_responses(alloc, plan, &all),
+        Err(MatchFault::Broken {
+            rule: MatchRule::ResponseMissing,
+            ..
+        })
     )
 }
 

@@ -28,7 +28,7 @@ returns c =
       batch = batch;
       matching = matching;
       rest = record { one_place = c.one_place.ensures; one_text = c.one_rest.ensures.text; one_fault = c.one_rest.ensures.fault; no_fault = c.one_rest.ensures.none };
-      pair = c.one_pair.ensures;
+      pair = λ line d first second other another json x y. (c.one_pair.ensures line d first second other another json x y).0;
       recorded = record { one_fault = c.one_record.ensures.one; no_fault = c.one_record.ensures.none; one_reading = c.one_record.ensures.outcomes };
       order = λ order outcomes first. record { course = c.every_order.ensures.one_course order outcomes first; fault = c.every_order.ensures.one_fault order outcomes first; apart = c.every_order.ensures.fault_or_end order outcomes first };
       history = record { one_fault = c.one_history.ensures.one; no_fault = c.one_history.ensures.none; one_reading = c.one_history.ensures.events };

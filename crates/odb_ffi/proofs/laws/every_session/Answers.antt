@@ -155,6 +155,16 @@ returns c =
     keeps in
     record {
       kept = kept;
+      gives = λ policy batch events first last calls limit part opens session unfinished idle is.
+          let keeps = kept policy batch events first last calls opens session in
+          let live = keeps.holds.holds.1 in
+          let taken = map Single live.opened.events ++ live.events in
+          let runs : Accepts batch (λ (rs : List Record). IsLiveRun rs policy taken × (last.run ≡ live_state rs policy taken)) = record {
+            value = keeps.value;
+            document = keeps.document;
+            holds = record { batch = keeps.holds.batch; shaped = keeps.holds.shaped; is_batch = keeps.holds.is_batch; holds = (keeps.holds.holds.0, (live.live, live.state)) };
+          } in
+          c.every_part.ensures.gives policy taken batch last limit part runs unfinished idle is;
       joined = λ first middle last before after. session-joined before after first middle last;
       matched = λ policy strict mode batch events text first last calls opens session responds short allows.
           let keeps = kept policy batch events first last calls opens session in

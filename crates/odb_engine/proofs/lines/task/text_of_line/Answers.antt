@@ -1,4 +1,6 @@
-use Rattle.std.proofs.Common.{◌≡◌, ◌∙◌, true, false, sym, subst, rules}
+use Rattle.std.proofs.Common.{◌≡◌, ◌∙◌, IfSome, List, true, false, sym, subst, rules, ℕ}
+use Rattle.serde_json.specs.Data.{Data}
+use Rattle.odb_doc.specs.Documents.{IsJson}
 use Rattle.std.proofs.lemmas.Bool.{true≢false}
 use Rattle.odb_engine.specs.Halts.{Found}
 use Rattle.odb_engine.specs.Tasks.{InLine, OfTask, takes_bytes, takes_second}
@@ -21,4 +23,7 @@ returns-then-takes_second-clause-listed c lists =
     absurd (true≢false (sym lists ∙ second-alone c.args.task two))
 
 pub returns-clause-listed : goal.returns-clause-listed
-returns-clause-listed c = c.text_of-found.ensures.found.0.1
+returns-clause-listed c = c.text_of-found.ensures.found.1.0
+
+pub returns-clause-error : goal.returns-clause-error
+returns-clause-error c = subst (λ (bytes : List ℕ). IfSome c.text_of-found.new.first_kept.error (λ _. (d : Data) → ¬ IsJson bytes d)) c.text_of-found.ensures.first c.text_of-found.ensures.first_error

@@ -34,7 +34,7 @@ returns-clause-found c =
       document = c.in_ok-value_or_error.ensures.value;
       holds = inr (record { first = first; second = second; pair = pair; document = document; taken = subst (λ v. IsTakenOf (takes_bytes c.args.task) line v document) (sym pair) taken; so = so });
     }))
-    c.text_in.ensures.found
+    c.text_in.ensures.found.0
 
 pub text_in-requires-clause-document : goal.text_in-requires-clause-document
 text_in-requires-clause-document c =

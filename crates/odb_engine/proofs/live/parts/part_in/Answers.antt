@@ -10,7 +10,8 @@ use Rattle.odb_sched.specs.run.State.{size}
 use Rattle.odb_send.specs.Locations.{texts_of}
 use Rattle.odb_send.specs.NextPart.{HasProgress}
 use Rattle.odb_send.specs.Rests.{kept, urls}
-use Rattle.odb_send.proofs.UrlLemmas.{SameLocations, listed_locations, locations_count, refuses_by, urls_by}
+use Rattle.odb_send.proofs.CutLemmas.{cut_by, part_refuses_by}
+use Rattle.odb_send.proofs.UrlLemmas.{SameLocations, listed_locations, locations_count, urls_by}
 use Rattle.odb_engine.specs.LiveParts.{LacksLocations, location, seen_at, states_of}
 use Rattle.odb_engine.proofs.EngineLemmas.{exit-error}
 use Rattle.odb_engine.proofs.live.parts.part_in.Goals as goal
@@ -38,8 +39,8 @@ returns-in_err-part-clause-least c =
     let found : List (Option (List ℕ)) = texts_of c.deref-2.result.now in
     let is : found ≡ list_below (length rs) (location run) = ap texts_of c.deref-2.ensures.value ∙ c.in_ok-locations.ensures ∙ ap (λ n. list_below n (location run)) c.requires.size in
     let agree : SameLocations rs (text_at found) (location run) = listed_locations rs found (location run) is in
-    let least : LacksLocations rs run out limit fault = λ done left units progress next.
-    refuses_by rs units (text_at found) (location run) fault agree (c.in_err-part.ensures.least done left units (subst (λ (xs : List RequestState). HasProgress rs xs done left) (sym made) progress) next) in
+    let least : LacksLocations rs run out limit fault = λ done left fitting progress fits.
+    part_refuses_by rs fitting (text_at found) (location run) fault agree (c.in_err-part.ensures.least done left fitting (subst (λ (xs : List RequestState). HasProgress rs xs done left) (sym made) progress) fits) in
     exit-error (λ r. IfErr r (LacksLocations rs run out limit)) fault _ c.from_residual-in_err-part.ensures.1 least
 
 pub returns-clause-within : goal.returns-clause-within
@@ -63,7 +64,11 @@ returns-clause-part c =
         left = next.left;
         progress = subst (λ (xs : List RequestState). HasProgress rs xs next.done next.left) made next.progress;
         part_is = record {
-          units = next.part_is.units;
+          units = record {
+            fitting = next.part_is.units.fitting;
+            fits = next.part_is.units.fits;
+            cut = cut_by rs next.part_is.units.fitting (text_at found) (location run) (kept part) agree next.part_is.units.cut;
+          };
           urls_are = urls_by rs (kept part) (text_at found) (location run) (urls part) agree (record { count = next.part_is.urls_are.count; each = next.part_is.urls_are.each });
         };
       };

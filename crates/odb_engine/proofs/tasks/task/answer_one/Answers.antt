@@ -1,4 +1,4 @@
-use Rattle.std.proofs.Common.{◌⊎◌, [], IsTrue, inl, inr, subst}
+use Rattle.std.proofs.Common.{◌⊎◌, [], IsTrue, inl, inr}
 use Rattle.odb_engine.specs.Contents.Given.{InMemory}
 use Rattle.odb_engine.specs.declared.form.Form.TheVariants.{Lines}
 use Rattle.odb_engine.specs.Tasks.{OfDocuments}
@@ -7,12 +7,11 @@ use Rattle.odb_engine.proofs.tasks.task.answer_one.Goals as goal
 
 pub returns-clause-ends : goal.returns-clause-ends
 returns-clause-ends g c =
-    let task = c.args.task in
-    let form = c.plain.result.form in
-    let failed = IsTrue c.answer_task.new.first.failed in
-    let (bytes, gives, both) = c.answer_task.ensures.ends in (
+    let failed = IsTrue c.answer_by_default.new.first.failed in
+    let (bytes, gives, both) = c.answer_by_default.ensures.ends in
+    let writes = OfDocuments c.args.task (InMemory []) bytes Lines in (
       bytes,
       gives,
-      Ends-weaker g.W.Write.contents (OfDocuments task (InMemory []) bytes form) (OfDocuments task (InMemory []) bytes Lines) (failed ⊎ ⊥) failed c.args.output.now c.answer_task.new.output c.answer_task.result
-          (λ ended text so. subst (λ form. OfDocuments task (InMemory []) bytes form ended text) c.plain.ensures.form so) ((λ either. elim either [ inl so ↦ so | inr none ↦ absurd none ]), inl) both.0,
+      Ends-weaker g.W.Write.contents writes writes (failed ⊎ ⊥) failed c.args.output.now c.answer_by_default.new.output c.answer_by_default.result (λ ended text so. so)
+          ((λ either. elim either [ inl so ↦ so | inr none ↦ absurd none ]), inl) both.0,
     )
