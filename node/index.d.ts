@@ -104,7 +104,7 @@ export interface Replay {
 /**
  * A document is refused: by its first fault, or by one of all that {@link faults} returns.
  *
- * Where its place begins in the document is looked up when `line`, `column` or `offset` is asked for, in a time in proportion
+ * Where its place begins in the document is looked up when `line`, `column`, `offset` or `end` is asked for, in a time in proportion
  * to the document: do not change the bytes of that before. In a document that is not JSON (F02) they are those of the first
  * byte that cannot be there, or of the end. Of an object they are those in the text that `JSON.stringify` writes of it. They
  * are undefined for a fault that a live run has found.
@@ -127,6 +127,8 @@ export class Fault extends Error {
   readonly column: number | undefined
   /** How many bytes of the document come before the place. */
   readonly offset: number | undefined
+  /** How many bytes of the document come before its end. */
+  readonly end: number | undefined
   /** What the fault means, and how it is repaired. */
   readonly explanation: string
   /**
@@ -219,6 +221,8 @@ export interface Request {
   headers: Record<string, string>
   /** Its atomicity group, or null. */
   group: string | null
+  /** The ids and groups that it depends on, as a plan has them. */
+  needs: string[]
   /**
    * The bytes of its body, just as they are in the document, whatever numbers they have; undefined if it has none, or
    * `null`. Of a document that is bytes, they are those bytes and no copy.
@@ -389,9 +393,10 @@ export class Run {
    * Returns the next part of the batch, or null if nothing may be sent now: at most `limit` requests (10,000) that may be sent
    * together as a batch of their own. None of them was in a part before, and what they depend on is in this part or has
    * succeeded. A group is whole. Dependencies on what has succeeded are left out, and `$a` in a URL is replaced by the Location
-   * that was reported for `a`. Once a part is answered, pass it to `take`; or start its units by `startUnit`, in the order of the
-   * batch, and report their requests. Throws a {@link Fault} if the batch is refused, or F90 for a request that refers to one for which
-   * no Location was reported that its URL may have; and a `RangeError` if a group has more requests than the limit, or if it is
+   * that was reported for `a`; the part ends before the first unit for which there is none. Once a part is answered, pass it to `take`;
+   * or start its units by `startUnit`, in the order of the batch, and report their requests. Throws a {@link Fault} if the batch is
+   * refused, or F90 for a request of the first unit that may begin: it refers to one for which no Location was reported that its URL
+   * may have; start and report this unit, and ask again. Throws a `RangeError` if a group has more requests than the limit, or if it is
    * another batch than that of the run.
    */
   part(batch: Document, limit?: number): Part | null
@@ -399,11 +404,9 @@ export class Run {
   /**
    * Takes what a service has answered a part, at once: starts its requests, and reports each by the response with its id, whose body
    * is taken as its bytes. A request that does not start, since its unit has failed or the run was stopped before, is answered 424.
-   * `mode` is what an error does to the service. If it stops, a request without a response is answered 424; and in a group without an
-   * error a 3xx becomes 424 if it depends on a member that is answered 424: that this one was undone does not show. Throws a
-   * {@link Fault} if the responses do not fit the part, as for `match`, or by F70 if one has a status below 200 or headers that no
-   * report has; and a `RangeError` if a request is running, or the part was not given by this run or has started. Then the run is as
-   * it was.
+   * `mode` is what an error does to the service. If it stops, a request without a response is answered 424. Throws a {@link Fault} if
+   * the responses do not fit the part, as for `match`, or by F70 if one has a status below 200 or headers that no report has; and a
+   * `RangeError` if a request is running, or the part was not given by this run or has started. Then the run is as it was.
    */
   take(part: Part, responses: Document, options?: { mode?: 'continue' | 'stop' }): void
 

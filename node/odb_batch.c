@@ -12,7 +12,7 @@
  *
  *   where(document, place, numbers) -> status
  *
- * Both are Uint8Arrays; the line, the column and the offset are written to `numbers`, a Float64Array of three. */
+ * Both are Uint8Arrays; the line, the column, the offset and the end are written to `numbers`, a Float64Array of four. */
 
 #include <stdlib.h>
 
@@ -181,14 +181,15 @@ static napi_value where(napi_env env, napi_callback_info info)
     void *numbers = NULL;
     if (!read_arguments(env, info, it, 3) || !read_bytes(env, it[0], &document) || !read_bytes(env, it[1], &place)
         || napi_get_typedarray_info(env, it[2], &type, &size, &numbers, NULL, NULL) != napi_ok
-        || type != napi_float64_array || size < 3)
+        || type != napi_float64_array || size < 4)
         return wrong_arguments(env);
-    odb_position position = {0, 0, 0};
+    odb_position position = {0, 0, 0, 0};
     uint32_t status = odb_where(document.at, document.size, place.at, place.size, &position);
     double *found = numbers;
     found[0] = (double)position.line;
     found[1] = (double)position.column;
     found[2] = (double)position.offset;
+    found[3] = (double)position.end;
     return napi_create_uint32(env, status, &result) == napi_ok ? result : NULL;
 }
 

@@ -7,7 +7,7 @@ const { requests } = require('../node/calls/requests.js')
 const { documentBytes } = require('../node/documents/bytes.js')
 const { Course } = require('./course.js')
 const { elementsAt, membersAt, skipSpace } = require('./json_scanner.js')
-const { Places } = require('./places.js')
+const { Lines, Places } = require('./places.js')
 const { deriveAnswers } = require('./service_answers.js')
 const { judge } = require('./verdict.js')
 
@@ -35,6 +35,7 @@ function summarizeRequests(batch) {
 /** A document: its bytes, its text, and the places of its faults. */
 class Document {
   #text
+  #lines
   #places
 
   /** `given` is a text, or bytes. */
@@ -49,7 +50,7 @@ class Document {
   }
 
   get places() {
-    this.#places ??= new Places(this.text)
+    this.#places ??= new Places(this.text, this.bytes)
     return this.#places
   }
 
@@ -60,11 +61,12 @@ class Document {
 
   /** Some text around a place. */
   excerpt(at) {
-    const { text, places: { lines } } = this
+    const { text } = this
+    this.#lines ??= new Lines(text)
     let begin = Math.max(0, at - BEFORE)
     const next = text.indexOf('\n', begin)
     if (begin > 0 && next >= 0 && next < at) begin = next + 1
-    return { text: text.slice(begin, begin + EXCERPT), begin, line: lines.lineOf(begin), length: text.length }
+    return { text: text.slice(begin, begin + EXCERPT), begin, line: this.#lines.lineOf(begin), length: text.length }
   }
 }
 

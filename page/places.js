@@ -1,8 +1,8 @@
 'use strict'
 
-// Where in a text a fault is: as ranges of the text, and as line and column. One scan finds the elements of all faults.
+// Where in a text a fault is: as ranges of the text, and as line and column.
 
-const { elementsAt, membersAt, skipSpace } = require('./json_scanner.js')
+const { membersAt } = require('./json_scanner.js')
 
 // The member of an element that the rule of a fault is about.
 const MEMBER = {
@@ -12,13 +12,15 @@ const MEMBER = {
   F72: 'id', F74: 'atomicityGroup',
 }
 const LONGEST_ID = 100 // characters of an id that is shown
-const OF_ELEMENT = /^\/(\w+)\/(\d+)$/
+const OF_ELEMENT = /^\/\w+\/\d+$/
 const WORD_AT_END = /[\w.+-]*$/u
 const LONGEST_WORD = 100 // characters of a number or a word that are marked
 // What may be a string, a number or a word, as far as it goes; or another character.
 const TOKEN = /"(?:[^"\\\n]|\\.)*"?|[\w.+-]+|[^]/uy
 
-/** The lines of a text: of a place in it the line and the column, which count from 1; columns are characters. */
+const decoder = new TextDecoder('utf-8', { ignoreBOM: true })
+
+/** The lines of a text, which count from 1. */
 class Lines {
   #starts = [0]
 
@@ -46,89 +48,60 @@ class Lines {
     }
     return low + 1
   }
+}
 
-  at(offset) {
-    const line = this.lineOf(offset)
-    let column = 1
-    for (let at = this.start(line); at < offset; column++) at += this.text.codePointAt(at) > 0xffff ? 2 : 1
-    return { line, column }
+/** The places in a text of those in its bytes, each counted on from the one before it. */
+class Offsets {
+  #bytes
+  #last = 0
+  #at = 0
+
+  constructor(bytes) {
+    this.#bytes = bytes
+  }
+
+  find(offset) {
+    if (offset < this.#last) this.#last = this.#at = 0
+    this.#at += decoder.decode(this.#bytes.subarray(this.#last, offset)).length
+    this.#last = offset
+    return this.#at
   }
 }
 
-/** The ranges of the elements of a document by their positions, each found when it is asked for, in order. */
-class Elements {
-  #text
-  #found = []
-  #rest
-
-  constructor(text, name) {
-    const list = membersAt(text, skipSpace(text, 0)).get(name)
-    this.#text = text
-    this.#rest = elementsAt(text, list ? list.value.start : text.length)
-  }
-
-  at(position) {
-    while (this.#found.length <= position) {
-      const { value, done } = this.#rest.next()
-      if (done) return undefined
-      this.#found.push(value)
-    }
-    return this.#found[position]
-  }
-
-  /** The range of a member of an element, and the id of that, as far as there are any. */
-  about(position, name) {
-    const members = membersAt(this.#text, this.at(position).start)
-    const { start, end } = members.get('id')?.value ?? { start: 0, end: 0 }
-    const id = this.#text[start] === '"' && end - start <= LONGEST_ID ? JSON.parse(this.#text.slice(start, end)) : undefined
-    return { part: members.get(name), id }
-  }
-}
-
-/** Where the faults of a text are. */
+/** Where the faults of a document are. */
 class Places {
   #text
-  #lines
-  #elements = new Map()
+  #offsets
 
-  constructor(text) {
+  constructor(text, bytes) {
     this.#text = text
-  }
-
-  get lines() {
-    this.#lines ??= new Lines(this.#text)
-    return this.#lines
-  }
-
-  #listElements(name) {
-    if (!this.#elements.has(name)) this.#elements.set(name, new Elements(this.#text, name))
-    return this.#elements.get(name)
+    this.#offsets = new Offsets(bytes)
   }
 
   /** The range of what a fault names, its id, the range in it that the rule is about, and its line and column. */
   locate(fault) {
-    const found = this.#findRange(fault)
-    const whole = { start: found.start, end: found.end }
-    return { whole, part: found.part ?? whole, id: found.id, ...this.lines.at(found.place ?? whole.start) }
+    const { line, column } = fault
+    const whole = this.#findRange(fault)
+    return { whole, part: whole, ...this.#findAbout(fault, whole), line, column }
   }
 
-  #findRange(fault) {
-    const { code, place } = fault
-    const [, name, position] = OF_ELEMENT.exec(place) ?? []
-    const elements = name && this.#listElements(name)
-    const element = elements?.at(Number(position))
-    if (element) return { ...element, ...elements.about(Number(position), MEMBER[code]) }
+  #findRange({ code, place, offset, end }) {
     if (code === 'F01') return { start: 0, end: 0 }
-    if (code !== 'F02') return this.#tokenAt(skipSpace(this.#text, 0))
-    const token = this.#tokenAt(this.#beforeByte(fault.offset))
-    const isEnd = token.start === token.end
-    return { start: isEnd ? token.start : this.#wordBefore(token.start), end: token.end, place: token.start }
+    const start = this.#offsets.find(offset)
+    if (OF_ELEMENT.test(place)) return { start, end: this.#offsets.find(end) }
+    const token = this.#tokenAt(start)
+    const isWrong = code === 'F02' && token.end > start
+    return isWrong ? { start: this.#wordBefore(start), end: token.end } : token
   }
 
-  /** How much of the text is before one of its bytes. */
-  #beforeByte(offset) {
-    const before = new TextEncoder().encode(this.#text).subarray(0, offset)
-    return new TextDecoder('utf-8', { ignoreBOM: true }).decode(before).length
+  /** The range of the member of an element that the rule of a fault is about, and the id of the element, as far as there are any. */
+  #findAbout({ code, place }, { start }) {
+    if (!OF_ELEMENT.test(place)) return {}
+    const members = membersAt(this.#text, start)
+    const { start: first, end } = members.get('id')?.value ?? { start: 0, end: 0 }
+    const isShort = this.#text[first] === '"' && end - first <= LONGEST_ID
+    const found = isShort ? { id: JSON.parse(this.#text.slice(first, end)) } : {}
+    return members.has(MEMBER[code]) ? { ...found, part: members.get(MEMBER[code]) } : found
   }
 
   /** Where the number or the word begins that ends at this place, which is wrong with what is there; else the place. */

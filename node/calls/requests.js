@@ -6,15 +6,16 @@ const { documentBytes } = require('../documents/bytes.js')
 const { DONE, callError } = require('../errors/faults.js')
 const library = require('../library/index.js')
 
-// How many numbers a request has: a start and a length for each of seven parts, and a position.
-const NUMBERS = 15
+// How many numbers a request has: a start and a length for each of eight parts, and a position.
+const NUMBERS = 17
 
 /** The request whose parts lie there, from a number on; its reference is missing yet. `slice` is a text by start and length. */
 function readRequest(document, slice, all, from) {
-  const [id, method, url, rest, headers, group] = [0, 2, 4, 6, 8, 10].map((at) => slice(all[from + at], all[from + at + 1]))
-  const [start, length] = [all[from + 12], all[from + 13]]
+  const [id, method, url, rest, headers, group, names] = [0, 2, 4, 6, 8, 10, 12].map((at) => slice(all[from + at], all[from + at + 1]))
+  const [start, length] = [all[from + 14], all[from + 15]]
   const body = start < 0 ? undefined : document.subarray(start, start + length)
-  return { id, method, url, reference: null, rest, headers: JSON.parse(headers), group, body }
+  const needs = names === '' ? [] : names.split(',')
+  return { id, method, url, reference: null, rest, headers: JSON.parse(headers), group, needs, body }
 }
 
 /** What returns the part of a text by its start and its length in bytes; null if there is no such part. */

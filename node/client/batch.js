@@ -2,7 +2,7 @@
 
 // A batch that is made by calls. client.d.ts says what each takes and returns.
 
-const { check, plan } = require('../calls/commands.js')
+const { check } = require('../calls/commands.js')
 const { requireOptions } = require('../calls/options.js')
 const { requests } = require('../calls/requests.js')
 const { writeBatch, writeRequest } = require('../documents/batch_text.js')
@@ -122,8 +122,8 @@ class Batch {
   #origin = Symbol('batch')
 
   static read(document) {
-    const [batch, planned] = [new Batch(), plan(document)]
-    requests(document).forEach((request, at) => batch.#append(request, planned[at].needs))
+    const batch = new Batch()
+    for (const request of requests(document)) batch.#append(request)
     return batch
   }
 
@@ -161,7 +161,7 @@ class Batch {
     if (isThere) folded['content-type'] ??= 'application/json'
     const text = isThere ? bodyText(body, folded) : undefined
     const needs = this.#findNeeds(after, place, folded)
-    this.#append({ id, group: this.#group?.id ?? null, method, url: place, headers: folded, body: text }, needs)
+    this.#append({ id, group: this.#group?.id ?? null, method, url: place, headers: folded, needs, body: text })
     return new Reference(id, this.#origin)
   }
 
@@ -222,10 +222,10 @@ class Batch {
     return `${prefix}${count + 1}`
   }
 
-  #append(request, needs) {
+  #append(request) {
     const { id, group, method, url } = request
     const operation = `${method.toUpperCase()} ${url.split('?', 1)[0]}`
-    this.#requests.push({ id, group, operation, text: writeRequest(request, needs) })
+    this.#requests.push({ id, group, operation, text: writeRequest(request) })
     this.#own.set(id, group)
     if (group !== null) this.#takeGroup(group)
   }

@@ -2,8 +2,9 @@
 
 // A batch that is sent in parts, which the library makes.
 
-const { match, rest } = require('../calls/commands.js')
+const { match, plan, rest } = require('../calls/commands.js')
 const { MAX_REQUESTS } = require('../calls/options.js')
+const { requests } = require('../calls/requests.js')
 const { openListed } = require('../calls/run.js')
 const { bodyBytes, documentBytes } = require('../documents/bytes.js')
 const { readResponses } = require('../documents/responses.js')
@@ -16,7 +17,7 @@ const { replaceHeaders } = require('./rest.js')
 
 // What a request is answered that was not sent, or left out by a service that stops.
 const SKIPPED = { status: 424, headers: {}, body: Buffer.alloc(0) }
-// What is recorded of a request that is not sent any more: neither it nor what depends on it is left then.
+// What is recorded of a request that is left out of a part: neither it nor what depends on it is left then.
 const SETTLED = 400
 // The library reads a batch for each part of it. One with more requests is cut into longer parts first, each a batch of its own.
 const MANY = 1000
@@ -31,15 +32,13 @@ function onWire({ status, headers, body }) {
   return { status, headers, body: Buffer.from(typeof body === 'string' ? body : bodyBytes(body)) }
 }
 
-/** Throws unless a part may have as many requests as a limit, and each of the groups of some requests has a place in it. */
-function requireLimit(limit, groups) {
+/** Throws unless a part may have as many requests as a limit, and each unit has a place in it. */
+function requireLimit(limit, units) {
   if (!Number.isInteger(limit) || limit < 1 || limit > MAX_REQUESTS) {
     throw new RangeError(`limit must be a whole number from 1 to ${MAX_REQUESTS}, not ${String(limit)}`)
   }
-  const sizes = new Map()
-  for (const group of groups) if (group !== null) sizes.set(group, (sizes.get(group) ?? 0) + 1)
-  for (const [group, size] of sizes) {
-    if (size > limit) throw new RangeError(`the group ${group} has ${size} requests, and a batch may have ${limit}`)
+  for (const [unit, { length }] of units) {
+    if (length > limit) throw new RangeError(`the group ${unit} has ${length} requests, and a batch may have ${limit}`)
   }
 }
 
@@ -54,16 +53,16 @@ class Parts {
   #mode
   // How many requests a part has, which may be one that is cut again.
   #most
-  // What is left of the batch since something could not be sent, its requests, and its run.
-  #left
   #requests
   #run
-  #groups
+  // The unit of each request, which is its group or its id, and the ids of each unit.
+  #unitOf
+  #units = new Map()
   #references
-  // The part that is out; the requests that are not sent any more, and whether what is left has some that never were.
+  // The part that is out, as the run gave it and as it is sent, and what those of its requests are answered that cannot be sent.
+  #given
   #part
-  #settled = new Set()
-  #isToCut = false
+  #refused
   #isStopped = false
 
   /** Throws a Fault for a batch that is refused, and a RangeError for a limit that cannot be kept. */
@@ -71,20 +70,17 @@ class Parts {
     this.#limit = limit
     this.#mode = mode
     this.document = document
-    this.#open(document)
-    this.#groups = new Map(this.#requests.map(({ id, group }) => [id, group]))
-    requireLimit(limit, this.#groups.values())
-    const count = this.#groups.size
-    this.#most = count <= Math.max(MANY, 4 * limit) ? limit : Math.floor(Math.sqrt(count * limit))
-    this.#references = new References(this.#requests)
-    this.answers = new Map(this.#requests.map(({ id }) => [id, SKIPPED]))
-  }
-
-  #open(document) {
-    this.#left = document
-    const { run, requests } = openListed(document, { mode: this.#mode })
+    const { run, requests } = openListed(document, { mode })
     this.#run = run
     this.#requests = requests
+    this.#unitOf = new Map(requests.map(({ id, group }) => [id, group ?? id]))
+    for (const unit of this.#unitOf.values()) this.#units.set(unit, [])
+    for (const [id, unit] of this.#unitOf) this.#units.get(unit).push(id)
+    requireLimit(limit, this.#units)
+    const count = requests.length
+    this.#most = count <= Math.max(MANY, 4 * limit) ? limit : Math.floor(Math.sqrt(count * limit))
+    this.#references = new References(requests)
+    this.answers = new Map(requests.map(({ id }) => [id, SKIPPED]))
   }
 
   /** Sends the batch; `post` is fulfilled with what a document is answered. */
@@ -112,73 +108,100 @@ class Parts {
   /** Makes the next part; false if nothing more is to be sent. */
   #next() {
     while (!this.#isStopped) {
-      try {
-        if (this.#isToCut) this.#cut()
-        const part = this.#run.part(this.#left, this.#most)
-        if (part === null) return false
-        // In one part the batch is sent as it is.
-        const document = this.#replaceTags(part.ids, part.ids.length < this.answers.size ? part.document : this.document)
-        this.#part = { document, ids: part.ids }
-        if (!this.#isToCut) return true
-      } catch (error) {
-        if (!(error instanceof Fault)) throw error
-        this.#refuseFrom(Number(error.place.split('/').at(-1)))
-      }
+      const part = this.#nextPart()
+      if (part === null) return false
+      if (part === undefined) continue
+      this.#given = part
+      // In one part the batch is sent as it is.
+      this.#part = part.ids.length < this.answers.size ? part : { document: this.document, ids: part.ids }
+      if (this.#replaceTags()) return true
+      this.#settle(new Map())
     }
     return false
   }
 
-  /** A part with ETags in place of references to requests that it does not have. If there is none, its request is refused. */
-  #replaceTags(ids, document) {
-    const inside = new Set(ids)
-    const headers = new Map()
-    for (const id of ids.filter((request) => this.#references.hasTags(request))) {
-      try {
-        headers.set(id, this.#references.headers(id, inside))
-      } catch (error) {
-        if (!(error instanceof Refusal)) throw error
-        this.#refuse(new Map([[id, error.answer]]))
-        break
-      }
+  /** What the library gives as the next part; undefined if its first unit refers to what has no URL that it may have. */
+  #nextPart() {
+    try {
+      return this.#run.part(this.document, this.#most)
+    } catch (error) {
+      if (!(error instanceof Fault)) throw error
+      this.#refuseFrom(Number(error.place.split('/').at(-1)))
+      return undefined
     }
-    return headers.size > 0 ? replaceHeaders(document, headers) : document
   }
 
   /**
-   * Answers the request at a position of what is left, which refers to what has no URL that it may have; in mode continue also all
-   * after it that refer to what has no URL at all.
+   * Answers the unit of the request at a position, which refers to what has no URL that it may have; in mode continue also the units
+   * after it that refer to what has no URL at all, and may begin.
    */
   #refuseFrom(position) {
     const [first, ...others] = this.#requests.slice(position)
     const lacks = (id) => isSuccess(this.answers.get(id)) && this.#recorded(id).headers.location === undefined
     const alike = this.#mode === 'stop' ? [] : others.filter(({ reference }) => reference !== null && lacks(reference))
-    this.#refuse(new Map([first, ...alike].map(({ id, reference }) => {
+    for (const { id, reference } of [first, ...alike]) {
       const message = `${reference} was answered without a URL that ${id} may have`
-      return [id, new Refusal(424, 'NoLocation', message, { target: reference }).answer]
-    })))
-  }
-
-  /** Answers requests that cannot be sent, by their ids, and their groups. In mode stop nothing is sent that comes after them. */
-  #refuse(refused) {
-    const units = new Map(Array.from(refused, ([id, answer]) => [this.#groups.get(id) ?? id, onWire(answer)]))
-    let isAfter = false
-    for (const [id, group] of this.#groups) {
-      const answer = units.get(group ?? id)
-      if (answer !== undefined) this.answers.set(id, answer)
-      isAfter ||= this.#mode === 'stop' && refused.has(id)
-      if (answer !== undefined || isAfter) this.#settled.add(id)
+      const { answer } = new Refusal(424, 'NoLocation', message, { target: reference })
+      try {
+        this.#run.startUnit(id)
+      } catch (error) {
+        if (error instanceof Refused) continue
+        throw error
+      }
+      for (const member of this.#unitWith(id)) {
+        this.answers.set(member, onWire(answer))
+        this.#run.report(member, SKIPPED.status)
+      }
     }
-    this.#isToCut = true
   }
 
-  /** Leaves out what is not sent any more, and what depends on that. */
-  #cut() {
-    const isOver = ({ id, status }) => this.#settled.has(id) && !isSuccess({ status })
-    const recorded = this.#requests.map(({ id }) => this.#recorded(id))
-    const left = rest(this.#left, { responses: recorded.map((response) => (isOver(response) ? { ...response, status: SETTLED } : response)) })
-    this.#run.close()
-    this.#open(left)
-    this.#isToCut = false
+  /** The ids of the unit of a request. */
+  #unitWith(id) {
+    return this.#units.get(this.#unitOf.get(id))
+  }
+
+  /**
+   * Puts ETags in place of references to requests that the part does not have, and leaves out of it what refers to one that is not
+   * there. Returns whether something of it is left.
+   */
+  #replaceTags() {
+    let { document, ids } = this.#part
+    this.#refused = new Map()
+    for (;;) {
+      const { headers, refused } = this.#findTags(ids)
+      if (refused.size === 0) {
+        this.#part = { document: headers.size > 0 ? replaceHeaders(requests(document), (request) => headers.get(request.id) ?? request.headers) : document, ids: this.#part.ids }
+        return ids.length > 0
+      }
+      for (const [id, answer] of refused) this.#refused.set(id, answer)
+      // In mode stop nothing is sent that comes after it.
+      const end = this.#mode === 'stop' ? ids.findIndex((id) => refused.has(id)) : ids.length
+      const responses = ids.map((id, at) => {
+        return { id, status: refused.has(id) || at >= end ? SETTLED : SKIPPED.status, atomicityGroup: this.#groupOf(id) }
+      })
+      document = rest(document, { responses })
+      ids = plan(document).map(({ id }) => id)
+    }
+  }
+
+  /** The headers of the requests with these ids that refer to ETags of others, and what those are answered that refer to none. */
+  #findTags(ids) {
+    const [inside, headers, refused] = [new Set(ids), new Map(), new Map()]
+    for (const id of ids.filter((request) => this.#references.hasTags(request))) {
+      try {
+        headers.set(id, this.#references.headers(id, inside))
+      } catch (error) {
+        if (!(error instanceof Refusal)) throw error
+        for (const member of this.#unitWith(id)) refused.set(member, onWire(error.answer))
+      }
+    }
+    return { headers, refused }
+  }
+
+  /** The group of a request, or null. */
+  #groupOf(id) {
+    const unit = this.#unitOf.get(id)
+    return unit === id ? null : unit
   }
 
   /** Takes what the part that is out was answered. */
@@ -212,40 +235,22 @@ class Parts {
     this.#settle(new Map(this.#part.ids.map((id) => [id, same])))
   }
 
-  /** Notes what the requests of the part that is out were answered, and reports it; one without an answer was skipped. */
+  /** Notes what the requests of the part that is out were answered, and has the run take it; one without an answer was skipped. */
   #settle(found) {
     const { ids } = this.#part
     for (const id of ids) {
-      const answer = found.get(id) ?? SKIPPED
+      const answer = this.#refused.get(id) ?? found.get(id) ?? SKIPPED
       this.answers.set(id, answer)
-      this.#settled.add(id)
       if (isSuccess(answer) && this.#references.referred.has(id)) this.#references.keep(id, answer.headers, answer.body)
     }
-    if (this.#isStopped) return
-    const units = new Map(ids.map((id) => [this.#groups.get(id) ?? id, []]))
-    for (const id of ids) units.get(this.#groups.get(id) ?? id).push(this.#recorded(id))
-    for (const recorded of units.values()) this.#report(recorded)
-  }
-
-  /** Reports what the requests of a unit were answered, unless it was skipped, since what it needs has failed. */
-  #report(recorded) {
-    const failed = recorded.filter((response) => !isSuccess(response)).map(({ status }) => status)
-    try {
-      this.#run.startUnit(recorded[0].id)
-    } catch (error) {
-      if (error instanceof Refused) return
-      throw error
-    }
-    for (const { id, status, headers } of recorded) {
-      // A 424 beside a 3xx is no error: it is that of a member that was undone.
-      this.#run.report(id, status === SKIPPED.status ? Math.min(...failed) : status, headers)
-    }
+    if (!this.#isStopped) this.#run.take(this.#given, { responses: ids.map((id) => this.#recorded(id)) }, { mode: this.#mode })
+    this.#isStopped ||= this.#mode === 'stop' && this.#refused.size > 0
   }
 
   /** The response to a request, with the URL and the ETag of what others refer to as headers. */
   #recorded(id) {
     const { status } = this.answers.get(id)
-    return { id, status, atomicityGroup: this.#groups.get(id), headers: this.#references.recorded(id) }
+    return { id, status, atomicityGroup: this.#groupOf(id), headers: this.#references.recorded(id) }
   }
 
   /** The responses to the whole batch, as `match` accepts them: statuses, and of what others refer to the URL and the ETag. */

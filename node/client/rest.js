@@ -2,7 +2,7 @@
 
 // The rest of a batch: what failed for now or was skipped, and may be sent again.
 
-const { plan, rest } = require('../calls/commands.js')
+const { rest } = require('../calls/commands.js')
 const { requests } = require('../calls/requests.js')
 const { writeBatch, writeRequest } = require('../documents/batch_text.js')
 const { Fault } = require('../errors/faults.js')
@@ -39,12 +39,9 @@ function resolveTags({ id, headers: given }, ids, recorded) {
   return headers
 }
 
-/** A batch in which requests have other headers, by their ids. */
-function replaceHeaders(document, headers) {
-  const planned = plan(document)
-  return writeBatch(requests(document).map((request, at) => {
-    return writeRequest({ ...request, headers: headers.get(request.id) ?? request.headers }, planned[at].needs)
-  }))
+/** The batch of requests with other headers, which `find` returns of each. */
+function replaceHeaders(given, find) {
+  return writeBatch(given.map((request) => writeRequest({ ...request, headers: find(request) })))
 }
 
 /**
@@ -53,10 +50,9 @@ function replaceHeaders(document, headers) {
  */
 function restDocument(document, responses) {
   const recorded = new Map(responses.responses.map(({ id, headers }) => [id, headers]))
-  const left = findRest(document, responses, recorded)
-  const given = requests(left)
+  const given = requests(findRest(document, responses, recorded))
   const ids = new Set(given.map(({ id }) => id))
-  return replaceHeaders(left, new Map(given.map((request) => [request.id, resolveTags(request, ids, recorded)])))
+  return replaceHeaders(given, (request) => resolveTags(request, ids, recorded))
 }
 
 module.exports = { replaceHeaders, restDocument }

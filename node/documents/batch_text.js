@@ -9,8 +9,8 @@ const BODY = Buffer.from(',"body":')
 const COMMA = Buffer.from(',')
 const [BEGIN_OF_BATCH, END_OF_BATCH] = ['{"requests":[', ']}'].map((text) => Buffer.from(text))
 
-/** The text of a request in a batch, that depends on these ids and groups. Its body is the bytes that it has. */
-function writeRequest({ id, group, method, url, headers, body }, needs) {
+/** The text of a request in a batch. Its body is the bytes that it has. */
+function writeRequest({ id, group, needs, method, url, headers, body }) {
   const text = writeJson({
     id,
     atomicityGroup: group ?? undefined,

@@ -2,8 +2,10 @@
 
 // Documents, events and parts of reports: what callers pass, and the bytes that the library reads.
 
+const { CONSTANTS } = require('../library/constants.js')
+
 // How deep a document may nest.
-const MOST_LEVELS = 127
+const MOST_LEVELS = CONSTANTS.limits.document_levels
 
 const NO_BIGINT = 'a BigInt has no JSON: pass the JSON text as bytes'
 const LONE_SURROGATE = /\p{Surrogate}/u

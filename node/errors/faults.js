@@ -5,7 +5,7 @@
 const { Findings } = require('./findings.js')
 const library = require('../library/index.js')
 
-const NUMBERS = 3 // of an odb_position
+const NUMBERS = 4 // of an odb_position
 const OF_FAULT = 6 + NUMBERS // of an odb_fault: a start and a length for each of three words, and a position
 
 const DONE = 0
@@ -54,6 +54,10 @@ class Fault extends Error {
     return this.#numbers[2]
   }
 
+  get end() {
+    return this.#numbers[3]
+  }
+
   get explanation() {
     return explain(this.code).meaning
   }
@@ -69,7 +73,7 @@ class Fault extends Error {
   }
 }
 
-/** The line, the column and the offset of a place in a document; nothing if it is none. */
+/** The line, the column, the offset and the end of a place in a document; nothing if it is none. */
 function findPlace(document, place) {
   const numbers = new Float64Array(NUMBERS)
   const status = library.where(document, Buffer.from(place), numbers)

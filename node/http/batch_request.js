@@ -9,6 +9,8 @@ const { mediaType } = require('./bodies.js')
 const { decodePart } = require('./urls.js')
 
 const FORWARDED = /host="?([^";,\s]+)/gi
+// How many hosts of a header count. There are as many as proxies; a client may send thousands, and each URL is compared with all.
+const MOST_HOSTS = 16
 const HOST = /^([a-z0-9._~-]+|\[[0-9a-f:.]+\])(:[0-9]{1,5})?$/i
 const PREFERENCES = /(?:[^,"]|"[^"]*"?)+/g
 const NOT_INHERITED = new Set(CONSTANTS.headers.not_inherited)
@@ -43,7 +45,8 @@ function absoluteUrl(scheme, host, path) {
 
 /** The hosts that a client has asked, by what proxies say. */
 function forwardedHosts({ 'x-forwarded-host': names = '', forwarded = '' }) {
-  const named = [...names.split(','), ...Array.from(forwarded.matchAll(FORWARDED), ([, host]) => host)]
+  const inForwarded = Array.from(forwarded.matchAll(FORWARDED), ([, host]) => host)
+  const named = [...names.split(',', MOST_HOSTS), ...inForwarded.slice(0, MOST_HOSTS)]
   return named.map((host) => host.trim()).filter(isHost)
 }
 

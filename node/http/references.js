@@ -16,9 +16,9 @@ const TAGS_IN_BODY = ['@etag', '@odata.etag']
 
 const NONE = new Set()
 
-/** The first of some members that an object has, if it is a string. */
+/** The first of some members that an object has that is a string, and not empty. */
 function textAmong(object, names) {
-  return names.map((name) => object[name]).find((value) => typeof value === 'string')
+  return names.map((name) => object[name]).find((value) => typeof value === 'string' && value !== '')
 }
 
 /** What a call returns, or the refusal that it throws, as a function. */

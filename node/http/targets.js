@@ -148,7 +148,9 @@ class AnyTargets {
   }
 
   below(sent, place = '', context = '', rest) {
-    return this.target(entityUrl(followUrl(place, place === '' ? sent : followUrl(context, sent))) + rest)
+    const url = followUrl(place, place === '' ? sent : followUrl(context, sent))
+    // An empty URL is the folder that URLs are relative to, and an empty Location is none.
+    return this.target(entityUrl(url) + rest || url.split(/[?#]/, 1)[0] || '.')
   }
 }
 

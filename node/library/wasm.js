@@ -23,9 +23,9 @@ const COMMANDS = [
 ]
 
 const WORD = 8 // bytes of a pointer or a size
-const OF_REQUEST = 15 // words of an odb_request
+const OF_REQUEST = 17 // words of an odb_request
 const OF_RESPONSE = 9 // words of an odb_response
-const OF_POSITION = 3 // words of an odb_position
+const OF_POSITION = 4 // words of an odb_position
 const OF_FAULT = 6 + OF_POSITION // words of an odb_fault
 const NONE = 2 ** 32 - 1 // each half of ODB_NONE
 const SHORTEST = 32 // how short a request or a response may be in a document,
@@ -136,6 +136,15 @@ class Instance {
 const NOTHING = new Uint8Array()
 const totalLength = (documents) => documents.reduce((sum, { length }) => sum + length, 0)
 
+/** Has a call write its text: the pair of status and text. It takes what is `before`, documents, numbers, the text and what is `after`. */
+function writeIn(instance, name, size, { before = [], documents = [], numbers = [], after = [] }) {
+  const answer = instance.with((take) => {
+    const given = [...before, ...instance.put(take, documents), ...numbers]
+    return instance.writeText(take, size, (text) => instance.call(name, ...given, ...text, ...after))
+  })
+  return answer ?? [OUT_OF_MEMORY, Buffer.from(NOTHING)]
+}
+
 /** The numbers in so many words at a place, as the addon returns them. */
 function listedNumbers(instance, at, words) {
   const halves = instance.numbers(at, 2 * words)
@@ -179,36 +188,12 @@ function commandCalls(use, seed) {
       const [name, count, ...taken] = COMMANDS[command]
       const numbers = taken.map((option) => ({ mode, width, order, trace, strict, form })[option])
       const documents = [batch, second].slice(0, count)
-      const answer = use((instance) => instance.with((take) => {
-        const given = instance.put(take, documents)
-        const size = totalLength(documents) + MORE
-        return instance.writeText(take, size, (text) => instance.call(name, ...given, ...numbers, ...text, seed))
-      }))
-      return answer ?? [OUT_OF_MEMORY, Buffer.from(NOTHING)]
+      return use((instance) => writeIn(instance, name, totalLength(documents) + MORE, { documents, numbers, after: [seed] }))
     },
 
-    explain(code) {
-      const answer = use((instance) => instance.with((take) => {
-        const given = instance.put(take, [code])
-        return instance.writeText(take, EXPLANATION, (text) => instance.call('odb_explain', ...given, ...text))
-      }))
-      return answer ?? [OUT_OF_MEMORY, Buffer.from(NOTHING)]
-    },
-
-    constants() {
-      const answer = use((instance) => instance.with((take) => {
-        return instance.writeText(take, EXPLANATION, (text) => instance.call('odb_constants', ...text))
-      }))
-      return answer ?? [OUT_OF_MEMORY, Buffer.from(NOTHING)]
-    },
-
-    reportFault(headers, body) {
-      const answer = use((instance) => instance.with((take) => {
-        const given = instance.put(take, [headers, body])
-        return instance.writeText(take, MORE, (text) => instance.call('odb_report_fault', ...given, ...text))
-      }))
-      return answer ?? [OUT_OF_MEMORY, Buffer.from(NOTHING)]
-    },
+    explain: (code) => use((instance) => writeIn(instance, 'odb_explain', EXPLANATION, { documents: [code] })),
+    constants: () => use((instance) => writeIn(instance, 'odb_constants', EXPLANATION, {})),
+    reportFault: (...parts) => use((instance) => writeIn(instance, 'odb_report_fault', MORE, { documents: parts })),
 
     where(document, place, numbers) {
       const status = use((instance) => instance.with((take) => {
@@ -220,12 +205,9 @@ function commandCalls(use, seed) {
       return status ?? OUT_OF_MEMORY
     },
 
-    resolve(...texts) {
-      const answer = use((instance) => instance.with((take) => {
-        const given = instance.put(take, texts)
-        return instance.writeText(take, totalLength(texts) + MORE, (text) => instance.call('odb_resolve', ...given, 0, ...text))
-      }))
-      const [status, url] = answer ?? [OUT_OF_MEMORY]
+    resolve(...documents) {
+      const size = totalLength(documents) + MORE
+      const [status, url] = use((instance) => writeIn(instance, 'odb_resolve', size, { documents, numbers: [0] }))
       return status === DONE ? url.toString() : status
     },
 
@@ -271,11 +253,7 @@ function listCall(name) {
 
 /** A call that writes a text about a run. */
 function textCall(name) {
-  return (run, size) => {
-    const instance = liveInstance(run)
-    const answer = instance.with((take) => instance.writeText(take, size + 1, (text) => instance.call(name, run.place, ...text)))
-    return answer ?? [OUT_OF_MEMORY, Buffer.from(NOTHING)]
-  }
+  return (run, size) => writeIn(liveInstance(run), name, size + 1, { before: [run.place] })
 }
 
 /** A call that takes a number, and gives two. */
@@ -354,12 +332,8 @@ function runCalls(use, seed) {
       return answer ?? [OUT_OF_MEMORY, Buffer.from(NOTHING), 0]
     },
     take(run, part, responses, mode) {
-      const instance = liveInstance(run)
-      const answer = instance.with((take) => {
-        const given = instance.put(take, [part, responses])
-        return instance.writeText(take, MORE, (text) => instance.call('odb_run_take', run.place, ...given, mode, ...text, seed))
-      })
-      return answer ?? [OUT_OF_MEMORY, Buffer.from(NOTHING)]
+      const given = { before: [run.place], documents: [part, responses], numbers: [mode], after: [seed] }
+      return writeIn(liveInstance(run), 'odb_run_take', MORE, given)
     },
     ready: listCall('odb_run_ready'),
     running: listCall('odb_run_running'),

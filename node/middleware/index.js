@@ -101,7 +101,7 @@ function batch(app, options = {}) {
   const { log } = settings.perform
   return function handleBatch(req, res, next = () => app(req, res)) {
     const [path] = (req.originalUrl ?? req.url).split('?', 1)
-    if (decodePart(path) !== settings.path) return next()
+    if ((path.includes('%') ? decodePart(path) : path) !== settings.path) return next()
     const client = new ClientConnection(res, settings.perform.timeout)
     const memory = new BodyBudget(Infinity, settings.memory) // of this batch, to be given back as a whole
     answerBatch(callApp, req, client, memory, settings)

@@ -161,6 +161,8 @@ const ANSWERS = [
   ['a body', { body: { '@odata.context': 'https://h/s/$metadata', '@id': 'Orders(5)' } }, 'post', 'https://h/s/Orders(5)/Lines'],
   ['a get', {}, 'get', 'Orders/Lines'],
   ['nothing', {}, 'post', undefined],
+  ['an empty location', { headers: { Location: '' } }, 'post', undefined],
+  ['an empty one, and another', { headers: { Location: '', 'OData-EntityId': 'Orders(5)' } }, 'post', 'Orders(5)/Lines'],
   ['a reference', { headers: { Location: '$2' } }, 'post', undefined],
   ['an encoded one', { headers: { Location: '%242' } }, 'post', undefined],
   ['what is none yet', { headers: { Location: '$all' } }, 'post', undefined],
@@ -222,7 +224,7 @@ test('sends what comes before a request that cannot be sent, and what comes afte
   )
   const outcomes = document.requests.map(({ id }) => ({ id, status: 200 }))
   const { statuses, results, parts } = await inParts(document, outcomes, { limit: 2 })
-  assert.deepEqual(parts.map((part) => part.map(({ id }) => id)), [['a', 'b'], ['c', 'e']])
+  assert.deepEqual(parts.map((part) => part.map(({ id }) => id)), [['a', 'b'], ['c'], ['e']])
   assert.deepEqual([...statuses.values()], [200, 200, 200, 424, 200, 400])
   assert.equal(results.get('f').json().error.code, 'NoETag')
 })

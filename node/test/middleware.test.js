@@ -358,6 +358,14 @@ everywhere('takes URLs with the scheme and the host of a proxy for its own', {},
   assert.deepEqual(statusesOf(await responses(document)), { r0: 404, r1: 404, r2: 204 })
 })
 
+everywhere('compares URLs with no more hosts than there are proxies', {}, async ({ responses }) => {
+  const many = Array.from({ length: 500 }, (_, k) => `h${k}`)
+  const document = batch(['a', 'get', 'http://h15/odata/status?is=204'], ['b', 'get', 'http://h16/odata/status?is=204'])
+  for (const headers of [{ 'x-forwarded-host': many.join() }, { forwarded: many.map((host) => `host=${host}`).join() }]) {
+    assert.deepEqual(statusesOf(await responses(document, { ...CONTINUES, ...headers })), { a: 204, b: 404 })
+  }
+})
+
 everywhere('reaches what a wider root has', { root: '/' }, async ({ responses }) => {
   assert.deepEqual(statusesOf(await responses(batch(['a', 'get', '/status?is=204']))), { a: 204 })
 })

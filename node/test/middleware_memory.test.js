@@ -185,3 +185,34 @@ test('gives back the memory of batches that are refused, cut or left', { timeout
     await until(isFree)
   })
 })
+
+test('leaves nothing behind, whenever a client leaves', { timeout: WAITS }, async () => {
+  const [opened, ended, open] = [[], [], new Set()]
+  const transaction = async (group, body) => {
+    opened.push(group)
+    await body().then(() => ended.push('commit'), (error) => {
+      ended.push('rollback')
+      throw error
+    })
+  }
+  const handler = (req, res) => {
+    open.add(res)
+    res.on('close', () => open.delete(res)).on('error', () => {})
+    setImmediate(() => res.writeHead(200, { 'Content-Type': 'text/plain' }).write('x'))
+    setImmediate(() => setImmediate(() => res.end('y')))
+  }
+  const document = batch(['a', 'get', 'a'], ['b', 'post', 'b', { atomicityGroup: 'g', body: 1 }],
+    ['c', 'delete', 'c', { atomicityGroup: 'g', dependsOn: ['b'] }], ['d', 'get', 'd'])
+  const whole = JSON.stringify(batch(['a', 'put', 'x', { body: 'x'.repeat(4000) }]))
+  await serving('node:http', handler, { maxSize: whole.length + 2, memory: whole.length + 2, transaction }, async ({ port, post }) => {
+    for (let turns = 0, isAnswered = false; !isAnswered; turns++) {
+      const client = sent(port, document).on('error', () => {}).on('data', () => (isAnswered = true))
+      await once(client, 'connect')
+      for (let k = 0; k < turns && !isAnswered; k++) await new Promise(setImmediate)
+      client.destroy()
+      await until(async () => (await post(whole)).status === 200 && open.size === 0)
+      assert.equal(ended.length, opened.length)
+    }
+  })
+  assert.equal(ended.includes('commit'), true)
+})

@@ -40,6 +40,20 @@ describe('parts of a live run', () => {
     throws(() => run.part(ORDER), { code: 'ERR_ODB_CLOSED' })
   })
 
+  it('end before what lacks a Location', () => {
+    const batch = { requests: [...ORDER.requests.slice(0, 1), { id: 'a', method: 'get', url: 'A' }, ...ORDER.requests.slice(1)] }
+    const run = new Run(batch)
+    run.start('o')
+    run.report('o', 201)
+    deepStrictEqual(run.part(batch).ids, ['a'])
+    throws(() => run.part(batch), { code: 'F90', place: '/requests/2' })
+    run.startUnit('l')
+    run.report('l', 424)
+    run.report('m', 424)
+    deepStrictEqual(run.part(batch), null)
+    run.close()
+  })
+
   it('are answered at once', () => {
     const good = { responses: [{ id: 'o', status: 201, headers: { Location: '/Orders(7)' }, body: { n: 1 } }] }
     const run = new Run(ORDER)

@@ -13,12 +13,18 @@ const BATCH = String.raw`{"requests": [
 
 const REQUESTS = [
   {
-    id: 'a', method: 'POST', url: 'Orders', reference: null, rest: 'Orders', group: 'g',
+    id: 'a', method: 'POST', url: 'Orders', reference: null, rest: 'Orders', group: 'g', needs: [],
     headers: { 'content-type': 'application/json', 'x-b': '2' },
     body: Buffer.from('{"price": 9.990, "number": 12345678901234567890123, "name": "ü"}'),
   },
-  { id: 'b', method: 'GET', url: '$a/Lines?x=1', reference: 'a', rest: '/Lines?x=1', group: null, headers: {}, body: undefined },
-  { id: 'c', method: 'PATCH', url: '$%61#end', reference: 'a', rest: '#end', group: null, headers: {}, body: Buffer.from('[ 1.0,2 ]') },
+  {
+    id: 'b', method: 'GET', url: '$a/Lines?x=1', reference: 'a', rest: '/Lines?x=1', group: null, needs: ['g', 'a'], headers: {},
+    body: undefined,
+  },
+  {
+    id: 'c', method: 'PATCH', url: '$%61#end', reference: 'a', rest: '#end', group: null, needs: ['g', 'a'], headers: {},
+    body: Buffer.from('[ 1.0,2 ]'),
+  },
 ]
 
 test('requests: each part is as the batch has it', () => {

@@ -46,9 +46,9 @@ from .documents.encoding import Document, Events, Report, Start
 from .documents.requests import Request, requests
 from .driver.groups import MemberRefused, PreparedGroup
 from .driver.journal import Journal, JournalEvent, ReportUnit, StartUnit, Stop
-from .driver.tasks import TransactionAsync, perform_async
+from .driver.task_options import Gate, SendAsync, SendGroup, TransactionAsync
+from .driver.tasks import perform_async
 from .driver.threads import Send, Transaction, perform
-from .driver.unit_tasks import Gate, SendAsync, SendGroup
 from .errors.faults import Fault, OdbError, Refused
 from .http.messages import Answer, Answered, GroupFailed, PreparedRequest, Refusal
 from .run_parts import Part

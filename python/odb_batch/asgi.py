@@ -13,9 +13,10 @@ from typing import Any, Awaitable, Callable, Iterable, Mapping, MutableMapping, 
 from urllib.parse import quote, unquote
 
 from ._native.calls import policy_numbers
-from .driver.execution import require_limit
-from .driver.tasks import TransactionAsync, perform_async
-from .driver.waits import Places, uncancel, within
+from .driver.execution import either, require_limit
+from .driver.task_options import TransactionAsync
+from .driver.tasks import perform_async
+from .driver.unit_tasks import Places, uncancel, within
 from .errors.faults import Fault
 from .http.batch_request import BatchRequest, batch_folder
 from .http.budget import BodyBudget, memory_budget
@@ -131,7 +132,6 @@ class BatchMiddleware:
             batch = await within(_READ_SECONDS, self._read(receive, room))
         except asyncio.TimeoutError:
             raise Refusal(408, "CutBody", "The batch did not come in time") from None
-        stop = self.stop
         with _Client(receive) as client:
             response = await perform_async(
                 batch,
@@ -142,7 +142,7 @@ class BatchMiddleware:
                 base=outer.base,
                 roots=outer.roots,
                 limit=self.limit,
-                stop=client.has_gone if stop is None else lambda: client.has_gone() or (stop is not None and stop()),
+                stop=either(client.has_gone, self.stop),
                 timeout=self.timeout,
                 deadline=self.deadline,
                 gate=self._gate(),
@@ -187,13 +187,13 @@ def _asynchronous(transaction: TransactionAsync) -> TransactionAsync:
     if inspection.isgeneratorfunction(function) or (is_manager and not hasattr(function, "__aenter__")):
         raise ValueError(_BLOCKS)
 
-    def opened(group: str) -> Any:
+    def open_group(group: str) -> Any:
         manager = transaction(group)
         if not hasattr(manager, "__aenter__"):
             raise ValueError(_BLOCKS)
         return manager
 
-    return opened
+    return open_group
 
 
 class _Client:

@@ -152,7 +152,7 @@ def faults(batch: Document) -> tuple[Fault, ...]:
     return read_faults(document_bytes(batch))
 
 
-def _planned(line: str) -> PlannedRequest:
+def _read_planned(line: str) -> PlannedRequest:
     """The request of a line ``POS ID level L group G needs NAMES``."""
     position, request_id, _, level, _, group, _, needs = line.split(" ")
     return PlannedRequest(
@@ -171,7 +171,7 @@ def plan(batch: Document) -> Plan:
         Fault: The batch is refused.
         MemoryError: An allocation failed.
     """
-    return Plan(tuple(map(_planned, _text("plan", batch).decode().splitlines())))
+    return Plan(tuple(map(_read_planned, _text("plan", batch).decode().splitlines())))
 
 
 def canon(batch: Document) -> bytes:
@@ -262,7 +262,7 @@ def run(batch: Document, events: Events, *, mode: Mode = "continue", width: int 
     return _text("run", batch, events_bytes(events), options=policy_numbers(mode, width))[:-1]
 
 
-def _traced(lines: list[bytes]) -> Replay:
+def _read_replay(lines: list[bytes]) -> Replay:
     """The replay of the lines of a trace and its response."""
     steps: list[Union[Start, Report]] = []
     undone: list[str] = []
@@ -303,7 +303,7 @@ def replay(
         MemoryError: An allocation failed.
     """
     options = (*policy_numbers(mode, width), option_number(ORDERS, "order", order), int(bool(trace)))
-    return _traced(_text("replay", batch, outcomes, options=options)[:-1].split(b"\n"))
+    return _read_replay(_text("replay", batch, outcomes, options=options)[:-1].split(b"\n"))
 
 
 def output(

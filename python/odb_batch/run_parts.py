@@ -39,8 +39,9 @@ class RunParts:
         of their own. None of them was in a part before, and what they depend on is in this part or has succeeded.
 
         A group is whole. Dependencies on what has succeeded are left out, and ``$a`` in a URL is replaced by the Location
-        that was reported for ``a``. A run that is not finished has a part that is not reported, or gives one. Once a part is
-        answered, pass it to :meth:`take`; or start its units by `start_unit`, in the order of the batch, and report their requests.
+        that was reported for ``a``; the part ends before the first unit for which there is none. A run that is not finished has a
+        part that is not reported, or gives one, or raises F90. Once a part is answered, pass it to :meth:`take`; or start its units
+        by `start_unit`, in the order of the batch, and report their requests.
 
         >>> from odb_batch import Run
         >>> batch = {"requests": [{"id": "a", "method": "post", "url": "Orders"},
@@ -58,8 +59,8 @@ class RunParts:
             limit: How many requests the part may have, from 1 to 10,000.
 
         Raises:
-            Fault: The batch is refused, or by F90 a request of the part, at its position in the batch: it refers to one for which
-                no Location was reported that its URL may have.
+            Fault: The batch is refused, or by F90 a request of the first unit that may begin, at its position in the batch: it
+                refers to one for which no Location was reported that its URL may have. Start and report this unit, and ask again.
             ValueError: A group has more requests than the limit, it is another batch than that of the run, or the run is closed.
             MemoryError: An allocation failed.
         """
@@ -91,9 +92,7 @@ class RunParts:
         Args:
             part: What :meth:`part` returned.
             responses: The response document of the service. Each body is taken as its bytes.
-            mode: What an error does to the service. If it stops, a request without a response is answered 424; and in a group
-                without an error a 3xx becomes 424 if it depends on a member that is answered 424: that this one was undone does
-                not show.
+            mode: What an error does to the service. If it stops, a request without a response is answered 424.
 
         Raises:
             Fault: The responses do not fit the part, as for :func:`odb_batch.match`; or by F70 a response has a status below

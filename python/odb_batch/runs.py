@@ -8,7 +8,7 @@ from dataclasses import dataclass
 from typing import Any, Literal, Mapping, NoReturn, Optional, SupportsIndex, Union, get_args
 
 from ._native import library
-from ._native.calls import MAX_WIDTH, MORE, Mode, policy_numbers, read_fault, read_text, require_done, status_error
+from ._native.calls import MAX_WIDTH, Mode, policy_numbers, read_text, report_error, require_done
 from .documents.encoding import Document, Events, body_json, document_bytes, events_bytes, json_bytes
 from .documents.requests import Request, open_requests, requests
 from .errors.faults import Fault
@@ -92,7 +92,7 @@ class Run(RunParts):
         # The batch, or what is to be sent of its requests, once that was asked for.
         self._batch: Union[bytes, tuple[Request, ...]] = given
         self._lock = threading.Lock()
-        self._handle = library.Handle()
+        self._handle = ctypes.c_void_p()
         self._pointer = ctypes.byref(self._handle)
         self._open(given, happened, (*options, self._pointer))
         self._release, self._is_open = weakref.finalize(self, library.LIBRARY.odb_run_close, self._handle), True
@@ -298,7 +298,7 @@ class Run(RunParts):
         if isinstance(status, bool) or not isinstance(status, int):
             raise TypeError(f"a status is a whole number, not {status!r}")
         position = self._at[id]
-        heads, text = _headers_json(headers), body if type(body) is bytes else body_json(body)
+        heads, text = _headers_json(headers), b"" if body is None else body if type(body) is bytes else body_json(body)
         number = min(max(status, 0), _MAX_NUMBER)
         with self._lock:
             end = self._call("odb_run_report", position, number, heads, len(heads), text, len(text))
@@ -306,7 +306,7 @@ class Run(RunParts):
                 self._size += len(heads) + len(text)
                 return
         if end == library.REFUSED:
-            raise _report_error(heads, text)
+            raise report_error(heads, text)
         require_done("odb_run_report", end, id)
 
     def response(self) -> bytes:
@@ -391,12 +391,3 @@ def _headers_json(headers: Optional[Mapping[str, str]]) -> bytes:
         return json_bytes(given)
     texts = ",".join([f"{_encode(name)}:{_encode(value)}" for name, value in given.items()])
     return f"{{{texts}}}".encode("utf-8", "surrogatepass")
-
-
-def _report_error(headers: bytes, body: bytes) -> Exception:
-    """Why headers or a body are refused: the fault that the same report has as a recorded event."""
-    status, line = library.call("odb_report_fault", (headers, body), (), MORE)
-    if status != library.REFUSED:
-        return status_error("odb_report_fault", status)
-    fault = read_fault(line)
-    return Fault(fault.code, fault.name, "report")

@@ -154,7 +154,7 @@ class BatchMiddleware:
             (name[5:].replace("_", "-"), value) for name, value in environ.items() if name.startswith("HTTP_")
         )
         headers["content-type"] = environ.get("CONTENT_TYPE", "")
-        prefix = _decoded(environ.get("SCRIPT_NAME", ""))
+        prefix = _decode_path(environ.get("SCRIPT_NAME", ""))
         folder, root = prefix + self.folder, prefix + self.root
         scheme, host = environ.get("wsgi.url_scheme", "http"), headers.get("host") or _server_of(environ)
         outer = BatchRequest(environ["REQUEST_METHOD"], scheme, host, folder, root, headers, self.allowed, is_kept=False)
@@ -203,7 +203,7 @@ class _Inner:
     def __init__(self, middleware: BatchMiddleware, environ: _Environ, outer: BatchRequest, room: BodyBudget) -> None:
         self._middleware, self._headers, self._room = middleware, outer.headers, room
         self._observer = BatchObserver(outer.headers, middleware.inspect, middleware.on_request)
-        self._cut = len(_decoded(environ.get("SCRIPT_NAME", "")).encode())
+        self._cut = len(_decode_path(environ.get("SCRIPT_NAME", "")).encode())
         kept = {name: value for name, value in environ.items() if name not in _OF_OUTER and not name.startswith("HTTP_")}
         self._environ = {**kept, **_header_variables(outer.headers.inherited)}
         if middleware.width != 1:
@@ -286,7 +286,7 @@ def _header_variables(headers: Mapping[str, str]) -> _Environ:
     return {"HTTP_" + name.upper().replace("-", "_"): value for name, value in headers.items()}
 
 
-def _decoded(path: str) -> str:
+def _decode_path(path: str) -> str:
     """The text of a path, which WSGI has as bytes that are characters."""
     return path.encode("latin-1").decode("utf-8", "replace")
 

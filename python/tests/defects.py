@@ -27,7 +27,7 @@ DEFECTS = {
     "memory-until-the-end": ("http/budget", "self._room.give(self._size)", "pass", ROOMS, "takes_nothing"),
     "a-stop-before-the-place-alone": ("driver/execution", "self._ask_to_stop(self._stop)\n        # One", "pass\n        # One", PLACES, "waits_for_a_place"),
     "a-start-before-its-place": ("driver/execution", "self._left -= len(ids)\n            found", "self._left -= len(ids); self._journal and self._journal.write(Start(first))\n            found", PLACES, "has_not_started"),
-    "a-place-that-is-lost": ("driver/waits", "self.leave()  # the place", "pass  # the place", PLACES, "none_is_lost"),
+    "a-place-that-is-lost": ("driver/unit_tasks", "self.leave()  # the place", "pass  # the place", PLACES, "none_is_lost"),
     "a-disconnect-after-the-body": (
         "asgi", "await self._completed.wait()\n", "pass\n", WSGI_ASGI, "receive_blocks",
     ),
@@ -76,14 +76,14 @@ DEFECTS = {
     "what-depends-on-a-failure": (
         "client/_parts", "return Answer(answer.status, ", "return Answer(200, ", SENDING, "depends_on_a_failure",
     ),
-    "parts-of-any-length": ("client/_parts", "self._run.part(self._left, self._most)", "self._run.part(self._left, 10_000)", SENDING, "as_many"),
+    "parts-of-any-length": ("client/_parts", "self._run.part(self.document, self._most)", "self._run.part(self.document, 10_000)", SENDING, "as_many"),
     "longer-parts-as-they-are": ("client/_parts", "if len(self._part.ids) > self._limit:", "if False:", SENDING, "longer_parts"),
     "a-refusal-before-its-turn": (
-        "client/_parts", "itertools.dropwhile(lambda name: name not in refused, self._groups)", "self._groups", SENDING, "stand_for_nothing",
+        "client/_parts", "itertools.dropwhile(lambda name: name not in refused, ids)", "ids", SENDING, "etags_that_are_not_there",
     ),
-    "a-stop-that-goes-on": ("client/_parts", "document, ListedRun(document, mode=mode)", "document, ListedRun(document)", SENDING, "error_in_mode_stop"),
-    "what-comes-after-a-refusal": ("client/_parts", 'if self._mode == "stop":\n            self._settled', "if False:\n            self._settled", SENDING, "stand_for_nothing"),
-    "each-424-stops": ("client/_parts", "min(failed) if answer.status == 424 else answer.status", "answer.status", SENDING, "no_error_in_mode_stop"),
+    "a-stop-that-goes-on": ("client/_parts", "ListedRun(document, mode=mode)", "ListedRun(document)", SENDING, "error_in_mode_stop"),
+    "what-comes-after-a-refusal": ("client/_parts", 'bool(self._refused) and self._mode == "stop"', "False", SENDING, "etags_that_are_not_there"),
+    "each-error-goes-on": ("client/_parts", "self._groups), mode=self._mode)", "self._groups))", SENDING, "error_in_mode_stop"),
     "a-part-that-is-not-reported": ("client/_parts", "if not self._is_stopped:\n", "if False:\n", SENDING, "as_many"),
     "a-part-after-a-refusal": ("client/_parts", "self._is_stopped = True\n", "pass\n", SENDING, "answer_to_the_whole"),
     "responses-to-something-else": ("client/_parts", "match(self._part.document, text, mode=self._mode)", "pass", SENDING, "not_the_response"),

@@ -9,7 +9,8 @@ import pytest
 
 from odb_batch import Stop, perform, perform_async
 from odb_batch.driver import threads
-from odb_batch.driver.waits import Deadline, Places, Watch
+from odb_batch.driver.task_options import Deadline
+from odb_batch.driver.unit_tasks import Places, Watch
 from support.performing import Clock, Ledger, Memory, gets, shown
 
 # A defect has some of them wait for ever.

@@ -22,8 +22,8 @@ KINDS = {
     "odb_response *": ctypes.c_void_p,
     "odb_header *": ctypes.c_void_p,
     "odb_position *": ctypes.c_void_p,
-    "odb_live_run": library.Handle,
-    "odb_live_run *": ctypes.POINTER(library.Handle),
+    "odb_live_run": ctypes.c_void_p,
+    "odb_live_run *": ctypes.POINTER(ctypes.c_void_p),
     "void": None,
 }
 

@@ -13,7 +13,7 @@ NAME = "odb_batch"
 FOR_TYPES = {("journals._journal", "journals._journals")}
 # The layers: a folder or a module imports those of its own line and of earlier ones alone.
 LAYERS = [
-    {"_native.library"},
+    {"_native.library", "_native.constants"},
     {"values", "arguments", "documents.encoding", "errors"},
     {"_native"},
     {"documents"},

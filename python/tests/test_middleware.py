@@ -6,12 +6,14 @@ import base64
 import contextlib
 import json
 import threading
+import time
 from urllib.parse import unquote, urlsplit
 
 import pytest
 
 from odb_batch import Refusal, asgi, wsgi
 from odb_batch.http import batch_request as policy
+from odb_batch.http.messages import header_dict
 from support import urls
 from support.applications import CONTINUE, JSON, OverAsgi, OverWsgi, batch
 
@@ -76,6 +78,14 @@ class TestBatches:
         found = batch(service, *({"url": url} for url in urls), headers={**CONTINUE, **headers})
         assert [it["status"] for it in found.values()] == [200, 200, 200, 404, 404]
         assert {it["body"]["path"] for it in list(found.values())[:3]} == {"/odata/a"}
+
+    def test_no_more_hosts_count_than_there_are_proxies(self):
+        """Each URL of a batch is compared with all of them."""
+        many = [f"h{k}" for k in range(100_000)]
+        headers = {"content-type": "application/json", "x-forwarded-host": ",".join(many)}
+        headers["forwarded"] = ",".join(f"host=f{host}" for host in many)
+        roots = policy.BatchRequest("POST", "http", "host", "/", "/", headers).roots
+        assert (len(roots), roots[2], roots[-1]) == (2 * 33, "http://h0/", "https://fh15/")
 
     def test_a_batch_in_a_batch(self, over):
         service = over("/odata/batches", root="/")
@@ -257,6 +267,14 @@ class TestHeaders:
     def test_of_an_answer(self, service):
         headers = batch(service, {"url": "price"})["r0"]["headers"]
         assert headers == {"content-type": "application/json", "vary": "A, B"}
+
+    def test_of_one_name_many_are_joined_at_once(self):
+        """One after another would take the time of their number in square: here some minutes."""
+        lines = [("Cookie", "x" * 4_000), ("Vary", "A")] * 10_000
+        began = time.process_time()
+        found = header_dict([*lines, ("VARY", "B")])
+        assert time.process_time() - began < 5
+        assert found == {"cookie": "; ".join(["x" * 4_000] * 10_000), "vary": ", ".join(["A"] * 10_000 + ["B"])}
 
 
 class TestBodies:

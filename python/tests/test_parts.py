@@ -77,16 +77,6 @@ def test_a_batch_in_parts_is_answered_as_the_whole(take, drawn):
         assert statuses_of(run.response()) == wanted
 
 
-def lost(batch, statuses):
-    """What is neither a success nor an error and depends on a member of its group that was undone, which does not show."""
-    groups = {it["id"]: it.get("atomicityGroup") for it in batch["requests"]}
-    with_error = {groups[it] for it, status in statuses.items() if status >= 400 and status != 424}
-    for it in plan(batch):
-        undone = [need for need in it.needs if groups.get(need) == it.group and statuses.get(need) == 424]
-        if it.group is not None and it.group not in with_error and 300 <= statuses[it.id] < 400 and undone:
-            yield it.id
-
-
 @pytest.mark.parametrize("mode", ["continue", "stop"])
 @share(4)
 @given(scripted())
@@ -98,10 +88,7 @@ def test_a_run_has_the_answers_that_it_takes(mode, drawn):
             return
         answered = Scripted(script, mode=mode).post(part.document)[2]
         run.take(part, answered, mode=mode)
-        wanted = dict.fromkeys(part.ids, 424) | statuses_of(answered)
-        if mode == "stop":
-            wanted |= dict.fromkeys(lost(batch, wanted), 424)
-        assert run.finished and statuses_of(run.response()) == wanted
+        assert run.finished and statuses_of(run.response()) == dict.fromkeys(part.ids, 424) | statuses_of(answered)
 
 
 class TestParts(unittest.TestCase):
@@ -129,6 +116,26 @@ class TestParts(unittest.TestCase):
                 run.part(ORDER, 2)
             self.assertEqual((raised.exception.code, raised.exception.place), ("F90", "/requests/1"))
         self.assertRaisesRegex(ValueError, "closed", run.part, ORDER)
+
+    def test_a_part_ends_before_what_lacks_a_location(self):
+        batch = {
+            "requests": [
+                {"id": "o", "method": "post", "url": "Orders"},
+                {"id": "a", "method": "get", "url": "A"},
+                {"id": "l", "method": "post", "url": "$o/Lines", "dependsOn": ["o"]},
+                {"id": "b", "method": "get", "url": "B"},
+            ]
+        }
+        with Run(batch) as run:
+            run.start("o")
+            run.report("o", 201)
+            part = run.part(batch)
+            self.assertEqual(part.ids, ("a",))
+            run.take(part, {"responses": [{"id": "a", "status": 200}]})
+            self.assertRaisesRegex(Fault, "F90 NoLocation /requests/2", run.part, batch)
+            run.start_unit("l")
+            run.report("l", 424)
+            self.assertEqual(run.part(batch).ids, ("b",))
 
     def test_answers_that_are_refused(self):
         good = {"responses": [{"id": "o", "status": 201, "headers": {"Location": "/Orders(7)"}, "body": {"n": 1}}]}

@@ -40,7 +40,9 @@ class TestReferences:
         ("get", {}, {"Id": 7}, "http://h/odata/Copies"),
         ("put", {}, None, "http://h/odata/Copies"),
         ("post", {}, {"@id": 7}, None), ("post", {}, b"{", None), ("post", {}, None, None), ("post", {}, [], None),
-        ("post", {"Location": "http://[x"}, None, None),
+        ("post", {"Location": "http://[x"}, None, None), ("post", {"Location": "Copies\r(1)"}, None, None),
+        ("post", {"Location": "Copies\nHost: evil"}, None, None), ("post", {"Location": "Copies\0(1)"}, None, None),
+        pytest.param("post", {"Location": "x" * 1_000_000}, None, "http://h/odata/" + "x" * 1_000_000, id="a megabyte"),
     ])  # fmt: skip
     def test_stand_for_what_was_created_or_returned(self, driver, method, headers, body, wanted):
         urls = []

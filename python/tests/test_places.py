@@ -9,7 +9,7 @@ from concurrent.futures import ThreadPoolExecutor
 import pytest
 
 from odb_batch import PreparedGroup, Refusal, Report, Start, perform, perform_async
-from odb_batch.driver.waits import Places
+from odb_batch.driver.unit_tasks import Places
 from support.performing import Memory, gets, shown
 
 # A defect has some of them wait for ever.

@@ -17,8 +17,8 @@ BATCH = rb'''{"requests": [
 REQUESTS = (
     Request("a", "POST", "Orders", None, "Orders", {"content-type": "application/json", "x-b": "2"}, "g",
             rb'{"price": 9.990, "number": 12345678901234567890123, "name": "caf\u00e9"}'),
-    Request("b", "GET", "$a/Lines?x=1", "a", "/Lines?x=1", {}, None, None),
-    Request("c", "PATCH", "$%61#end", "a", "#end", {}, None, b"[ 1.0,2 ]"),
+    Request("b", "GET", "$a/Lines?x=1", "a", "/Lines?x=1", {}, None, None, ("g", "a")),
+    Request("c", "PATCH", "$%61#end", "a", "#end", {}, None, b"[ 1.0,2 ]", ("g", "a")),
     Request("d", "DELETE", "B%24('x')", None, "B%24('x')", {}, None, None),
     Request("e", "PUT", "aA", None, "aA", {"a": "ü\n"}, None, rb'"last \"\\"'),
 )

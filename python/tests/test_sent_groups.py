@@ -172,7 +172,7 @@ def test_a_transaction_excludes_what_goes_on_elsewhere(option):
 
 
 def test_a_group_that_is_built_by_hand():
-    group = PreparedGroup("g", (Request("a", "DELETE", "Books(1)", None, "", {}, "g", None),), {})
+    group = PreparedGroup("g", (Request("a", "DELETE", "Books(1)", None, "", {}, "g", None),))
     assert json.loads(group.batch()) == {
         "requests": [{"id": "a", "atomicityGroup": "g", "method": "delete", "url": "Books(1)"}]
     }

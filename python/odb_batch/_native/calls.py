@@ -6,16 +6,17 @@ from typing import Any, Literal, Optional, get_args
 from ..errors.faults import Fault, Position, Refused, explain
 from ..errors.findings import Findings
 from . import library
+from .constants import limit
 
 #: Whether a run goes on after an error; the position of a mode is its number.
 Mode = Literal["continue", "stop"]
 
 _MODES: tuple[str, ...] = get_args(Mode)
-MAX_WIDTH = 10_000
+MAX_WIDTH = limit("width")
 #: How much longer than its documents a text is thought to be; a longer one takes a second call.
 MORE = 256
 #: How many requests a batch may have.
-MAX_REQUESTS = 10_000
+MAX_REQUESTS = limit("requests")
 # The letters of the codes of causes, by the tens of their statuses: 11 is S1, and 21 is P1.
 _FIRST_CAUSES = {1: "S", 2: "P"}
 # How short a request or a response may be in a document.
@@ -87,6 +88,15 @@ def read_fault(line: bytes, *documents: bytes) -> Fault:
     return Fault(code, name, place).in_document(document, partial(_position, document, place))
 
 
+def report_error(headers: bytes, body: bytes) -> Exception:
+    """Returns why headers or a body are refused: the fault that the same report has as a recorded event."""
+    status, line = library.call("odb_report_fault", (headers, body), (), MORE)
+    if status != library.REFUSED:
+        return status_error("odb_report_fault", status)
+    fault = read_fault(line)
+    return Fault(fault.code, fault.name, "report")
+
+
 def likely_count(batch: bytes) -> int:
     """Returns a guess of how many requests a batch has, or faults if each has one; more take a second call."""
     return min(len(batch) // _SHORTEST + 1, MAX_REQUESTS)
@@ -103,9 +113,9 @@ def read_faults(batch: bytes) -> tuple[Fault, ...]:
 
 def _listed_fault(findings: Findings, text: str, numbers: tuple[int, ...]) -> Fault:
     """Returns the fault whose words lie there in a text of ASCII."""
-    code, code_length, name, name_length, place, place_length, line, column, offset = numbers
+    code, code_length, name, name_length, place, place_length, *position = numbers
     fault = Fault(text[code : code + code_length], text[name : name + name_length], text[place : place + place_length])
-    return fault.at(findings, Position(line, column, offset))
+    return fault.at(findings, Position(*position))
 
 
 def _position(document: bytes, place: str) -> Optional[Position]:

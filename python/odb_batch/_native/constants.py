@@ -1,6 +1,7 @@
-"""What the library says of itself: names of headers and ids that are treated apart."""
+"""What the library says of itself: limits, and names of headers and ids that are treated apart."""
 
 import json
+import sys
 from typing import Any
 
 from . import library
@@ -9,6 +10,12 @@ from . import library
 _LONG = 4096
 # Without a library, as for the help of a command, there is nothing.
 _CONSTANTS: Any = json.loads(library.call("odb_constants", (), (), _LONG)[1]) if library.MISSING is None else {}
+
+
+def limit(name: str) -> int:
+    """Returns a limit of the constants; without a library, a number above it."""
+    found: int = _CONSTANTS.get("limits", {}).get(name, sys.maxsize)
+    return found
 
 
 def listed_names(*path: str) -> tuple[str, ...]:

@@ -20,26 +20,20 @@ _LINE = 256
 # Where a part of a request starts that it does not have.
 NONE = 2 ** (8 * ctypes.sizeof(ctypes.c_size_t)) - 1
 
-# How many numbers an odb_request has: a start and a length for each of seven parts, and a position.
-_OF_REQUEST = 15
+# How many numbers an odb_request has: a start and a length for each of eight parts, and a position.
+_OF_REQUEST = 17
 
 # How many numbers an odb_response has: a start and a length for each of four parts, and a status.
 _OF_RESPONSE = 9
 
-# How many numbers an odb_position has: a line, a column and an offset.
-_OF_POSITION = 3
+# How many numbers an odb_position has: a line, a column, an offset and an end.
+_OF_POSITION = 4
 
 # How many numbers an odb_fault has: a start and a length for each of three words, and a position.
 _OF_FAULT = 6 + _OF_POSITION
 
 # The version that this package is made for; the library may have another patch.
 MAJOR, MINOR = 0, 2
-
-
-class Handle(ctypes.Structure):
-    """The handle of a run, which the library fills in."""
-
-    _fields_ = [("at", ctypes.c_void_p)]
 
 
 _BYTES: list[Any] = [ctypes.c_char_p, ctypes.c_size_t]
@@ -49,7 +43,7 @@ _TEXT = [ctypes.c_void_p, ctypes.c_size_t, _SIZE]
 _SEEDED = [*_TEXT, ctypes.c_uint64]
 _ITEMS = [ctypes.c_void_p, ctypes.c_size_t, _SIZE]
 _LIST = [*_ITEMS, ctypes.c_uint64]
-_RUN = [ctypes.POINTER(Handle)]
+_RUN = [ctypes.POINTER(ctypes.c_void_p)]
 _PLACE = ctypes.POINTER(ctypes.c_uint32)
 _POSITIONS = [ctypes.POINTER(ctypes.c_uint32), ctypes.c_size_t, _SIZE]
 
@@ -87,7 +81,7 @@ _PARAMETERS: dict[str, list[Any]] = {
     "odb_report_fault": [*_BYTES, *_BYTES, *_TEXT],
     "odb_run_finished": [*_RUN],
     "odb_run_response": [*_RUN, *_TEXT],
-    "odb_run_close": [Handle],
+    "odb_run_close": [ctypes.c_void_p],
 }
 
 
@@ -165,7 +159,7 @@ except ImportError as error:
 _SEED = secrets.randbits(64)
 
 
-def _sized(documents: tuple[bytes, ...]) -> list[Any]:
+def _with_sizes(documents: tuple[bytes, ...]) -> list[Any]:
     """The arguments for documents: each and its length."""
     return [part for document in documents for part in (document, len(document))]
 
@@ -179,7 +173,7 @@ def call(name: str, documents: tuple[bytes, ...], options: tuple[Any, ...], room
     """Calls a function that writes a text; returns its status and the text. `room` is a guess of how long that is."""
     function: Callable[..., int] = getattr(LIBRARY, name)
     length = ctypes.c_size_t()
-    sized, seed = _sized(documents), _seed(name)
+    sized, seed = _with_sizes(documents), _seed(name)
     while True:
         text = ctypes.create_string_buffer(room)
         status = function(*sized, *options, text, room, ctypes.byref(length), *seed)
@@ -200,7 +194,7 @@ def _call_list(
     function: Callable[..., int] = getattr(LIBRARY, name)
     length, count = ctypes.c_size_t(), ctypes.c_size_t()
     sizes = ctypes.byref(length), ctypes.byref(count)
-    sized, seed = _sized(documents), _seed(name)
+    sized, seed = _with_sizes(documents), _seed(name)
     while True:
         text, numbers = ctypes.create_string_buffer(room), (ctypes.c_size_t * (width * max(most, 1)))()
         status = function(*sized, *options, text, room, sizes[0], numbers, most, sizes[1], *seed)
@@ -250,7 +244,7 @@ def call_take(run: Any, part: bytes, responses: bytes, mode: int) -> tuple[int, 
 
 
 def call_where(document: bytes, place: bytes) -> tuple[int, list[int]]:
-    """The status of a call for the position of a place in a document, and the line, the column and the offset."""
+    """The status of a call for the position of a place in a document, and its numbers."""
     numbers = (ctypes.c_size_t * _OF_POSITION)()
     status = LIBRARY.odb_where(document, len(document), place, len(place), numbers)
     return status, list(numbers)

@@ -6,7 +6,7 @@ from typing import Any, Awaitable, Callable, Coroutine, Generator, Iterator, Map
 
 from .._native.calls import MAX_REQUESTS, Mode
 from ..commands import plan, rest
-from ..documents.encoding import Document, body_json, document_bytes
+from ..documents.encoding import Document, body_json
 from ..documents.requests import Request, requests
 from ..errors.faults import Fault
 from ..http.batches import responses_json
@@ -52,9 +52,9 @@ class Batch(Builder):
             Fault: The batch is refused.
             MemoryError: An allocation failed.
         """
-        batch, text = cls(), document_bytes(document)
-        for request, planned in zip(requests(text), plan(text)):
-            batch._append(request, planned.needs)
+        batch = cls()
+        for request in requests(document):
+            batch._append(request)
         return batch
 
     def send(self, post: Post, *, limit: int = MAX_REQUESTS, mode: Mode = "continue") -> "Results":
@@ -133,7 +133,7 @@ class Results(Mapping[str, Result]):
         reason: str = "",
     ) -> None:
         self._batch, self._document, self._rest, self.error, self.reason = batch, document, make_rest, error, reason
-        found = {request.id: request for request, _ in batch._requests}
+        found = {request.id: request for request in batch._requests}
         self._groups = {request_id: found[request_id].group for request_id in answers}
         self._found = {request_id: _result(found[request_id], answer) for request_id, answer in answers.items()}
 

@@ -72,7 +72,7 @@ class Builder:
     """What :class:`Batch` has to add requests."""
 
     def __init__(self) -> None:
-        self._requests: list[tuple[Request, tuple[str, ...]]] = []
+        self._requests: list[Request] = []
         # The group of each request, by its id, and of each group itself: what is taken as a name.
         self._names: MutableMapping[str, Optional[str]] = {}
         # The names of the batch of which this is the rest: a reference to it means the same in both.
@@ -140,7 +140,7 @@ class Builder:
         text = _body_text(body, given)
         needs = self._needs(after, url, given)
         group = None if self._group is None else self._group.id
-        self._append(Request(name, method.upper(), url, None, url, given, group, text), needs)
+        self._append(Request(name, method.upper(), url, None, url, given, group, text, needs))
         return Reference(name, self._origin)
 
     @contextlib.contextmanager
@@ -193,8 +193,8 @@ class Builder:
             raise TypeError(f"a URL and a value of a header are a str or a Reference, not {value!r}")
         return f"${self._name(value)}"
 
-    def _append(self, request: Request, needs: tuple[str, ...]) -> None:
-        self._requests.append((request, needs))
+    def _append(self, request: Request) -> None:
+        self._requests.append(request)
         self._names[request.id] = request.group
         if request.group is not None:
             self._names.setdefault(request.group, request.group)
@@ -218,7 +218,7 @@ class Builder:
 
     def document(self) -> bytes:
         """Returns the document of the batch."""
-        return batch_json([request_json(request, needs) for request, needs in self._requests])
+        return batch_json(map(request_json, self._requests))
 
     def check(self) -> Counts:
         """Checks the batch as :func:`odb_batch.check` does, and returns its counts.

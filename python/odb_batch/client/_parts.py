@@ -3,12 +3,12 @@
 import contextlib
 import itertools
 import math
-from collections import Counter
 from typing import Awaitable, Callable, Mapping, Optional
 
 from .._native.calls import MAX_REQUESTS, Mode, require_number
-from ..commands import match, rest
-from ..driver.groups import SKIPPED, MemberRefused
+from ..commands import match, plan, rest
+from ..documents.requests import requests
+from ..driver.groups import SKIPPED
 from ..driver.references import ReferenceResolver
 from ..errors.faults import Fault, Refused
 from ..http.batches import read_answers, replace_headers, responses_json
@@ -20,7 +20,7 @@ from ._transports import Posted, is_timeout, read_response, to_answer
 
 # The library reads a batch for each part of it. One with more requests is cut into longer parts first, each a batch of its own.
 _MANY = 1_000
-# What is recorded of a request that is not sent any more: neither it nor what depends on it is left then.
+# What is recorded of a request that is left out of a part: neither it nor what depends on it is left then.
 _SETTLED = Answer(400)
 
 
@@ -45,17 +45,20 @@ class Parts:
     def __init__(self, document: bytes, limit: int, mode: Mode) -> None:
         require_number("limit", limit, MAX_REQUESTS)
         self.document, self._limit, self._mode = document, limit, mode
-        # What is left of the batch since something could not be sent, and the run of that.
-        self._left, self._run = document, ListedRun(document, mode=mode)
+        self._run = ListedRun(document, mode=mode)
         self._groups = {request.id: request.group for request in self._run.requests}
-        for group, size in Counter(self._groups.values()).items():
-            if group is not None and size > limit:
-                raise ValueError(f"the group {group} has {size} requests, and a batch may have {limit}")
+        self._units: dict[str, list[str]] = {}
+        for name, group in self._groups.items():
+            self._units.setdefault(group or name, []).append(name)
+        for unit, ids in self._units.items():
+            if len(ids) > limit:
+                raise ValueError(f"the group {unit} has {len(ids)} requests, and a batch may have {limit}")
         self._resolver = ReferenceResolver(self._run.requests)
         self.answers: dict[str, Answer] = dict.fromkeys(self._groups, SKIPPED)
         self.error: Optional[Exception] = None
-        # The part that is out; the requests that are not sent any more, and whether what is left has some that never were.
-        self._part, self._settled, self._is_to_cut = Part(b"", ()), set[str](), False
+        # The part that is out, as the run gave it and as it is sent, and what those of its requests are answered that cannot be sent.
+        self._given = self._part = Part(b"", ())
+        self._refused: dict[str, Answer] = {}
         self._is_stopped = False
         count = len(self._groups)
         self._most = limit if count <= max(_MANY, 4 * limit) else math.isqrt(count * limit)
@@ -86,62 +89,55 @@ class Parts:
         """Makes the next part; returns whether there is one."""
         while not self._is_stopped:
             try:
-                if self._is_to_cut:
-                    self._cut()
-                part = self._run.part(self._left, self._most)
-                if part is None:
-                    break
-                # In one part the batch is sent as it is.
-                part = part if len(part.ids) < len(self.answers) else Part(self.document, part.ids)
-                self._part = Part(self._replace_tags(part), part.ids)
-                return True
+                part = self._run.part(self.document, self._most)
             except Fault as fault:
                 self._refuse_from(int(fault.place.rpartition("/")[2]))
-            except MemberRefused as refused:
-                self._refuse({refused.id: refused.answer})
+                continue
+            if part is None:
+                break
+            self._given = part
+            # In one part the batch is sent as it is.
+            self._part = part if len(part.ids) < len(self.answers) else Part(self.document, part.ids)
+            if self._replace_tags():
+                return True
+            self._settle({})
         return False
 
-    def _replace_tags(self, part: Part) -> bytes:
-        """Returns the document of a part with ETags in place of references to requests that it does not have; raises
-        MemberRefused if there is none."""
-        inside, headers = frozenset(part.ids), {}
-        for request_id in filter(self._resolver.tagged.__contains__, part.ids):
-            try:
-                headers[request_id] = self._resolver.headers(request_id, inside)
-            except Refusal as refusal:
-                raise MemberRefused(request_id, refusal.answer) from None
-        return replace_headers(part.document, headers) if headers else part.document
-
     def _refuse_from(self, position: int) -> None:
-        """Answers the request at a position of what is left, which refers to what has no URL that it may have; in mode continue
-        also all after it that refer to what has no URL at all."""
+        """Answers the unit of the request at a position, which refers to what has no URL that it may have; in mode continue also the
+        units after it that refer to what has no URL at all, and may begin."""
         first, *others = self._run.requests[position:]
         done = (name for name in self._resolver.referred if self.answers[name].is_success)
         lacking = {name for name in done if "location" not in self._recorded(name).headers}
         alike = [request for request in others if request.reference in lacking] if self._mode == "continue" else []
-        message = "%s was answered without a URL that %s may have"
-        self._refuse({
-            request.id: Refusal(424, "NoLocation", message % (request.reference, request.id), request.reference).answer
-            for request in (first, *alike)
-        })  # fmt: skip
+        for request in (first, *alike):
+            message = f"{request.reference} was answered without a URL that {request.id} may have"
+            with contextlib.suppress(Refused):
+                self._run.start_unit(request.id)
+                for name in self._units[request.group or request.id]:
+                    self.answers[name] = Refusal(424, "NoLocation", message, request.reference).answer
+                    self._run.report(name, 424)
 
-    def _refuse(self, refused: Mapping[str, Answer]) -> None:
-        """Answers requests that cannot be sent, and their groups. In mode stop nothing is sent that comes after them."""
-        units = {self._groups[request_id] or request_id: answer for request_id, answer in refused.items()}
-        found = {name: units[group or name] for name, group in self._groups.items() if (group or name) in units}
-        self.answers.update(found)
-        self._settled.update(found)
-        if self._mode == "stop":
-            self._settled.update(itertools.dropwhile(lambda name: name not in refused, self._groups))
-        self._is_to_cut = True
-
-    def _cut(self) -> None:
-        """Leaves out what is not sent any more, and what depends on that."""
-        answers = {request.id: self._recorded(request.id) for request in self._run.requests}
-        answers.update((name, _SETTLED) for name in self._settled & answers.keys() if not answers[name].is_success)
-        self._left = rest(self._left, responses_json(answers, self._groups))
-        self._run.close()
-        self._run, self._is_to_cut = ListedRun(self._left, mode=self._mode), False
+    def _replace_tags(self) -> bool:
+        """Puts ETags in place of references to requests that the part does not have, and leaves out of it what refers to one that is
+        not there; returns whether something of it is left."""
+        document, ids, self._refused = self._part.document, self._part.ids, {}
+        while True:
+            inside, headers, refused = frozenset(ids), {}, {}
+            for request_id in filter(self._resolver.tagged.__contains__, ids):
+                try:
+                    headers[request_id] = self._resolver.headers(request_id, inside)
+                except Refusal as refusal:
+                    refused.update(dict.fromkeys(self._units[self._groups[request_id] or request_id], refusal.answer))
+            if not refused:
+                break
+            self._refused.update(refused)
+            # In mode stop nothing is sent that comes after it.
+            over = {*(refused if self._mode == "continue" else itertools.dropwhile(lambda name: name not in refused, ids))}
+            document = rest(document, responses_json({name: _SETTLED if name in over else SKIPPED for name in ids}, self._groups))
+            ids = tuple(entry.id for entry in plan(document))
+        self._part = Part(replace_headers(requests(document), headers) if headers else document, self._part.ids)
+        return bool(ids)
 
     def _take(self, answered: Answered) -> None:
         """Takes what the part that is out was answered."""
@@ -171,30 +167,20 @@ class Parts:
         self._settle(dict.fromkeys(self._part.ids, answer))
 
     def _settle(self, found: Mapping[str, Answer]) -> None:
-        """Notes what the requests of the part that is out were answered, and reports it; one without an answer was skipped."""
-        self._settled.update(self._part.ids)
+        """Notes what the requests of the part that is out were answered, and has the run take it; one without an answer was skipped."""
         for request_id in self._part.ids:
-            answer = self.answers[request_id] = found.get(request_id, SKIPPED)
-            if answer.is_success and request_id in self._resolver.referred:
+            answer = self.answers[request_id] = self._refused[request_id] if request_id in self._refused else found.get(request_id, SKIPPED)
+            if request_id in self._resolver.referred and answer.is_success:
                 self._resolver.record(request_id, answer)
         if not self._is_stopped:
-            for _, unit in itertools.groupby(self._part.ids, lambda name: self._groups[name] or name):
-                self._report([*unit])
-
-    def _report(self, ids: list[str]) -> None:
-        """Reports what the requests of a unit were answered, unless it was skipped, since what it needs has failed."""
-        failed = [self.answers[request_id].status for request_id in ids if not self.answers[request_id].is_success]
-        with contextlib.suppress(Refused):
-            self._run.start_unit(ids[0])
-            for request_id in ids:
-                answer = self._recorded(request_id)
-                # A 424 beside a 3xx is no error: it is that of a member that was undone.
-                self._run.report(request_id, min(failed) if answer.status == 424 else answer.status, answer.headers)
+            recorded = {request_id: self._recorded(request_id) for request_id in self._part.ids}
+            self._run.take(self._given, responses_json(recorded, self._groups), mode=self._mode)
+        self._is_stopped |= bool(self._refused) and self._mode == "stop"
 
     def _recorded(self, request_id: str) -> Answer:
         """Returns the status that a request was answered, with the URL and the ETag of what others refer to as headers."""
         answer = self.answers[request_id]
-        is_referred = answer.is_success and request_id in self._resolver.referred
+        is_referred = request_id in self._resolver.referred and answer.is_success
         return Answer(answer.status, self._resolver.recorded(request_id) if is_referred else {})
 
     def responses(self) -> bytes:

@@ -29,14 +29,13 @@ def rest_document(batch: bytes, responses: bytes) -> bytes:
     """
     recorded = {response["id"]: response.get("headers", {}) for response in json.loads(responses)["responses"]}
     try:
-        document = commands.rest(batch, responses)
+        left = requests(commands.rest(batch, responses))
     except Fault as fault:
         if fault.code != "F90":
             raise
         raise ValueError(_describe_missing(requests(batch)[int(fault.place.rpartition("/")[2])], recorded)) from None
-    given = {request.id: request.headers for request in requests(document)}
-    headers = {name: _resolve_tags(name, of, given.keys(), recorded) for name, of in given.items()}
-    return replace_headers(document, headers)
+    given = {request.id: request.headers for request in left}
+    return replace_headers(left, {name: _resolve_tags(name, of, given.keys(), recorded) for name, of in given.items()})
 
 
 def _describe_missing(request: Request, recorded: _Recorded) -> str:

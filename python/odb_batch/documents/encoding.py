@@ -5,10 +5,11 @@ from dataclasses import dataclass
 from decimal import Decimal
 from typing import Any, Iterable, Mapping, Optional, Union
 
+from .._native.constants import limit
 from ..values import Value
 
 # How deep a document may nest.
-_MAX_LEVELS = 127
+_MAX_LEVELS = limit("document_levels")
 
 #: A document: bytes or a text of JSON, or a mapping that ``json`` can write; mappings in it may be of any kind, and
 #: numbers be Decimals.

@@ -25,6 +25,7 @@ class Request(Value):
         group: Its atomicity group, or None.
         body: The bytes of its body, just as they are in the document, whatever numbers they have; or None. A
             body that is ``null`` is none.
+        needs: The ids and groups that it depends on, as a :class:`Plan` has them.
     """
 
     id: str
@@ -35,11 +36,13 @@ class Request(Value):
     headers: dict[str, str]
     group: Optional[str]
     body: Optional[bytes]
+    needs: tuple[str, ...] = ()
 
 
 def _request(document: bytes, text: bytes, numbers: tuple[int, ...], parts: Sequence[tuple[int, ...]]) -> Request:
     """Returns the request whose parts lie there; its reference is the position of another one."""
-    at, length, method, of_method, url, of_url, rest, of_rest, headers, of_headers, group, of_group, body, of_body, to = numbers
+    (at, length, method, of_method, url, of_url, rest, of_rest, headers, of_headers, group, of_group, needs, of_needs, body, of_body,
+     to) = numbers  # fmt: skip
     other = (0, 0) if to == library.NONE else parts[to]
     return Request(
         text[at : at + length].decode(),
@@ -50,6 +53,7 @@ def _request(document: bytes, text: bytes, numbers: tuple[int, ...], parts: Sequ
         json.loads(text[headers : headers + of_headers]) if of_headers > len("{}") else {},
         None if group == library.NONE else text[group : group + of_group].decode(),
         None if body == library.NONE else document[body : body + of_body],
+        tuple(text[needs : needs + of_needs].decode().split(",")) if of_needs else (),
     )
 
 

@@ -4,8 +4,7 @@ from dataclasses import dataclass
 from typing import Callable, Generator, Optional, Sequence, Union
 
 from .._native.calls import MAX_WIDTH, Mode
-from .._native.constants import listed_names
-from ..commands import plan
+from .._native.constants import limit, listed_names
 from ..documents.encoding import Report, Start
 from ..documents.requests import Request
 from ..errors.faults import Fault, Refused
@@ -45,7 +44,7 @@ class Unit:
 # Headers of an answer that speak of its connection, or have no place in JSON: Set-Cookie may come several times.
 _NOT_SHOWN = frozenset(listed_names("headers", "not_shown"))
 # How many bytes of a body a live run takes.
-MAX_BODY_BYTES = 16_777_216
+MAX_BODY_BYTES = limit("document_bytes")
 TOO_LONG = Refusal(507, "TooLong", "The answer is too long for a batch").answer
 # The answer to what was out when a process ended, and is not sent again.
 LOST = Refusal(500, "Lost", "The gateway was ended: it is not known whether the request was performed").answer
@@ -100,7 +99,7 @@ class Execution:
         given = self._run.requests
         self._requests = {request.id: request for request in given}
         self.resolver, self._stop, self._journal = ReferenceResolver(given, base, roots), stop, journal
-        self._plan = plan(batch) if sends_groups and _has_groups(given) else None
+        self._sends_groups = sends_groups
         # Whether nothing more starts: since that was asked for, and in mode stop after an error.
         self._is_stopped, self._has_failed, self._mode = False, False, mode
         # How many requests are of units that have not begun.
@@ -142,7 +141,7 @@ class Execution:
             first = ids[0]
             group = self._requests[first].group
             try:
-                if group is None or self._plan is None:
+                if group is None or not self._sends_groups:
                     self._run.start(first)
                 else:
                     self._run.start_unit(first)
@@ -167,7 +166,7 @@ class Execution:
 
     def _is_one(self, unit: Unit) -> bool:
         """Whether a unit is a group that is sent as one."""
-        return unit.group is not None and self._plan is not None
+        return unit.group is not None and self._sends_groups
 
     def _drop(self, unit: Unit) -> None:
         unit.open = None
@@ -191,15 +190,13 @@ class Execution:
 
     def prepare_group(self, unit: Unit) -> PreparedGroup:
         """Returns a group as it is sent; raises MemberRefused if a request of it cannot be."""
-        assert self._plan is not None
-        members, needs, inside = [], {}, frozenset(unit.ids)
+        members, inside = [], frozenset(unit.ids)
         for request_id in unit.ids:
             try:
                 members.append(self.resolver.prepare_member(request_id, inside))
             except Refusal as refusal:
                 raise MemberRefused(request_id, refusal.answer) from None
-            needs[request_id] = tuple(name for name in self._plan.request(request_id).needs if name in inside)
-        return PreparedGroup(str(unit.group), tuple(members), needs)
+        return PreparedGroup(str(unit.group), tuple(members))
 
     def finish_group(self, unit: Unit, answered: Union[Sequence[Answered], BaseException]) -> None:
         """Reports all requests of a group that was sent as one, by what each is answered in order, or by the exception in
@@ -317,7 +314,8 @@ class Execution:
         self._has_failed = self._has_failed or (self._mode == "stop" and answer.status >= 400)
         headers = dict(answer.headers)
         if not _NOT_SHOWN.isdisjoint(headers):
-            headers = {name: value for name, value in headers.items() if name not in _NOT_SHOWN}
+            for name in _NOT_SHOWN.intersection(headers):
+                del headers[name]
         try:
             self._run.report(request_id, answer.status, headers or None, text)
         except Fault:
@@ -360,21 +358,26 @@ class Execution:
             raise RuntimeError("a request was started, and its answer could not be reported") from None
 
 
-def _has_groups(requests: Sequence[Request]) -> bool:
-    return any(request.group is not None for request in requests)
-
-
 def _open(batch: bytes, mode: Mode, width: int, limit: int, keeps_groups: bool) -> ListedRun:
     """Opens the run of a batch; raises Refusal if that has too many requests, or groups that cannot be kept."""
     run = ListedRun(batch, mode=mode, width=width)
     if len(run.requests) > limit:
         refusal = Refusal(413, "BatchTooLong", f"A batch may have {limit} requests")
-    elif not keeps_groups and _has_groups(run.requests):
+    elif not keeps_groups and any(request.group is not None for request in run.requests):
         refusal = Refusal(501, "NoGroups", "Atomicity groups are not supported here")
     else:
         return run
     run.close()
     raise refusal
+
+
+def either(first: Optional[Callable[[], bool]], second: Optional[Callable[[], bool]]) -> Optional[Callable[[], bool]]:
+    """Returns a function that says whether one of two conditions holds, as that to stop; None never does."""
+    found = [condition for condition in (first, second) if condition is not None]
+    if len(found) < 2:
+        return found[0] if found else None
+    one, other = found
+    return lambda: one() or other()
 
 
 def require_limit(limit: int) -> None:

@@ -2,7 +2,6 @@
 
 import json
 from dataclasses import dataclass, replace
-from typing import Mapping
 
 from ..documents.requests import Request
 from ..documents.responses import responses
@@ -35,7 +34,7 @@ class PreparedGroup(Value):
 
     >>> from odb_batch import PreparedGroup, Request
     >>> order = Request("a", "POST", "/v2/Orders", None, "/v2/Orders", {}, "g", b'{"price": 9.990}')
-    >>> group = PreparedGroup("g", (order,), {})
+    >>> group = PreparedGroup("g", (order,))
     >>> group.batch()
     b'{"requests":[{"id":"a","atomicityGroup":"g","method":"post","url":"/v2/Orders","body":{"price": 9.990}}]}'
     >>> group.answers((200, {}, b'{"responses": [{"id": "a", "status": 201, "body": {"price": 9.990}}]}'))
@@ -45,18 +44,16 @@ class PreparedGroup(Value):
         name: The name of the group.
         requests: Its requests in order. The URL of one that refers to another one of the group is as in the document;
             any other is joined to the base and in ASCII, with the URL of the other resource in place of a reference.
-        needs: The ids of the group that a request depends on, by its id.
+            What a request depends on are others of the group.
     """
 
     name: str
     requests: tuple[Request, ...]
-    needs: Mapping[str, tuple[str, ...]]
 
     def batch(self) -> bytes:
         """Returns the batch of the group (OData JSON Format 4.01, section 19.1). Bodies are the bytes of the
         document."""
-        members = (replace(request, group=self.name) for request in self.requests)
-        return batch_json([request_json(member, self.needs.get(member.id, ())) for member in members])
+        return batch_json([request_json(replace(request, group=self.name)) for request in self.requests])
 
     def answers(self, answered: Answered) -> list[Answer]:
         """Returns what each request is answered, in order, by what the service has answered to the batch of the group.

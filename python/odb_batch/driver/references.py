@@ -76,13 +76,14 @@ class ReferenceResolver:
 
     def prepare_member(self, request_id: str, group: Collection[str]) -> Request:
         """Returns a request of a group that is sent as one, with the references to requests that are not in the group
-        replaced; raises Refusal as `prepare` does."""
+        replaced, and without dependencies on them; raises Refusal as `prepare` does."""
         given, headers = self._requests[request_id], self.headers(request_id, group)
+        needs = tuple(filter(group.__contains__, given.needs))
         if given.reference in group:
             self._targets.require_below(given.rest)
-            return replace(given, headers=headers)
+            return replace(given, headers=headers, needs=needs)
         url = self.url(request_id)
-        return replace(given, url=url, reference=None, rest=url, headers=headers)
+        return replace(given, url=url, reference=None, rest=url, headers=headers, needs=needs)
 
     def headers(self, request_id: str, kept: Collection[str] = ()) -> dict[str, str]:
         """Returns the headers of a request with ETags in place of references, but for those to requests that are kept;
@@ -162,14 +163,14 @@ def etag_of(answer: Answer) -> Optional[str]:
 
 def location_of(answer: Answer) -> tuple[Optional[str], Optional[str]]:
     """Returns the URL of what a request has created or returned, from the headers or the body, and that to which it is
-    relative, if that is not the URL of the request (OData JSON Format 4.01, section 4.6.1)."""
+    relative, if that is not the URL of the request (OData JSON Format 4.01, section 4.6.1). An empty one is none."""
     for name in ("location", "odata-entityid"):
-        if name in answer.headers:
+        if answer.headers.get(name):
             return answer.headers[name], None
     entity = body_members(answer)
     return _first(entity, ("@id", "@odata.id")), _first(entity, ("@context", "@odata.context"))
 
 
 def _first(entity: dict[str, Any], names: tuple[str, ...]) -> Optional[str]:
-    """The first of these members that is a string."""
-    return next((value for value in map(entity.get, names) if isinstance(value, str)), None)
+    """The first of these members that is a string, and not empty."""
+    return next((value for value in map(entity.get, names) if isinstance(value, str) and value), None)

@@ -110,7 +110,9 @@ class AnyTargets:
         """Returns where a request is sent that refers to another."""
         for url in (context, place):
             sent = sent if url is None else _join(sent, url)
-        return _encode(re.split("[?#]", sent, maxsplit=1)[0].rstrip("/") + rest)
+        path = re.split("[?#]", sent, maxsplit=1)[0]
+        # An empty URL is the folder that URLs are relative to, and an empty Location is none.
+        return _encode(path.rstrip("/") + rest or path or ".")
 
     def require_below(self, rest: str) -> None:
         """Does nothing: nothing is outside."""

@@ -3,17 +3,14 @@
 import asyncio
 import contextlib
 import functools
-from typing import Any, AsyncContextManager, AsyncIterator, Callable, ContextManager, Optional, Sequence, Union
+from typing import Any, AsyncContextManager, AsyncIterator, Callable, Optional, Sequence, Union
 
 from .._native.calls import Mode
 from ..documents.encoding import Document, document_bytes
-from .execution import Execution
+from .execution import Execution, either
 from .journal import Journal
-from .unit_tasks import Gate, SendAsync, SendGroup, UnitOptions, perform_units
-from .waits import Deadline
-
-#: Opens the transaction of a group, by its name; see :data:`odb_batch.Transaction`.
-TransactionAsync = Callable[[str], Union[AsyncContextManager[Any], ContextManager[Any]]]
+from .task_options import Deadline, Gate, SendAsync, SendGroup, TransactionAsync, UnitOptions
+from .unit_tasks import perform_units
 
 # A document with more bytes is read in a thread, so that the loop goes on meanwhile.
 _LONG = 65_536
@@ -103,7 +100,7 @@ async def perform_async(
         has_transactions=transaction is not None,
         base=base,
         roots=roots,
-        stop=stop if deadline is None else lambda: ends.is_over or (stop is not None and stop()),
+        stop=either(None if deadline is None else lambda: ends.is_over, stop),
         sends_groups=groups is not None,
         journal=journal,
     )

@@ -10,7 +10,7 @@ from typing import Any, Callable, ContextManager, Optional, Sequence, Union
 from .._native.calls import Mode
 from ..documents.encoding import Document, document_bytes
 from ..http.messages import Answer, Answered, PreparedRequest, validate_answer
-from .execution import Execution, Unit
+from .execution import Execution, Unit, either
 
 #: Sends a request, and returns what it is answered.
 Send = Callable[[PreparedRequest], Answered]
@@ -84,6 +84,7 @@ def perform(
         ValueError: An option has a value that it may not have.
         MemoryError: An allocation failed.
     """
+    end = monotonic() + (deadline or 0.0)
     execution = Execution(
         document_bytes(batch),
         mode=mode,
@@ -92,7 +93,7 @@ def perform(
         has_transactions=transaction is not None,
         base=base,
         roots=roots,
-        stop=stop if deadline is None else _stop_at(deadline, stop),
+        stop=either(None if deadline is None else lambda: monotonic() >= end, stop),
     )
     with contextlib.closing(execution):
         if width == 1:
@@ -104,12 +105,6 @@ def perform(
             with ThreadPoolExecutor(width, "batch") as own:
                 _perform_in(own, execution, width, send, transaction)
         return execution.response()
-
-
-def _stop_at(seconds: float, stop: Optional[Callable[[], bool]]) -> Callable[[], bool]:
-    """Returns a function that says whether a deadline has passed, or a batch is to be stopped."""
-    at = monotonic() + seconds
-    return lambda: monotonic() >= at or (stop is not None and stop())
 
 
 def _perform_in(pool: Executor, execution: Execution, width: int, send: Send, transaction: Optional[Transaction]) -> None:

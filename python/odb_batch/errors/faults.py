@@ -28,11 +28,12 @@ def explain(code: str) -> Explanation:
 
 
 class Position(NamedTuple):
-    """Where an element begins in a document, as an odb_position has it."""
+    """Where an element begins and ends in a document, as an odb_position has it."""
 
     line: int
     column: int
     offset: int
+    end: int
 
 
 class OdbError(Exception):
@@ -40,25 +41,25 @@ class OdbError(Exception):
 
     A wrong option and a closed run are a plain ValueError, not of this class.
 
-    Attributes:
-        code: The code of the fault or the cause, as ``F41``, ``S4`` or ``P2``.
-        name: Its name, as ``ForwardName``.
-        explanation: What it means, and how it is repaired.
+    It is made of the code, the name, and the place or the id: thousands of faults are listed, so it has no `__init__`.
     """
 
-    code: str
-    name: str
+    @property
+    def code(self) -> str:
+        """The code of the fault or the cause, as ``F41``, ``S4`` or ``P2``."""
+        return str(self.args[0])
 
-    def __init__(self, code: str, name: str, where: str) -> None:
-        super().__init__(code, name, where)
-        self.code = code
-        self.name = name
+    @property
+    def name(self) -> str:
+        """Its name, as ``ForwardName``."""
+        return str(self.args[1])
 
     def __str__(self) -> str:
         return " ".join(map(str, self.args))
 
     @property
     def explanation(self) -> str:
+        """What it means, and how it is repaired."""
         return explain(self.code).meaning
 
 
@@ -66,17 +67,12 @@ class Fault(OdbError, ValueError):
     """A document is refused: by its first fault, or by one of all that :func:`faults` returns.
 
     Its text is the code, the name and the place, as ``F41 ForwardName /requests/0``. Where that begins in the document, as
-    ``line``, ``column`` and ``offset`` say, :func:`faults` finds for all faults at once; of a fault that is raised it is looked
-    up when one of them is asked for. A fault keeps its document for that.
+    ``line``, ``column`` and ``offset`` say, and where it ends, :func:`faults` finds for all faults at once; of a fault that is
+    raised it is looked up when one of them is asked for. A fault keeps its document for that.
     In a document that is not JSON (F02) they are those of the first byte that cannot be there, or of the end. Of a mapping
     they are those in the JSON that ``json`` writes of it. They are None for a fault that a live run has found.
-
-    Attributes:
-        place: The document, as ``batch``, or its element, as ``/requests/0``, counted from 0; ``report``
-            for the headers or the body of a report of a live run.
     """
 
-    place: str
     # What its document says for people; the faults of a document share it.
     _findings: Optional[Findings] = None
     # Where it is, or until that is asked for what looks it up.
@@ -85,9 +81,11 @@ class Fault(OdbError, ValueError):
     # Whether its text is for who has not written the document: the message in place of the name and the place.
     _is_of_builder = False
 
-    def __init__(self, code: str, name: str, place: str) -> None:
-        super().__init__(code, name, place)
-        self.place = place
+    @property
+    def place(self) -> str:
+        """The document, as ``batch``, or its element, as ``/requests/0``, counted from 0; ``report`` for the headers or the body of a
+        report of a live run."""
+        return str(self.args[2])
 
     def in_document(self, document: bytes, locate: Callable[[], Optional[Position]]) -> "Fault":
         """Notes the document that has the fault, and what looks up where; returns the fault itself."""
@@ -147,19 +145,21 @@ class Fault(OdbError, ValueError):
         position = self._position()
         return position and position.offset
 
+    @property
+    def end(self) -> Optional[int]:
+        """How many bytes of the document come before the end of the element."""
+        position = self._position()
+        return position and position.end
+
 
 class Refused(OdbError):
     """A start or a report of a live run is refused, and nothing has changed.
 
     Its text is the code, the name and the id, as ``S4 Waiting list``. The code is that of the first cause, S1 to S5 of
     a start, P1 or P2 of a report.
-
-    Attributes:
-        id: The id of the request.
     """
 
-    id: str
-
-    def __init__(self, code: str, name: str, id: str) -> None:
-        super().__init__(code, name, id)
-        self.id = id
+    @property
+    def id(self) -> str:
+        """The id of the request."""
+        return str(self.args[2])

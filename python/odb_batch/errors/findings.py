@@ -58,7 +58,7 @@ def _find_wrong(code: str, batch: "_Names", at: int) -> str:
         name = next(name for name in request if name not in _MEMBERS | {"if"} and "@" not in name)
         return f"the member {_quote(name)} is unknown"
     if code == "F19":
-        return f"the header {_quote(_repeated(request['headers']))} comes twice"
+        return f"the header {_quote(_first_repeated(request['headers']))} comes twice"
     if code == "F32":
         return f"the group {_quote(request['atomicityGroup'])} has been left before"
     return {"F30": "an earlier request has this id", "F31": "a group has this name, too"}.get(code, "")
@@ -101,7 +101,7 @@ def _reference(url: str) -> str:
     return unquote(url.partition("/")[0].partition("?")[0].partition("#")[0])[1:]
 
 
-def _repeated(names: Iterable[str]) -> str:
+def _first_repeated(names: Iterable[str]) -> str:
     seen = set()
     for name in names:
         if name.lower() in seen:

@@ -9,6 +9,7 @@ from typing import AsyncContextManager, AsyncIterator, Awaitable, Optional, cast
 
 from aiohttp import web
 
+from ..driver.execution import either
 from ..errors.faults import Fault
 from ..http.batch_request import BatchRequest, batch_folder, forwarded_hosts
 from ..http.budget import BodyBudget, MemoryBudget
@@ -94,7 +95,7 @@ class Gateway:
     async def stop(self, hurry: asyncio.Event) -> None:
         """Starts nothing more, and returns once all batches are answered. What runs is waited for until the option
         --grace, or until there is a hurry, and then broken off."""
-        self._upstream.is_stopping = True
+        self._upstream.stopping.set()
         self._log_event("stopping")
         await wait_for_first(self._wait_until_idle(), hurry.wait(), timeout=self._options.grace)
         await self._upstream.break_off()
@@ -128,7 +129,7 @@ class Gateway:
 
     async def _handle_readiness(self, _: web.Request) -> web.Response:
         is_cut = self._journals is not None and not self._journals.is_ready
-        trouble = "stopping" if self._upstream.is_stopping else "the journal cannot be reached" if is_cut else ""
+        trouble = "stopping" if self._upstream.stopping.is_set() else "the journal cannot be reached" if is_cut else ""
         return web.Response(text=f"{trouble or 'ok'}\n", status=503 if trouble else 200)
 
     async def _handle_metrics(self, _: web.Request) -> web.Response:
@@ -229,15 +230,17 @@ class Gateway:
                 first = identity(batch=digest(document), mode=batch.mode, **parts)
                 opening = self._journals.journal(name, first, budget.hold)
                 return await self._continue(digest(name), opening, document, batch)
-            upstream, client = self._upstream, request.protocol
-            return await batch.perform(document, None, lambda: upstream.is_stopping or client.transport is None)
+            if request.transport is None:
+                raise Refusal(400, "CutBody", "The client has hung up")
+            stop = either(self._upstream.stopping.is_set, request.transport.is_closing)
+            return await batch.perform(document, None, stop)
         finally:
             self._counts.batches_running -= 1
             if self._ended is not None:
                 self._ended.set()
 
     def _require_running(self) -> None:
-        if self._upstream.is_stopping:
+        if self._upstream.stopping.is_set():
             raise Refusal(503, "Stopping", "The gateway stops", retry_after="1")
 
     async def _continue(
@@ -248,7 +251,7 @@ class Gateway:
         try:
             async with opening as journal:
                 batch.is_repeated = bool(journal.events)
-                answer = await batch.perform(document, journal, lambda: self._upstream.is_stopping)
+                answer = await batch.perform(document, journal, self._upstream.stopping.is_set)
             return replace(answer, headers={**answer.headers, "repeatability-result": "accepted"})
         except Fault:
             raise

@@ -47,7 +47,7 @@ class GatewayBatch:
         self.mode = batch_request.mode
         self.is_repeated = False
 
-    async def perform(self, batch: bytes, journal: Optional[StoreJournal], stop: Callable[[], bool]) -> Answer:
+    async def perform(self, batch: bytes, journal: Optional[StoreJournal], stop: Optional[Callable[[], bool]]) -> Answer:
         """Returns the answer to the batch; raises as `perform_async` does.
 
         Args:

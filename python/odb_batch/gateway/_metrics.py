@@ -3,7 +3,7 @@
 import os
 from typing import Any, Callable, Iterator
 
-from ..driver.waits import Places
+from ..driver.unit_tasks import Places
 from ..http.budget import MemoryBudget
 from ..journals import Journals
 from ._options import Options

@@ -5,7 +5,6 @@ import sys
 from dataclasses import dataclass, field, fields
 from typing import Any, Callable, Optional, Sequence, Union
 
-from ..driver.execution import MAX_BODY_BYTES
 from ..http.budget import DEFAULT_MEMORY
 from ..http.observation import OnRequest
 from . import _values as values
@@ -51,7 +50,7 @@ class Options:
     connections: int = _option(100, "N", values.number, "requests of all batches at once to one service; others wait")
     keep_alive: float = _option(1, "S", values.seconds, "seconds to keep a connection, fewer than services do")
     limit: int = _option(1_000, "N", values.number, "requests in a batch, else 413")
-    max_size: int = _option(MAX_BODY_BYTES, "BYTES", values.size, "of a batch, else 413, and of its answers together")
+    max_size: int = _option(16_777_216, "BYTES", values.size, "of a batch, else 413, and of its answers together")
     memory: int = _option(DEFAULT_MEMORY, "BYTES", values.number, "of all batches and their answers, else 503")
     journal: str = _option("", "PLACE", str, "a folder or postgresql://.. for batches with a Repeatability-Request-ID")
     journal_size: int = _option(16_384, "MB", values.number, "megabytes of the journals in a folder, else 503")

@@ -7,7 +7,7 @@ from typing import Any, AsyncContextManager, Iterable, Mapping, Optional, Union
 from urllib.parse import SplitResult, urljoin, urlsplit, urlunsplit
 
 from ..driver.groups import PreparedGroup
-from ..driver.waits import Places
+from ..driver.unit_tasks import Places
 from ..http.batch_request import batch_folder
 from ..http.messages import Answer, PreparedRequest, Refusal
 

@@ -3,6 +3,7 @@
 import asyncio
 import logging
 import ssl
+import threading
 import time
 from contextvars import ContextVar
 from typing import Any, Collection, Mapping, Optional
@@ -11,7 +12,7 @@ from urllib.parse import urlsplit
 import aiohttp
 from yarl import URL
 
-from ..driver.waits import Places
+from ..driver.unit_tasks import Places
 from ..http.batch_request import HeaderPolicy
 from ..http.budget import BodyBudget
 from ..http.messages import TIMED_OUT, Answer, PreparedRequest, Refusal, header_dict
@@ -98,7 +99,7 @@ class UpstreamClient:
         failures: Logs why services have not answered.
         places: What bounds how many requests are on their way to the service of a route, by its prefix: each has a place
             before it is sent, and is 503 ``Busy`` after the time-out of waiting.
-        is_stopping: Whether no further request is sent.
+        stopping: Is set once no further request is sent.
     """
 
     def __init__(self, options: Options, counts: Counts) -> None:
@@ -112,7 +113,7 @@ class UpstreamClient:
                 lines[route.line] = _ServicePlaces(route.origin, count, seconds, self)
                 counts.watch_queue(route.line, lines[route.line])
         self.places = {route.prefix: lines[route.line] for route in options.routes}
-        self.is_stopping = self._is_broken_off = False
+        self.stopping, self._is_broken_off = threading.Event(), False
 
     async def open(self) -> None:
         """Makes what belongs to the running loop; raises OSError if the files of a route, or this aiohttp, cannot be used."""
@@ -156,7 +157,7 @@ class UpstreamClient:
                 no answer: 504 ``Timeout`` or ``Stopped``, or 502 ``BadGateway``. It cannot be shown: 502 ``Encoded``,
                 or 507 ``TooLong`` for a GET.
         """
-        if self.is_stopping:
+        if self.stopping.is_set():
             raise Refusal(503, "Stopping", "The gateway stops, and has not sent the request", retry_after="1")
         journal = None if request.method == "GET" else journal
         try:

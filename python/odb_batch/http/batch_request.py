@@ -14,6 +14,8 @@ from .bodies import media_type
 from .messages import LOG, Refusal, rejection
 
 _FORWARDED = re.compile(r'host="?([^";,\s]+)', re.IGNORECASE)
+# How many hosts of a header count. There are as many as proxies; a client may send thousands, and each URL is compared with all.
+_MAX_HOSTS = 16
 # What stays as it is in a path.
 _PLAIN = "/$()'*,;=@:!&+~"
 _IS_HOST = re.compile(r"[A-Za-z0-9._~-]*|\[[0-9A-Fa-f:.]+\]").fullmatch
@@ -98,7 +100,8 @@ class BatchRequest:
 
 def forwarded_hosts(headers: Mapping[str, str]) -> list[str]:
     """Returns the hosts that a client has asked, by what proxies say."""
-    named = headers.get("x-forwarded-host", "").split(",") + _FORWARDED.findall(headers.get("forwarded", ""))
+    named = headers.get("x-forwarded-host", "").split(",")[:_MAX_HOSTS]
+    named += _FORWARDED.findall(headers.get("forwarded", ""))[:_MAX_HOSTS]
     return [host for host in map(str.strip, named) if host and _is_authority(host)]
 
 

@@ -4,11 +4,10 @@ import contextlib
 import json
 import re
 from dataclasses import replace
-from typing import Any, Iterable, Mapping, Optional, Sequence
+from typing import Any, Iterable, Mapping, Optional
 
-from ..commands import plan
 from ..documents.encoding import json_bytes
-from ..documents.requests import Request, requests
+from ..documents.requests import Request
 from ..documents.responses import responses
 from .bodies import is_json, media_type, to_wire
 from .messages import Answer, Refusal, header_dict
@@ -18,18 +17,13 @@ _ENCODER = json.JSONEncoder(ensure_ascii=False, separators=(",", ":"))
 _BASE64 = re.compile(r"[A-Za-z0-9_+/-]*={0,2}").fullmatch
 
 
-def request_json(request: Request, needs: Sequence[str]) -> bytes:
-    """Returns the text of a request in a batch. Its body is the bytes that it has.
-
-    Args:
-        request: The request.
-        needs: The ids and groups that it depends on.
-    """
+def request_json(request: Request) -> bytes:
+    """Returns the text of a request in a batch. Its body is the bytes that it has."""
     members: dict[str, Any] = {"id": request.id}
     if request.group is not None:
         members["atomicityGroup"] = request.group
-    if needs:
-        members["dependsOn"] = list(needs)
+    if request.needs:
+        members["dependsOn"] = list(request.needs)
     members.update(method=request.method.lower(), url=request.url)
     if request.headers:
         members["headers"] = request.headers
@@ -42,11 +36,9 @@ def batch_json(elements: Iterable[bytes]) -> bytes:
     return b'{"requests":[%s]}' % b",".join(elements)
 
 
-def replace_headers(document: bytes, headers: Mapping[str, dict[str, str]]) -> bytes:
-    """Returns a batch in which the requests with these ids have other headers."""
-    needs = (entry.needs for entry in plan(document))
-    found = (replace(request, headers=headers.get(request.id, request.headers)) for request in requests(document))
-    return batch_json(map(request_json, found, needs))
+def replace_headers(given: Iterable[Request], headers: Mapping[str, dict[str, str]]) -> bytes:
+    """Returns the text of the batch with these requests, of which those with these ids have other headers."""
+    return batch_json(request_json(replace(request, headers=headers.get(request.id, request.headers))) for request in given)
 
 
 def responses_json(answers: Mapping[str, Answer], groups: Mapping[str, Optional[str]]) -> bytes:

@@ -106,14 +106,21 @@ def header_dict(pairs: Iterable[tuple[str, str]]) -> dict[str, str]:
         TypeError: A name or a value is not a string.
     """
     found: dict[str, str] = {}
+    # The values of those that come several times: joined at the end, since many of one name may come.
+    several: Optional[dict[str, list[str]]] = None
     for name, value in pairs:
         if not isinstance(name, str) or not isinstance(value, str):
             raise TypeError(f"a header has a name and a value, which are strings, not {name!r} and {value!r}")
         # As the library folds names: in ASCII alone.
         name = name.lower() if name.isascii() else name
         if name in found:
-            value = f"{found[name]}{'; ' if name == 'cookie' else ', '}{value}"
-        found[name] = value
+            several = several or {}
+            several.setdefault(name, [found[name]]).append(value)
+        else:
+            found[name] = value
+    if several is not None:
+        for name, values in several.items():
+            found[name] = ("; " if name == "cookie" else ", ").join(values)
     return found
 
 

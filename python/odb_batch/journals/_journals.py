@@ -11,8 +11,9 @@ from ._encoding import PIECE, digest
 from ._journal import StoreJournal, in_progress
 from ._stores import Hold, Part, Store, clock
 
-# After so many bytes, or with so many parts, no further part is appended at once.
-_MOST_BYTES, _MOST_PARTS = 1_048_576, 256
+# After so many bytes, or with so many parts, no further part is appended at once. A statement of SQLite before 3.32 takes 999
+# values, and a part has eight.
+_MOST_BYTES, _MOST_PARTS = 1_048_576, 120
 # What has more bytes keeps no others waiting: it goes beside them.
 _LONG = 65_536
 # How often a lease is renewed in its time.

@@ -196,7 +196,7 @@ class _Connection:
         connection = self._connection
         timer = asyncio.get_running_loop().call_later(seconds, self.drop)
         fetch = asyncio.ensure_future(connection.fetch(words, *given))
-        fetch.add_done_callback(lambda it: it.cancelled() or it.exception())  # also where nobody waits for it any more
+        fetch.add_done_callback(lambda query: query.cancelled() or query.exception())  # also where nobody waits for it any more
         try:
             rows: list[Any] = await asyncio.shield(fetch)
         finally:

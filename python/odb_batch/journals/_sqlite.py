@@ -21,7 +21,8 @@ from ._stores import Lease
 MOST_BYTES = 17_179_869_184
 _FORM = 2
 _PRAGMAS = "journal_mode = WAL", "synchronous = FULL", "journal_size_limit = 67108864"
-_APPEND = APPEND.format(given="VALUES (?, ?, ?, ?, ?, ?, ?, ?)", now="(julianday('now') - 2440587.5) * 86400")
+_ROW = "(?, ?, ?, ?, ?, ?, ?, ?)"
+_APPEND = APPEND.format(given="VALUES $", now="(julianday('now') - 2440587.5) * 86400")
 _REMOVE = REMOVE.format(before="?1", living="SELECT value FROM json_each(?2)")
 # For how many seconds a commit may take, and for how many one is waited for at the end.
 _SECONDS, _CLOSE_SECONDS = 10.0, 0.5
@@ -175,13 +176,20 @@ class SqliteStore(SqlStore):
         return self._to_read.execute(words, given).fetchall()
 
     def _insert(self, rows: Rows) -> Awaitable[Rows]:
-        return self._run(self._writer, self._write, _APPEND, rows)
+        return self._run(self._writer, self._append, rows)
 
-    def _write(self, words: str, rows: Rows) -> Rows:
-        """Runs a statement with each of some rows, in a transaction; returns those with which it has changed the table."""
+    def _append(self, rows: Rows) -> Rows:
+        """Appends rows, and returns them; or nothing if some are refused, and who asks has to look."""
+        return rows if self._write(_APPEND.replace("$", ", ".join([_ROW] * len(rows))), rows) == len(rows) else ()
+
+    def _write(self, words: str, rows: Rows) -> int:
+        """Runs a statement with the values of some rows, in a transaction; returns how many rows of the table it has changed.
+
+        It is one for all rows: after each statement the thread waits for the interpreter's lock, which the loop has.
+        """
         with self._in_turn(), self._to_write as connection:
             connection.execute("BEGIN IMMEDIATE")
-            return [row for row in rows if connection.execute(words, row).rowcount > 0]
+            return connection.execute(words, [value for row in rows for value in row]).rowcount
 
     @contextlib.contextmanager
     def _in_turn(self) -> Iterator[None]:

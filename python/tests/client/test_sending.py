@@ -144,6 +144,7 @@ class TestParts:
         (Answer(201, {"Location": "/v2/Books(1)?x=1"}), "/v2/Books(1)/Pages"),
         (Answer(201, {"Location": "https://host/Books(1)"}), "https://host/Books(1)/Pages"),
         (Answer(204, {"OData-EntityId": "/v1/Books(1)"}), "/v1/Books(1)/Pages"),
+        (Answer(204, {"Location": "", "OData-EntityId": "/v1/Books(1)"}), "/v1/Books(1)/Pages"),
         (Answer(201, {}, {"@id": "/v1/Books(1)", "Title": "\u00fc"}), "/v1/Books(1)/Pages"),
     ])  # fmt: skip
     def test_a_location_of_an_earlier_part(self, answer, url):
@@ -202,11 +203,12 @@ class TestParts:
         assert results["g1"].body == results["g2"].body == (results["q"].body.replace(b"q may", b"g2 may") if mode == "continue" else b"")
 
     @pytest.mark.parametrize("mode, parts, statuses", [
-        ("continue", [["a", "x"], ["y", "c"]], [201, 200, 200, 424, 424, 200]),
+        ("continue", [["a", "x"], ["y"], ["c"]], [201, 200, 200, 424, 424, 200]),
         ("stop", [["a", "x"], ["y"]], [201, 200, 200, 424, 424, 424]),
     ])  # fmt: skip
-    def test_a_reference_that_stands_for_nothing(self, mode, parts, statuses):
-        batch, service = Batch(), Scripted({"a": Answer(201)})
+    @pytest.mark.parametrize("headers", [{}, {"Location": ""}])
+    def test_a_reference_that_stands_for_nothing(self, headers, mode, parts, statuses):
+        batch, service = Batch(), Scripted({"a": Answer(201, headers)})
         batch.post("A", {}, id="a")
         batch.get("X", id="x")
         batch.get("Y", id="y")
@@ -218,6 +220,27 @@ class TestParts:
         assert results["b"].json()["error"]["code"] == "NoLocation"
         with pytest.raises(ValueError, match="b refers to a, which was answered without a Location"):
             results.rest()
+
+    @pytest.mark.parametrize("mode, parts, statuses", [
+        ("continue", [["a", "x"], ["y"], ["c", "e"]], [201, 200, 200, 424, 424, 424, 424, 200, 200]),
+        ("stop", [["a", "x"], ["y"]], [201, 200, 200, *[424] * 6]),
+    ])  # fmt: skip
+    def test_etags_that_are_not_there(self, mode, parts, statuses):
+        batch, service = Batch(), Scripted({"a": Answer(201, {"Location": "A(1)"})}, mode=mode)
+        a = batch.post("A", {}, id="a")
+        batch.get("X", id="x")
+        batch.get("Y", id="y")
+        batch.patch("B", {}, headers={"If-Match": a}, id="b")
+        batch.get("D", after="b", id="d")
+        with batch.group("g"):
+            batch.post("G", {}, id="g1")
+            batch.get("G", headers={"If-None-Match": a}, id="g2")
+        batch.get("C", id="c")
+        batch.get("E", id="e")
+        results = batch.send(service.post, limit=2, mode=mode)
+        assert parts_of(service) == parts and statuses_of(results) == statuses
+        assert results["b"].json()["error"]["code"] == "NoETag"
+        assert results["g1"].body == results["g2"].body == (results["b"].body if mode == "continue" else b"")
 
     @pytest.mark.parametrize("location", ["$b", "%24b", "$batch", "/v1/$batch", "$root"])
     def test_a_location_that_no_url_may_have(self, location):
