@@ -10,33 +10,31 @@ import (
 	"io"
 	"net/http"
 	"net/url"
+	"regexp"
 	"strconv"
 	"strings"
 )
 
 // Batch is a batch that is made by calls. Its zero value is an empty one. A request that refers to an earlier one depends on it
-// without further ado, and what depends on a request of a group depends on the group, too. The first error, as a body that has no
-// JSON, is kept, and returned by Document, Check and Send. One goroutine at a time may use it.
+// without further ado, and what depends on a request of a group depends on the group, too. Document returns what is wrong, as a body
+// that is not JSON. One goroutine at a time may use it.
 type Batch struct {
-	elements []element
-	names    map[string]string // by each id and group its group
-	group    string
+	elements []element[any]
+	groups   map[string]string // by the id of each request
+	group    string            // that to which requests are added
 	err      error
 }
 
-type element struct {
+// element is a request in the document of a batch.
+type element[Body any] struct {
 	ID      string            `json:"id"`
 	Group   string            `json:"atomicityGroup,omitempty"`
-	Needs   []string          `json:"dependsOn,omitempty"`
+	After   []string          `json:"dependsOn,omitempty"`
 	Method  string            `json:"method"`
 	URL     string            `json:"url"`
 	Headers map[string]string `json:"headers,omitempty"`
-	Body    json.RawMessage   `json:"body,omitempty"`
-}
-
-// document returns the document of a batch with some requests.
-func document(elements []element) ([]byte, error) {
-	return encoded(map[string]any{"requests": append([]element{}, elements...)})
+	Body    Body              `json:"body,omitempty"`
+	given   []string          // what is to be in After
 }
 
 // Reference is the id of a request of a batch. As a text it is $ and its id, for URLs: fmt.Sprint(order, "/Lines").
@@ -48,27 +46,27 @@ func (r Reference) String() string { return "$" + string(r) }
 type Group string
 
 // With is an option of a request: After, Header, IfMatch or ID.
-type With func(*element)
+type With func(*element[any])
 
 // After adds dependencies: each a Reference, a Group, or the name of one.
 func After(named ...any) With {
-	return func(e *element) {
+	return func(e *element[any]) {
 		for _, it := range named {
-			e.Needs = append(e.Needs, strings.TrimPrefix(fmt.Sprint(it), "$"))
+			e.given = append(e.given, strings.TrimPrefix(fmt.Sprint(it), "$"))
 		}
 	}
 }
 
 // Header sets a header.
 func Header(name, value string) With {
-	return func(e *element) { e.Headers[strings.ToLower(name)] = value }
+	return func(e *element[any]) { e.Headers[strings.ToLower(name)] = value }
 }
 
 // IfMatch has a request performed only if the entity has the ETag that another request was answered.
 func IfMatch(request Reference) With { return Header("if-match", request.String()) }
 
-// ID gives a request an id; without it that is the first free number.
-func ID(id string) With { return func(e *element) { e.ID = id } }
+// ID gives a request an id; without it that is its number in the batch.
+func ID(id string) With { return func(e *element[any]) { e.ID = id } }
 
 // Get adds a GET.
 func (b *Batch) Get(url any, with ...With) Reference { return b.Add("GET", url, nil, with...) }
@@ -80,133 +78,82 @@ func (b *Batch) Post(url, body any, with ...With) Reference { return b.Add("POST
 func (b *Batch) Put(url, body any, with ...With) Reference { return b.Add("PUT", url, body, with...) }
 
 // Patch adds a PATCH.
-func (b *Batch) Patch(url, body any, with ...With) Reference {
-	return b.Add("PATCH", url, body, with...)
-}
+func (b *Batch) Patch(url, body any, w ...With) Reference { return b.Add("PATCH", url, body, w...) }
 
 // Delete adds a DELETE.
 func (b *Batch) Delete(url any, with ...With) Reference { return b.Add("DELETE", url, nil, with...) }
 
 // Add adds a request. The URL is a string, or the Reference to a request; the body is bytes as they are on the wire, or a value
-// that encoding/json writes, or nil for none. Bytes are JSON, unless a Content-Type says otherwise.
+// that Document writes by encoding/json, or nil for none. Bytes are JSON, unless a Content-Type says otherwise.
 func (b *Batch) Add(method string, url, body any, with ...With) Reference {
-	e := element{ID: b.free("", len(b.elements)), Method: strings.ToLower(method), URL: fmt.Sprint(url), Group: b.group, Headers: map[string]string{}}
+	e := element[any]{ID: strconv.Itoa(len(b.elements) + 1), Method: strings.ToLower(method), URL: fmt.Sprint(url), Group: b.group,
+		Headers: map[string]string{}}
 	for _, option := range with {
 		option(&e)
 	}
 	if isOne(e.ID, constants.ReservedIDs, nil) {
-		b.keep(fmt.Errorf("%w: no URL can refer to a request with the id %s", ErrOption, e.ID))
+		b.err = fmt.Errorf("%w: no URL can refer to a request with the id %s", ErrOption, e.ID)
 	}
-	if body != nil {
-		b.keep(e.setBody(body))
+	if e.Body = body; body != nil {
+		e.Headers["content-type"] = or(e.Headers["content-type"], "application/json")
 	}
-	if b.names == nil {
-		b.names = map[string]string{}
+	if wire, ok := body.([]byte); ok {
+		e.Body = json.RawMessage(toJSON(wire, e.Headers["content-type"]))
 	}
-	b.depend(&e)
-	b.elements = append(b.elements, e)
-	b.names[e.ID], b.names[e.Group] = e.Group, e.Group
+	b.depend(&e, append(e.given, b.references(&e)...))
+	if b.elements = append(b.elements, e); b.groups == nil {
+		b.groups = map[string]string{}
+	}
+	b.groups[e.ID] = e.Group
 	return Reference(e.ID)
 }
 
-// setBody sets the body, and its Content-Type if there is none.
-func (e *element) setBody(body any) (err error) {
-	if e.Headers["content-type"] == "" {
-		e.Headers["content-type"] = "application/json"
+var firstSegment = regexp.MustCompile("^[^/?#]*")
+
+// references returns the ids of the requests to which a request refers by its URL and its conditions.
+func (b *Batch) references(e *element[any]) (ids []string) {
+	segment, _ := url.PathUnescape(firstSegment.FindString(e.URL))
+	for _, text := range []string{segment, e.Headers["if-match"], e.Headers["if-none-match"]} {
+		if _, known := b.groups[strings.TrimPrefix(text, "$")]; known && strings.HasPrefix(text, "$") {
+			ids = append(ids, text[1:])
+		}
 	}
-	if wire, ok := body.([]byte); !ok {
-		e.Body, err = encoded(body)
-	} else if e.Body = toJSON(wire, e.Headers["content-type"]); e.Body != nil && !json.Valid(e.Body) {
-		err = fmt.Errorf("odb: the body of %s is not JSON", e.ID)
-	}
-	return err
+	return ids
 }
 
-// keep keeps the first error.
-func (b *Batch) keep(err error) {
-	if b.err == nil {
-		b.err = err
-	}
-}
-
-// free returns the first name with a number that is not taken.
-func (b *Batch) free(prefix string, count int) string {
-	for {
-		count++
-		if _, taken := b.names[prefix+strconv.Itoa(count)]; !taken {
-			return prefix + strconv.Itoa(count)
+// depend adds dependencies, each once, and the groups of what is in one.
+func (b *Batch) depend(e *element[any], after []string) {
+	for _, name := range after {
+		if name != "" && name != e.Group && !isOne(name, e.After, nil) {
+			e.After = append(e.After, name)
+			b.depend(e, []string{b.groups[name]})
 		}
 	}
 }
 
-// depend adds what a request refers to, and the groups of what it depends on.
-func (b *Batch) depend(e *element) {
-	segment, _ := url.PathUnescape(strings.FieldsFunc(e.URL+" ", func(it rune) bool { return strings.ContainsRune("/?#", it) })[0])
-	for _, text := range []string{strings.TrimSpace(segment), e.Headers["if-match"], e.Headers["if-none-match"]} {
-		if _, known := b.names[strings.TrimPrefix(text, "$")]; known && strings.HasPrefix(text, "$") {
-			e.Needs = append(e.Needs, text[1:])
-		}
-	}
-	given, seen := e.Needs, map[string]bool{b.group: true, "": true}
-	for _, name := range given {
-		given = append(given, b.names[name])
-	}
-	e.Needs = nil
-	for _, name := range given {
-		if !seen[name] {
-			e.Needs = append(e.Needs, name)
-		}
-		seen[name] = true
-	}
-}
-
-// Group makes the requests that a function adds an atomicity group: all of them are performed, or none. If the function returns
-// an error, none of them is added.
-func (b *Batch) Group(add func() error) (Group, error) {
+// Group makes the requests that a function adds an atomicity group: all of them are performed, or none.
+func (b *Batch) Group(add func()) Group {
 	if b.group != "" {
-		return "", fmt.Errorf("%w: a group cannot be in another one", ErrOption)
+		b.err = fmt.Errorf("%w: a group cannot be in another one", ErrOption)
 	}
-	begun := len(b.elements)
-	b.group = b.free("g", 0)
-	group, err := b.group, add()
-	if b.group = ""; err != nil {
-		for _, e := range b.elements[begun:] {
-			delete(b.names, e.ID)
-		}
-		delete(b.names, group)
-		b.elements = b.elements[:begun]
-	}
-	return Group(group), err
+	b.group = "g" + strconv.Itoa(len(b.elements)+1)
+	defer func() { b.group = "" }()
+	add()
+	return Group(b.group)
 }
 
-// Document returns the document of the batch.
+// Document returns the document of the batch, or an error of a call.
 func (b *Batch) Document() ([]byte, error) {
 	if b.err != nil {
 		return nil, b.err
 	}
-	return document(b.elements)
-}
-
-// Check checks the batch as it is.
-func (b *Batch) Check() (found Counts, err error) {
-	document, err := b.Document()
-	if err == nil {
-		found, err = Check(document)
-	}
-	return found, err
-}
-
-// SendOptions says how a batch is sent. Its zero value is the default.
-type SendOptions struct {
-	Mode    Mode        // Stop for a service that stops at its first error; nothing more is sent then
-	Limit   int         // how many requests a part may have, from 1 to MaxRequests; 0 is MaxRequests
-	MaxSize int64       // how many bytes an answer of the service may have; MaxDocument if it is 0
-	Header  http.Header // further headers of each part, as Authorization
+	return encoded(map[string]any{"requests": append([]element[any]{}, b.elements...)})
 }
 
 // Result is what a request was answered; 424 if it was not sent.
 type Result struct {
-	ID string
+	ID    string `json:"id"`
+	Group string `json:"atomicityGroup,omitempty"`
 	Answer
 }
 
@@ -218,23 +165,20 @@ func (r Result) JSON(value any) error {
 	return json.Unmarshal(r.Body, value)
 }
 
-// Results is what the requests of a batch were answered.
+// Results is what the requests of a batch were answered. What was read without a Location has its URL as Location.
 type Results struct {
 	document []byte
-	requests []Request
-	answers  map[string]Answer
-	places   map[string]map[string]string // the Location of what has succeeded, as headers
+	run      *LiveRun
+	answers  map[string]Result
 }
 
 // Of returns what a request was answered.
-func (r *Results) Of(request Reference) Result {
-	return Result{string(request), r.answers[string(request)]}
-}
+func (r *Results) Of(request Reference) Result { return r.answers[string(request)] }
 
 // All returns what the requests were answered, in the order of the batch.
 func (r *Results) All() (found []Result) {
-	for _, it := range r.requests {
-		found = append(found, r.Of(Reference(it.ID)))
+	for _, it := range r.run.Requests() {
+		found = append(found, r.answers[it.ID])
 	}
 	return found
 }
@@ -242,17 +186,7 @@ func (r *Results) All() (found []Result) {
 // Rest returns the document of what failed for now and may be sent again, for Send; nil if nothing may. The error is a *Fault, F90, if
 // something of it refers to a request that was answered without a Location, and a *Refusal if that was answered without an ETag.
 func (r *Results) Rest() ([]byte, error) {
-	type response struct {
-		ID      string            `json:"id"`
-		Status  int               `json:"status"`
-		Group   string            `json:"atomicityGroup,omitempty"`
-		Headers map[string]string `json:"headers,omitempty"`
-	}
-	var responses []response
-	for _, it := range r.requests {
-		responses = append(responses, response{it.ID, r.answers[it.ID].Status, it.Group, r.places[it.ID]})
-	}
-	text, _ := encoded(map[string]any{"responses": responses})
+	text, _ := encoded(map[string]any{"responses": r.All()})
 	text, err := Rest(r.document, text, Continue)
 	if err != nil || string(text) == `{"requests":[]}` {
 		return nil, err
@@ -263,7 +197,7 @@ func (r *Results) Rest() ([]byte, error) {
 // tagged returns a batch of some of the requests with ETags in place of references to others that have succeeded.
 func (r *Results) tagged(text []byte) ([]byte, error) {
 	var batch struct {
-		Requests []element `json:"requests"`
+		Requests []element[json.RawMessage] `json:"requests"`
 	}
 	if err := json.Unmarshal(text, &batch); err != nil || !bytes.Contains(text, []byte(`"$`)) {
 		return text, err
@@ -271,128 +205,109 @@ func (r *Results) tagged(text []byte) ([]byte, error) {
 	inside := map[string]bool{}
 	for _, it := range batch.Requests {
 		inside[it.ID] = true
-		if err := tag(it.Headers, r.answers, func(id string) bool { return r.answers[id].OK() && !inside[id] }); err != nil {
+		err := tag(it.Headers, func(id string) (string, bool) {
+			other := r.answers[id]
+			return other.Headers["etag"], other.OK() && !inside[id]
+		})
+		if err != nil {
 			return nil, err
 		}
 	}
 	return encoded(batch)
 }
 
-// Send posts the batch to the URL of a $batch; see the function Send.
-func (b *Batch) Send(ctx context.Context, client *http.Client, url string, options SendOptions) (*Results, error) {
-	document, err := b.Document()
-	if err != nil {
-		return nil, err
-	}
-	return Send(ctx, client, url, document, options)
+// Client posts batches to a service. All but its URL may be left out. Any number of goroutines may use one.
+type Client struct {
+	URL     string       // that of $batch
+	HTTP    *http.Client // http.DefaultClient if it is nil
+	Header  http.Header  // further headers of each part, as Authorization
+	Mode    Mode         // Stop for a service that stops at its first error; nothing more is sent then
+	Limit   int          // how many requests a part may have, from 1 to MaxRequests; 0 is MaxRequests
+	MaxSize int64        // how many bytes an answer of the service may have; MaxDocument if it is 0
 }
 
-// Send posts a batch to the URL of a $batch, in parts of at most Limit requests one after another, and returns what its requests were
-// answered. A group is never split, and in a later part the Location and the ETag of an answer take the place of a reference. client
-// is http.DefaultClient if it is nil.
+// Send posts a batch in parts of at most Limit requests, one after another, and returns what its requests were answered. A
+// group is never split, and in a later part the Location and the ETag of an answer take the place of a reference.
 //
-// Without results the batch is refused, and nothing was sent. With an error beside them a part was not answered, or refused as a
-// whole: its requests have that answer, 504 for a timeout and 502 for another failure, and what comes after it was not sent. What was
-// answered 502 or 504 may have been performed.
-func Send(ctx context.Context, client *http.Client, url string, document []byte, options SendOptions) (*Results, error) {
-	client = or(client, http.DefaultClient)
-	options.Limit, options.MaxSize = or(options.Limit, MaxRequests), or(options.MaxSize, MaxDocument)
-	run, err := Open(document, nil, Policy{Mode: options.Mode})
+// Without results the batch is refused. With an error beside them a part was not answered, or refused as a whole: its requests have that
+// answer, 504 for a timeout and 502 for another failure, and what comes after it was not sent. What was answered 502 or 504 may have
+// been performed.
+func (c Client) Send(ctx context.Context, document []byte) (*Results, error) {
+	c.HTTP, c.Limit, c.MaxSize = or(c.HTTP, http.DefaultClient), or(c.Limit, MaxRequests), or(c.MaxSize, MaxDocument)
+	run, err := Open(document, nil, Policy{Mode: c.Mode})
 	if err != nil {
 		return nil, err
 	}
 	defer run.Close()
-	s := &sending{options, client, url, run, &Results{document, run.Requests(), map[string]Answer{}, map[string]map[string]string{}}}
-	for _, it := range s.requests {
-		s.answers[it.ID] = Answer{Status: 424}
+	r := &Results{document, run, map[string]Result{}}
+	for _, it := range run.Requests() {
+		r.answers[it.ID] = Result{it.ID, it.Group, Answer{Status: 424}}
 	}
-	for hasSent := false; ; hasSent = true {
-		part, ids, err := run.Part(options.Limit)
+	for {
+		part, ids, err := run.Part(c.Limit)
 		if err == nil {
-			part, err = s.tagged(part)
+			part, err = r.tagged(part)
 		}
-		if err != nil && !hasSent {
-			return nil, err
-		} else if err != nil || len(ids) == 0 {
-			return s.Results, err
+		if err != nil || len(ids) == 0 {
+			return r, err
 		}
-		if err = s.exchange(ctx, part); err != nil {
+		responses, err := c.exchange(ctx, part)
+		for _, it := range responses { // in mode Stop a request may have none
+			r.take(it)
+		}
+		if err != nil {
 			for _, id := range ids {
-				s.answers[id] = answerTo(err)
+				r.answers[id] = Result{id, run.Request(id).Group, answerTo(err)}
 			}
-			return s.Results, err
+			return r, err
 		}
 	}
 }
 
-// sending is a batch on its way.
-type sending struct {
-	SendOptions
-	client *http.Client
-	url    string
-	run    *LiveRun
-	*Results
-}
-
-// exchange posts a part, and notes what its requests were answered.
-func (s *sending) exchange(ctx context.Context, part []byte) error {
-	post, err := http.NewRequestWithContext(ctx, "POST", s.url, bytes.NewReader(part))
+// exchange posts a part, and returns what its requests were answered.
+func (c Client) exchange(ctx context.Context, part []byte) ([]Result, error) {
+	post, err := http.NewRequestWithContext(ctx, "POST", c.URL, bytes.NewReader(part))
 	if err != nil {
-		return err
+		return nil, err
 	}
-	for name, values := range s.Header {
-		post.Header[name] = values
-	}
-	post.Header.Set("Content-Type", "application/json")
-	post.Header.Set("Accept", "application/json")
-	if s.Mode == Continue {
+	post.Header = http.Header{"Content-Type": {"application/json"}, "Accept": {"application/json"}}
+	if c.Mode == Continue {
 		post.Header.Set("Prefer", "continue-on-error")
 	}
-	answer, err := s.client.Do(post)
+	for name, values := range c.Header {
+		post.Header[name] = values
+	}
+	answer, err := c.HTTP.Do(post)
 	if err != nil {
-		return err
+		return nil, err
 	}
 	defer answer.Body.Close()
-	text, err := io.ReadAll(io.LimitReader(answer.Body, s.MaxSize+1))
+	text, err := io.ReadAll(io.LimitReader(answer.Body, c.MaxSize+1))
 	switch {
 	case answer.StatusCode >= 400:
-		return &Refusal{answer.StatusCode, "Refused", fmt.Sprintf("%.1000s", text), "", nil}
-	case err != nil:
-	case int64(len(text)) > s.MaxSize:
-		err = fmt.Errorf("the answer has more than %d bytes", s.MaxSize)
-	default:
-		_, err = Match(part, text, MatchOptions{Mode: s.Mode})
+		return nil, &Refusal{answer.StatusCode, "Refused", fmt.Sprintf("%.1000s", text), "", nil}
+	case err == nil && int64(len(text)) > c.MaxSize:
+		err = fmt.Errorf("the answer has more than %d bytes", c.MaxSize)
+	case err == nil:
+		_, err = Match(part, text, MatchOptions{Mode: c.Mode})
 	}
 	if err != nil {
-		return &url.Error{Op: "Post", URL: s.url, Err: err} // which is answered 502, or 504
+		return nil, &url.Error{Op: "Post", URL: c.URL, Err: err} // which is answered 502, or 504
 	}
-	responses, err := Responses(text)
-	for _, it := range responses { // in mode Stop a request may have none
-		s.take(it)
-	}
-	return err
+	return Responses(text)
 }
 
 // take notes what a request was answered, as bytes on the wire. One that may not start, since others have failed, is skipped by the run.
-func (s *sending) take(it Result) {
-	answer := it.whole()
-	if body, err := toWire(it.Body, answer.Headers["content-type"]); err == nil {
-		answer.Body = body
+func (r *Results) take(it Result) {
+	it.Answer = it.whole()
+	if body, err := toWire(it.Body, it.Headers["content-type"]); err == nil {
+		it.Body = body
 	}
-	s.answers[it.ID] = answer
-	if place := s.place(it.ID); place != "" {
-		s.places[it.ID] = map[string]string{"location": place}
+	if request := r.run.Request(it.ID); place(it.Headers) == "" && request.Method != "POST" {
+		own, _, _ := strings.Cut(place(r.answers[request.Reference].Headers)+request.Rest, "?")
+		it.Headers["location"] = strings.TrimSuffix(own, "/")
 	}
-	_ = s.run.StartUnit(it.ID)
-	_ = s.run.Report(it.ID, it.Status, s.places[it.ID], nil)
-}
-
-// place returns the URL of what a request has created or returned; it is empty if that is not known.
-func (s *sending) place(id string) string {
-	request := s.run.Request(id)
-	if place := s.answers[id].place(s.url); place != "" || request.Method == "POST" {
-		return place
-	}
-	place, _, _ := strings.Cut(s.places[request.Reference]["location"]+request.Rest, "?")
-	return strings.TrimSuffix(place, "/")
+	r.answers[it.ID] = it
+	_ = r.run.StartUnit(it.ID)
+	_ = r.run.Report(it.ID, it.Status, it.Headers, nil)
 }

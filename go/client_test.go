@@ -18,33 +18,29 @@ import (
 func TestBatch(t *testing.T) {
 	var batch odb.Batch
 	book := batch.Post("Books", map[string]any{"Title": "Solaris <1>"}, odb.ID("book"))
-	lend, err := batch.Group(func() error {
+	lend := batch.Group(func() {
 		batch.Patch(book, map[string]int{"Reader": 42}, odb.IfMatch(book), odb.ID("mark"))
 		batch.Post("Loans", []byte(`{"Price": 9.990}`), odb.ID("loan"))
-		return nil
 	})
+	batch.Get(book, odb.After(lend), odb.ID("lent"))
+	batch.Get("$loan/x") // depends on the group, too
+	batch.Put("Notes(1)", []byte("a<b"), odb.Header("Content-Type", "text/plain"), odb.After(book, book))
+	batch.Delete("%24book?x=1", odb.Header("If-None-Match", "$mark"))
+	document, err := batch.Document()
 	if err != nil {
 		t.Fatal(err)
 	}
-	batch.Get(book, odb.After(lend), odb.ID("lent"))
-	batch.Get("$loan/x") // depends on the group, too
-	if _, err := batch.Group(func() error { batch.Get("X"); return errors.New("no") }); err == nil {
-		t.Error("no error")
-	}
-	batch.Put("Notes(1)", []byte("a<b"), odb.Header("Content-Type", "text/plain"), odb.After(book, book))
-	batch.Delete("%24book?x=1", odb.Header("If-None-Match", "$mark"))
-	counts, err := batch.Check()
+	counts, err := odb.Check(document)
 	if err != nil || counts != (odb.Counts{Requests: 7, Groups: 1}) {
 		t.Error(counts, err)
 	}
-	document, _ := batch.Document()
 	wanted := `{"requests":[{"id":"book","method":"post","url":"Books","headers":{"content-type":"application/json"},"body":{"Title":"Solaris <1>"}},` +
-		`{"id":"mark","atomicityGroup":"g1","dependsOn":["book"],"method":"patch","url":"$book","headers":{"content-type":"application/json","if-match":"$book"},"body":{"Reader":42}},` +
-		`{"id":"loan","atomicityGroup":"g1","method":"post","url":"Loans","headers":{"content-type":"application/json"},"body":{"Price":9.990}},` +
-		`{"id":"lent","dependsOn":["g1","book"],"method":"get","url":"$book"},` +
-		`{"id":"5","dependsOn":["loan","g1"],"method":"get","url":"$loan/x"},` +
+		`{"id":"mark","atomicityGroup":"g2","dependsOn":["book"],"method":"patch","url":"$book","headers":{"content-type":"application/json","if-match":"$book"},"body":{"Reader":42}},` +
+		`{"id":"loan","atomicityGroup":"g2","method":"post","url":"Loans","headers":{"content-type":"application/json"},"body":{"Price":9.990}},` +
+		`{"id":"lent","dependsOn":["g2","book"],"method":"get","url":"$book"},` +
+		`{"id":"5","dependsOn":["loan","g2"],"method":"get","url":"$loan/x"},` +
 		`{"id":"6","dependsOn":["book"],"method":"put","url":"Notes(1)","headers":{"content-type":"text/plain"},"body":"a<b"},` +
-		`{"id":"7","dependsOn":["book","mark","g1"],"method":"delete","url":"%24book?x=1","headers":{"if-none-match":"$mark"}}]}`
+		`{"id":"7","dependsOn":["book","mark","g2"],"method":"delete","url":"%24book?x=1","headers":{"if-none-match":"$mark"}}]}`
 	if string(document) != wanted {
 		t.Errorf("%s\nnot\n%s", document, wanted)
 	}
@@ -55,19 +51,26 @@ func TestBatchesThatAreWrong(t *testing.T) {
 		"no JSON":  func(batch *odb.Batch) { batch.Post("A", func() {}) },
 		"bytes":    func(batch *odb.Batch) { batch.Post("A", []byte("{")) },
 		"reserved": func(batch *odb.Batch) { batch.Get("A", odb.ID("metadata")) },
-		"refused":  func(batch *odb.Batch) { batch.Get("A", odb.ID("a")); batch.Get("A", odb.ID("a")) },
+		"nested":   func(batch *odb.Batch) { batch.Group(func() { batch.Group(func() { batch.Get("A") }) }) },
 	} {
 		var batch odb.Batch
+		batch.Get("A")
 		add(&batch)
-		results, err := batch.Send(context.Background(), nil, "http://127.0.0.1:1/$batch", odb.SendOptions{})
-		if _, second := batch.Check(); results != nil || err == nil || second == nil {
-			t.Error(name, results, err, second)
+		batch.Get("B")
+		if document, err := batch.Document(); document != nil || err == nil {
+			t.Error(name, string(document), err)
 		}
 	}
 	var batch odb.Batch
-	_, err := batch.Group(func() error { _, err := batch.Group(func() error { return nil }); return err })
-	if document, _ := batch.Document(); !errors.Is(err, odb.ErrOption) || string(document) != `{"requests":[]}` {
+	if document, err := batch.Document(); err != nil || string(document) != `{"requests":[]}` {
 		t.Error(err, string(document))
+	}
+	batch.Get("A", odb.ID("a"))
+	batch.Get("A", odb.ID("a"))
+	document, _ := batch.Document()
+	results, err := odb.Client{URL: "http://127.0.0.1:1/$batch"}.Send(context.Background(), document)
+	if results != nil || !isFault(err, "F30") {
+		t.Error(results, err)
 	}
 }
 
@@ -127,17 +130,17 @@ func TestSendsInParts(t *testing.T) {
 	})
 	var batch odb.Batch
 	order := batch.Post("Orders", []byte(`{"n":9.990}`), odb.ID("order"))
-	_, err := batch.Group(func() error {
+	batch.Group(func() {
 		batch.Patch(order, map[string]int{}, odb.IfMatch(order), odb.ID("p"))
 		batch.Post(fmt.Sprint(order, "/Lines"), map[string]int{}, odb.ID("q"))
-		return nil
 	})
 	last := batch.Get("$order/Lines?x=1", odb.ID("last"))
+	document, err := batch.Document()
 	if err != nil {
 		t.Fatal(err)
 	}
 	header := http.Header{"Authorization": {"me"}}
-	results, err := batch.Send(context.Background(), nil, url, odb.SendOptions{Limit: 2, Header: header})
+	results, err := odb.Client{URL: url, Limit: 2, Header: header}.Send(context.Background(), document)
 	if err != nil || found(results) != "order 201, p 201, q 201, last 201" || len(header) != 1 {
 		t.Fatal(err, found(results))
 	}
@@ -160,7 +163,7 @@ func TestReferencesThatNoAnswerHas(t *testing.T) {
 		url, came := posts(t, func(part int, ids []string) (int, string) { return 200, all(ids, 200, "") })
 		document := `{"requests":[{"id":"a","method":"post","url":"A"},
 {"id":"b","method":"get","url":` + more + `,"dependsOn":["a"]},{"id":"c","method":"get","url":"C","dependsOn":["b"]}]}`
-		results, err := odb.Send(context.Background(), nil, url, []byte(document), odb.SendOptions{Limit: 1})
+		results, err := odb.Client{URL: url, Limit: 1}.Send(context.Background(), []byte(document))
 		if err == nil || !strings.Contains(err.Error(), wanted) || found(results) != "a 200, b 424, c 424" || len(*came) != 1 {
 			t.Error(err, found(results), *came)
 		}
@@ -175,7 +178,7 @@ func TestReferencesToWhatWasRead(t *testing.T) {
 	url, came := posts(t, func(part int, ids []string) (int, string) { return 200, all(ids, 200, "") })
 	document := `{"requests":[{"id":"a","method":"get","url":"A(1)/?x=1"},{"id":"b","method":"get","url":"$a/B","dependsOn":["a"]},
 {"id":"c","method":"get","url":"$b/C?y=1","dependsOn":["b"]}]}`
-	results, err := odb.Send(context.Background(), nil, url, []byte(document), odb.SendOptions{Limit: 1})
+	results, err := odb.Client{URL: url, Limit: 1}.Send(context.Background(), []byte(document))
 	if err != nil || found(results) != "a 200, b 200, c 200" || !strings.Contains((*came)[2], `"A(1)/B/C?y=1"`) {
 		t.Error(err, found(results), *came)
 	}
@@ -188,7 +191,7 @@ func TestAServiceThatStops(t *testing.T) {
 	url, came := posts(t, func(part int, ids []string) (int, string) {
 		return 200, `{"responses":[{"id":"r0","status":200},{"id":"r1","status":404}]}`
 	})
-	results, err := odb.Send(context.Background(), nil, url, many(6), odb.SendOptions{Limit: 3, Mode: odb.Stop})
+	results, err := odb.Client{URL: url, Limit: 3, Mode: odb.Stop}.Send(context.Background(), many(6))
 	if err != nil || len(*came) != 1 || !strings.HasPrefix((*came)[0], "{") || found(results) != "r0 200, r1 404, r2 424, r3 424, r4 424, r5 424" {
 		t.Error(err, *came, found(results))
 	}
@@ -215,7 +218,7 @@ func TestAServiceThatIsBad(t *testing.T) {
 		"too long":   {200, all([]string{"r0", "r1"}, 200, `,"body":"`+strings.Repeat("x", 1000)+`"`), "r0 502, r1 502, r2 424", 3},
 	} {
 		url, came := posts(t, func(part int, ids []string) (int, string) { return it.status, it.answer })
-		results, err := odb.Send(context.Background(), nil, url, many(3), odb.SendOptions{Limit: 2, MaxSize: 1000})
+		results, err := odb.Client{URL: url, Limit: 2, MaxSize: 1000}.Send(context.Background(), many(3))
 		if err == nil || len(*came) != 1 || found(results) != it.wanted {
 			t.Error(name, err, found(results))
 			continue
@@ -237,7 +240,7 @@ func TestAnAnswerWithoutEnd(t *testing.T) {
 		written <- count
 	}))
 	defer server.Close()
-	results, err := odb.Send(context.Background(), server.Client(), server.URL, many(1), odb.SendOptions{MaxSize: 1000})
+	results, err := odb.Client{URL: server.URL, HTTP: server.Client(), MaxSize: 1000}.Send(context.Background(), many(1))
 	if count := <-written; err == nil || found(results) != "r0 502" || count == 1<<28 {
 		t.Error(err, found(results), count)
 	}
@@ -256,7 +259,7 @@ func TestAServiceThatHangs(t *testing.T) {
 			<-r.Context().Done()
 		}))
 		ctx, cancel := context.WithTimeout(context.Background(), 50*time.Millisecond)
-		results, err := odb.Send(ctx, server.Client(), server.URL, many(2), odb.SendOptions{})
+		results, err := odb.Client{URL: server.URL, HTTP: server.Client()}.Send(ctx, many(2))
 		cancel()
 		if !errors.Is(err, context.DeadlineExceeded) || found(results) != "r0 504, r1 504" {
 			t.Error(err, found(results))
@@ -264,12 +267,15 @@ func TestAServiceThatHangs(t *testing.T) {
 		server.CloseClientConnections()
 		server.Close()
 	}
-	results, err := odb.Send(context.Background(), nil, "http://127.0.0.1:1/$batch", many(1), odb.SendOptions{})
+	results, err := odb.Client{URL: "http://127.0.0.1:1/$batch"}.Send(context.Background(), many(1))
 	if err == nil || found(results) != "r0 502" {
 		t.Error(err, found(results))
 	}
-	if _, err := odb.Send(context.Background(), nil, "http://127.0.0.1:1/$batch", many(1), odb.SendOptions{Limit: -1}); !errors.Is(err, odb.ErrOption) {
-		t.Error(err)
+	for name, client := range map[string]odb.Client{"limit": {URL: "http://127.0.0.1:1/", Limit: -1}, "url": {URL: "http://a b/"}, "none": {}} {
+		results, err := client.Send(context.Background(), many(1))
+		if err == nil || errors.Is(err, odb.ErrOption) != (name == "limit") || found(results) == "r0 200" {
+			t.Error(name, err, found(results))
+		}
 	}
 }
 
@@ -280,7 +286,7 @@ func TestTheRestHasETags(t *testing.T) {
 	})
 	document := `{"requests":[{"id":"a","method":"post","url":"A"},
 {"id":"b","method":"patch","url":"$a","headers":{"If-Match":"$a"},"dependsOn":["a"],"body":9.990},{"id":"c","method":"post","url":"C"}]}`
-	results, err := odb.Send(context.Background(), nil, url, []byte(document), odb.SendOptions{})
+	results, err := odb.Client{URL: url}.Send(context.Background(), []byte(document))
 	if err != nil {
 		t.Fatal(err)
 	}

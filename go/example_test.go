@@ -1,9 +1,11 @@
 package odb_test
 
 import (
+	"bytes"
 	"context"
 	"errors"
 	"fmt"
+	"io"
 	"net/http"
 	"net/http/httptest"
 
@@ -31,7 +33,7 @@ func ExampleLiveRun() {
 	for ready, _ := run.Ready(); len(ready) > 0; ready, _ = run.Ready() {
 		for _, id := range ready {
 			if err := run.Start(id); err != nil {
-				continue // *odb.Refused
+				continue // *odb.Fault, as S2
 			}
 			if err := run.Report(id, 200, nil, []byte(`{"of":"`+run.Request(id).URL+`"}`)); err != nil {
 				panic(err)
@@ -60,10 +62,62 @@ func ExampleHandler() {
 	order := batch.Post("Orders", map[string]string{"Customer": "ada"})
 	batch.Get("Customers")
 	lines := batch.Get(fmt.Sprint(order, "/Lines"))
-	results, err := batch.Send(context.Background(), nil, server.URL+"/odata/$batch", odb.SendOptions{Limit: 2})
+	document, err := batch.Document()
+	if err != nil {
+		panic(err)
+	}
+	results, err := odb.Client{URL: server.URL + "/odata/$batch", Limit: 2}.Send(context.Background(), document)
 	if err != nil {
 		panic(err)
 	}
 	fmt.Println(results.Of(order).Status, results.Of(lines).Status, string(results.Of(lines).Body))
 	// Output: 201 200 "/odata/Orders(7)/Lines"
+}
+
+// A batch is performed by a function that sends one request.
+func ExamplePerform() {
+	server := httptest.NewServer(http.HandlerFunc(func(w http.ResponseWriter, r *http.Request) {
+		w.Header().Set("Content-Type", "application/json")
+		fmt.Fprintf(w, `{"of":%q}`, r.URL.Path)
+	}))
+	defer server.Close()
+
+	send := func(ctx context.Context, request *odb.Request) (odb.Answer, error) {
+		message, err := http.NewRequestWithContext(ctx, request.Method, request.URL, bytes.NewReader(request.Body))
+		if err != nil {
+			return odb.Answer{}, err
+		}
+		for name, value := range request.Headers {
+			message.Header.Set(name, value)
+		}
+		response, err := http.DefaultClient.Do(message)
+		if err != nil {
+			return odb.Answer{}, err
+		}
+		defer response.Body.Close()
+		body, err := io.ReadAll(io.LimitReader(response.Body, odb.MaxDocument))
+		headers := map[string]string{}
+		for name := range response.Header {
+			headers[name] = response.Header.Get(name)
+		}
+		return odb.Answer{Status: response.StatusCode, Headers: headers, Body: body}, err
+	}
+	transaction := func(ctx context.Context, group string, do func(ctx context.Context) error) error {
+		// Begin here, commit if do returns nil, and else roll back and return the error.
+		return do(ctx)
+	}
+	batch := []byte(`{"requests":[{"id":"a","method":"get","url":"Books(1)"},{"id":"b","method":"get","url":"Books","atomicityGroup":"g"}]}`)
+	response, err := odb.Perform(context.Background(), batch, send, odb.Options{Base: server.URL + "/odata/", Transaction: transaction})
+	if err != nil {
+		panic(err)
+	}
+	responses, err := odb.Responses(response)
+	for _, it := range responses {
+		fmt.Println(it.ID, it.Status, string(it.Body))
+	}
+	fmt.Println(err)
+	// Output:
+	// a 200 {"of":"/odata/Books(1)"}
+	// b 200 {"of":"/odata/Books"}
+	// <nil>
 }

@@ -8,6 +8,7 @@ import (
 	"errors"
 	"fmt"
 	"io"
+	"mime"
 	"net/http"
 	"net/url"
 	"path"
@@ -34,121 +35,96 @@ type HandlerOptions struct {
 // In a group the context of a request is the one that the transaction has given to do. If the client leaves, the contexts of its
 // requests are done, and nothing more starts.
 func Handler(next http.Handler, options HandlerOptions) http.Handler {
-	h := &batchHandler{options, next}
-	h.Path, h.Limit, h.Timeout = or(h.Path, "/$batch"), or(h.Limit, 1000), or(h.Timeout, 30*time.Second)
-	h.Root, h.MaxSize = or(h.Root, folder(h.Path)), or(h.MaxSize, MaxDocument)
-	return h
+	options.Path, options.Limit, options.Timeout = or(options.Path, "/$batch"), or(options.Limit, 1000), or(options.Timeout, 30*time.Second)
+	options.Root, options.MaxSize = or(options.Root, folder(options.Path)), or(options.MaxSize, MaxDocument)
+	return http.HandlerFunc(func(w http.ResponseWriter, outer *http.Request) {
+		if outer.URL.Path != options.Path {
+			next.ServeHTTP(w, outer)
+			return
+		}
+		d := &dispatch{HandlerOptions: options, next: next, outer: outer, inherited: http.Header{}}
+		d.room.Store(options.MaxSize)
+		answer, err := d.answer(w)
+		if fault := new(Fault); errors.As(err, &fault) {
+			err = &Refusal{Status: 400, Code: fault.Code, Message: fault.Name + ": " + fault.Explanation(), Target: fault.Place}
+		}
+		if err != nil {
+			answer = answerTo(err)
+		}
+		for name, value := range answer.Headers {
+			w.Header().Set(name, value)
+		}
+		w.Header().Set("OData-Version", "4.01")
+		w.WriteHeader(answer.Status)
+		_, _ = w.Write(answer.Body)
+	})
 }
 
 func folder(file string) string { return strings.TrimSuffix(path.Dir(file), "/") + "/" }
 
-type batchHandler struct {
-	HandlerOptions
-	next http.Handler
-}
-
-func (h *batchHandler) ServeHTTP(w http.ResponseWriter, outer *http.Request) {
-	if outer.URL.Path != h.Path {
-		h.next.ServeHTTP(w, outer)
-		return
-	}
-	answer, err := h.answered(w, outer)
-	var fault *Fault
-	if errors.As(err, &fault) {
-		err = &Refusal{Status: 400, Code: fault.Code, Message: fault.Name + ": " + fault.Explanation(), Target: fault.Place}
-	}
-	if err != nil {
-		answer = answerTo(err)
-	}
-	for name, value := range answer.Headers {
-		w.Header().Set(name, value)
-	}
-	w.Header().Set("OData-Version", "4.01")
-	w.WriteHeader(answer.Status)
-	_, _ = w.Write(answer.Body)
-}
-
-// required returns why a request carries no batch that is performed here.
-func required(outer *http.Request) error {
-	coding := strings.ToLower(outer.Header.Get("Content-Encoding"))
-	switch {
-	case outer.Method != "POST":
-		return &Refusal{405, "NotAllowed", outer.Method + " does not apply to a batch", "", map[string]string{"allow": "POST"}}
-	case mediaType(outer.Header.Get("Content-Type")) != "application/json":
-		return &Refusal{415, "BadMediaType", "A batch is in application/json", "", map[string]string{"accept": "application/json"}}
-	case coding != "" && coding != "identity":
-		return &Refusal{415, "BadEncoding", "A batch may not have a Content-Encoding", "", map[string]string{"accept-encoding": "identity"}}
-	case outer.Header.Get("Repeatability-Request-ID") != "" || outer.Header.Get("Repeatability-First-Sent") != "":
-		return &Refusal{501, "NotRepeatable", "Batches are not kept here", "", map[string]string{"repeatability-result": "rejected"}}
-	case !isHost.MatchString(outer.Host):
-		return &Refusal{400, "BadHost", "The host is not a name with a port", "", nil}
-	}
-	return nil
-}
-
-// answered performs the batch that a request carries.
-func (h *batchHandler) answered(w http.ResponseWriter, outer *http.Request) (Answer, error) {
-	if err := required(outer); err != nil {
-		return Answer{}, err
-	}
-	batch, err := io.ReadAll(http.MaxBytesReader(w, outer.Body, h.MaxSize))
-	if errors.As(err, new(*http.MaxBytesError)) {
-		return Answer{}, &Refusal{413, "TooLong", fmt.Sprintf("A batch may have %d bytes", h.MaxSize), "", nil}
-	} else if err != nil {
-		return Answer{}, &Refusal{400, "CutBody", "The batch is not whole", "", nil}
-	}
-	d := &dispatch{batchHandler: h, outer: outer, inherited: http.Header{}}
-	d.room.Store(h.MaxSize)
-	options, headers := h.Options, map[string]string{"content-type": "application/json"}
-	if options.Mode = d.inherit(); options.Mode == Continue {
-		headers["preference-applied"] = "continue-on-error"
-	}
-	options.Base = "http://" + outer.Host + (&url.URL{Path: folder(h.Path)}).EscapedPath()
-	options.Roots = rootsOf(outer, (&url.URL{Path: h.Root}).EscapedPath())
-	response, err := Perform(outer.Context(), batch, d.send, options)
-	return Answer{200, headers, response}, err
-}
-
 // isHost says whether a text is a host that may be in a URL.
 var isHost = regexp.MustCompile(`^([A-Za-z0-9._~-]+|\[[0-9A-Fa-f:.]+\])(:[0-9]{1,5})?$`)
 
-// rootsOf returns the root as URLs: a client and the handler may write them with the scheme and the host that a proxy in front has.
-// Whatever they are, a request is answered here, by its path.
-func rootsOf(outer *http.Request, path string) (roots []string) {
-	for _, host := range append(strings.Split(outer.Header.Get("X-Forwarded-Host"), ","), outer.Host) {
-		if host = strings.TrimSpace(host); isHost.MatchString(host) {
-			roots = append(roots, "http://"+host+path, "https://"+host+path)
-		}
-	}
-	return roots
-}
-
 // dispatch has a handler answer the requests of one batch.
 type dispatch struct {
-	*batchHandler
+	HandlerOptions
+	next      http.Handler
 	outer     *http.Request
 	inherited http.Header
 	prefer    []string     // the preferences that are not for the batch alone
 	room      atomic.Int64 // how many bytes the answers may still have
 }
 
-var (
-	aPreference = regexp.MustCompile(`(?:[^,"]|"[^"]*"?)+`)
-	isValue     = regexp.MustCompile("^[\t -~\u00a0-\u00ff]*$")
-)
+// answer performs the batch that a request carries.
+func (d *dispatch) answer(w http.ResponseWriter) (Answer, error) {
+	given := d.outer.Header
+	kind, _, _ := mime.ParseMediaType(given.Get("Content-Type"))
+	switch coding := strings.ToLower(given.Get("Content-Encoding")); {
+	case d.outer.Method != "POST":
+		return Answer{}, &Refusal{405, "NotAllowed", d.outer.Method + " does not apply to a batch", "", map[string]string{"allow": "POST"}}
+	case kind != "application/json":
+		return Answer{}, &Refusal{415, "BadMediaType", "A batch is in application/json", "", map[string]string{"accept": "application/json"}}
+	case coding != "" && coding != "identity":
+		return Answer{}, &Refusal{415, "BadEncoding", "A batch is not compressed", "", map[string]string{"accept-encoding": "identity"}}
+	case given.Get("Repeatability-Request-ID")+given.Get("Repeatability-First-Sent") != "":
+		return Answer{}, &Refusal{501, "NotRepeatable", "Batches are not kept here", "", map[string]string{"repeatability-result": "rejected"}}
+	}
+	batch, err := io.ReadAll(http.MaxBytesReader(w, d.outer.Body, d.MaxSize))
+	if errors.As(err, new(*http.MaxBytesError)) {
+		return Answer{}, &Refusal{413, "TooLong", fmt.Sprintf("A batch may have %d bytes", d.MaxSize), "", nil}
+	} else if err != nil {
+		return Answer{}, &Refusal{400, "CutBody", "The batch is not whole", "", nil}
+	}
+	options, headers := d.Options, map[string]string{"content-type": "application/json"}
+	if options.Mode = d.inherit(); options.Mode == Continue {
+		headers["preference-applied"] = "continue-on-error"
+	}
+	// A request is answered here, by its path, whatever host it seems to be sent to: a proxy in front may have another one.
+	root := (&url.URL{Path: d.Root}).EscapedPath()
+	options.Base, options.Roots = "http://localhost"+(&url.URL{Path: folder(d.Path)}).EscapedPath(), []string{"http://localhost" + root}
+	for _, host := range append(strings.Split(given.Get("X-Forwarded-Host"), ","), d.outer.Host) {
+		if host = strings.TrimSpace(host); isHost.MatchString(host) {
+			options.Roots = append(options.Roots, "http://"+host+root, "https://"+host+root)
+		}
+	}
+	response, err := Perform(d.outer.Context(), batch, d.send, options)
+	return Answer{200, headers, response}, err
+}
+
+// What a preference is, its name and its value, and what the value of a header may be.
+var isPreference = regexp.MustCompile(`(?:[^,"]|"[^"]*"?)+`)
+var hasName = regexp.MustCompile(`^\s*(?:odata\.)?([^\s=;]*)\s*(?:=[\s"]*([^\s";]*))?`)
+var isValue = regexp.MustCompile("^[\t -~\u00a0-\u00ff]*$")
 
 // inherit notes what the requests have from the request that carries their batch; returns the mode in which that is performed (OData
 // Protocol 4.01, section 8.2.8.3).
 func (d *dispatch) inherit() Mode {
 	mode := Stop
-	for _, text := range aPreference.FindAllString(strings.Join(d.outer.Header.Values("Prefer"), ","), -1) {
-		pair, _, _ := strings.Cut(strings.ToLower(text), ";")
-		name, value, _ := strings.Cut(pair, "=")
-		name, value = strings.TrimPrefix(strings.TrimSpace(name), "odata."), strings.Trim(value, "\t \"")
-		if name == "continue-on-error" && (value == "" || value == "true") {
+	for _, text := range isPreference.FindAllString(strings.Join(d.outer.Header.Values("Prefer"), ","), -1) {
+		found := hasName.FindStringSubmatch(strings.ToLower(text))
+		if name, value := found[1], found[2]; name == "continue-on-error" && (value == "" || value == "true") {
 			mode = Continue
-		}
-		if name != "" && !isOne(name, constants.Preferences, nil) {
+		} else if name != "" && !isOne(name, constants.Preferences, nil) {
 			d.prefer = append(d.prefer, strings.TrimSpace(text))
 		}
 	}
@@ -197,19 +173,22 @@ func (d *dispatch) send(ctx context.Context, request *Request) (Answer, error) {
 	}
 	inner.RequestURI, inner.RemoteAddr, inner.TLS, inner.Host = inner.URL.RequestURI(), d.outer.RemoteAddr, d.outer.TLS, d.outer.Host
 	inner.URL.Scheme, inner.URL.Host = "", "" // as a server sees it
-	kept := &recorder{header: http.Header{}, room: &d.room, isRead: request.Method == "GET", cancel: cancel}
+	kept := &recorder{header: http.Header{}, room: &d.room, isRead: request.Method == "GET", end: cancel}
 	d.next.ServeHTTP(kept, inner)
-	return kept.answer()
+	if kept.WriteHeader(200); kept.isShort && kept.isRead {
+		return Answer{}, errTooLong
+	}
+	return kept.answer, nil
 }
 
-// recorder keeps what a handler writes, as long as there is room. A read for which there is none ends; a write loses its body.
+// recorder keeps what a handler writes, as long as there is room.
 type recorder struct {
-	header, sent    http.Header // what is set after the status is sent has no effect, as in a server
-	status          int
-	body            bytes.Buffer
-	room            *atomic.Int64
-	isShort, isRead bool
-	cancel          func()
+	header  http.Header
+	answer  Answer // has the headers of when the status was sent, as in a server
+	room    *atomic.Int64
+	isShort bool // there was too little room: a read is ended, and a write loses its body
+	isRead  bool
+	end     func()
 }
 
 func (r *recorder) Header() http.Header { return r.header }
@@ -218,49 +197,31 @@ func (r *recorder) Header() http.Header { return r.header }
 func (r *recorder) Flush() { r.WriteHeader(200) }
 
 func (r *recorder) WriteHeader(status int) {
-	if r.status == 0 && status >= 200 {
-		r.status, r.sent = status, r.header.Clone()
-		var lines bytes.Buffer
-		_ = r.sent.Write(&lines)
-		r.isShort = !r.take(lines.Len())
+	if r.answer.Status > 0 || status < 200 {
+		return
 	}
-}
-
-// take takes some bytes of the room; without it those of the body are given back.
-func (r *recorder) take(count int) bool {
-	if r.isShort || r.room.Add(-int64(count)) >= 0 {
-		return !r.isShort
+	r.answer = Answer{status, map[string]string{}, nil}
+	for name, values := range r.header {
+		r.answer.Headers[strings.ToLower(name)] = strings.Join(values, ", ")
 	}
-	r.room.Add(int64(count + r.body.Len()))
-	r.body.Reset()
-	return false
 }
 
 func (r *recorder) Write(part []byte) (int, error) {
-	if r.WriteHeader(200); r.status == 204 || r.status == 304 {
+	if r.WriteHeader(200); r.answer.Status == 204 || r.answer.Status == 304 {
 		return 0, http.ErrBodyNotAllowed
-	} else if r.isShort = !r.take(len(part)); !r.isShort {
-		return r.body.Write(part)
-	} else if r.isRead {
-		r.cancel()
+	}
+	if _, isNamed := r.answer.Headers["content-type"]; !isNamed {
+		r.answer.Headers["content-type"] = http.DetectContentType(part)
+	}
+	if !r.isShort && r.room.Add(-int64(len(part))) < 0 {
+		r.room.Add(int64(len(r.answer.Body) + len(part)))
+		r.isShort, r.answer.Body = true, nil
+	}
+	if r.isShort && r.isRead {
+		r.end()
 		return 0, errTooLong
+	} else if !r.isShort {
+		r.answer.Body = append(r.answer.Body, part...)
 	}
 	return len(part), nil
-}
-
-// answer returns what was written. Without a Content-Type it has that of a server.
-func (r *recorder) answer() (Answer, error) {
-	if r.WriteHeader(200); r.isShort && r.isRead {
-		return Answer{}, errTooLong
-	} else if r.isShort {
-		return Answer{Status: r.status}, nil
-	}
-	answer := Answer{r.status, map[string]string{}, r.body.Bytes()}
-	for name, values := range r.sent {
-		answer.Headers[strings.ToLower(name)] = strings.Join(values, ", ")
-	}
-	if _, isNamed := answer.Headers["content-type"]; !isNamed && len(answer.Body) > 0 {
-		answer.Headers["content-type"] = http.DetectContentType(answer.Body)
-	}
-	return answer, nil
 }

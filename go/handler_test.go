@@ -7,6 +7,7 @@ import (
 	"encoding/json"
 	"fmt"
 	"io"
+	"log"
 	"net"
 	"net/http"
 	"net/http/httptest"
@@ -23,9 +24,7 @@ import (
 func served(t *testing.T, next http.HandlerFunc, options odb.HandlerOptions) (*httptest.Server, func(headers http.Header, requests ...string) map[string]answer) {
 	t.Helper()
 	options.Path = "/odata/$batch"
-	if options.Log == nil {
-		options.Log = func(error, string) {}
-	}
+	options.Log = log.New(io.Discard, "", 0)
 	server := httptest.NewServer(odb.Handler(next, options))
 	t.Cleanup(server.Close)
 	return server, func(headers http.Header, requests ...string) map[string]answer {
@@ -107,18 +106,15 @@ func echo(w http.ResponseWriter, r *http.Request) {
 
 func TestHandler(t *testing.T) {
 	for _, width := range []int{1, 4} {
-		options := odb.HandlerOptions{Allowed: []string{"x-dry-run"}}
+		options := odb.HandlerOptions{}
 		options.Width = width
 		_, post := served(t, echo, options)
 		headers := http.Header{"Authorization": {"me"}, "Prefer": {`continue-on-error, return=minimal, wait=5; x="a,b"`}}
-		found := post(headers, "get Books?x=1", "get panic", "get ../admin", "get Books", "get none", "get early", "get nested/../batch", "get abort",
-			`post Books ,"body":"a<b","headers":{"Content-Type":"text/plain","Prefer":"return=representation","Host":"x","User-Agent":"y"}`,
-			`get Books ,"headers":{"X-Forwarded-For":"1"}`, `get Books ,"headers":{"X-Dry-Run":"1"}`, `get Books ,"headers":{"Accept":"a\u0001"}`,
-			"get x", "get /odata/Books", "get http://elsewhere/odata/Books", `get Books ,"headers":{"Authorization":"you"}`)
+		found := post(headers, "get Books?x=1", "get panic", "get none", "get Books", "get /odata/Books", "get early", "get nested/../batch", "get abort",
+			`post Books ,"body":"a<b","headers":{"Content-Type":"text/plain","Prefer":"return=representation","Host":"x","User-Agent":"y"}`)
 		for id, wanted := range map[string]string{
-			"r0": "200 GET /odata/Books?x=1 true me return=minimal ", "r1": "500", "r2": "404", "r4": "204 <nil>", "r5": "202 <nil>", "r7": "502",
-			"r8": "200 POST /odata/Books true me return=representation, return=minimal a<b", "r9": "400", "r10": "200", "r11": "400",
-			"r12": "200", "r13": "200", "r14": "404", "r15": "400",
+			"r0": "200 GET /odata/Books?x=1 true me return=minimal ", "r1": "500", "r2": "204 <nil>", "r3": "200", "r4": "200", "r5": "202 <nil>", "r7": "502",
+			"r8": "200 POST /odata/Books true me return=representation, return=minimal a<b",
 		} {
 			if it := found[id]; !strings.HasPrefix(fmt.Sprint(it.Status, " ", it.Body), wanted) {
 				t.Errorf("%s: %d %v, not %s", id, it.Status, it.Body, wanted)
@@ -142,6 +138,42 @@ func TestANestedBatch(t *testing.T) {
 	handler.ServeHTTP(got, post)
 	if got.Code != 200 || !strings.Contains(got.Body.String(), "NestedBatch") {
 		t.Error(got.Code, got.Body)
+	}
+}
+
+// Nothing is sent that leads out of the folder of the batch, as it is written or by a Location.
+func TestRequestsOutsideOfTheRoot(t *testing.T) {
+	var seen []string
+	_, post := served(t, func(w http.ResponseWriter, r *http.Request) {
+		seen = append(seen, r.RequestURI)
+		w.Header().Set("Location", "http://elsewhere/odata/Books(1)")
+	}, odb.HandlerOptions{})
+	found := post(nil, "get ../admin", "get /admin", "get %2e%2e/admin", "get %252e%252e/admin", `get ..%5cadmin`, "get http://elsewhere/odata/Books",
+		"get //elsewhere/odata/Books", "get x/../../admin", "post Books", `get $r8/Pages ,"dependsOn":["r8"]`)
+	for id, it := range found {
+		if id != "" && it.Status != 404 && id != "r8" || id == "r8" && it.Status != 200 {
+			t.Error(id, it)
+		}
+	}
+	if len(found) != 11 || fmt.Sprint(seen) != "[/odata/Books]" {
+		t.Error(found, seen)
+	}
+}
+
+// A request can neither pass for another client nor be split.
+func TestHeadersThatDoNotPass(t *testing.T) {
+	var sent int
+	_, post := served(t, func(w http.ResponseWriter, r *http.Request) { sent++ }, odb.HandlerOptions{Allowed: []string{"x-dry-run"}})
+	with := func(name, value string) string { return fmt.Sprintf(`get Books ,"headers":{%q:"%s"}`, name, value) }
+	found := post(nil, with("X-Forwarded-For", "1"), with("Authorization", "you"), with("Cookie", "a=b"), with("Accept", `a\u0001`), with("Accept", `a\r\nb: c`),
+		with("Accept", `a\u0000`), with("X-Dry-Run", "1"), with("Accept-Encoding", "gzip"))
+	for id, it := range found {
+		if id != "" && (it.Status == 400) != (id < "r6") {
+			t.Error(id, it)
+		}
+	}
+	if sent != 2 {
+		t.Error(sent)
 	}
 }
 
@@ -175,14 +207,10 @@ func TestWhatIsNoBatch(t *testing.T) {
 		"type":       {http.Header{"Content-Type": {"multipart/mixed"}}, "x", "415 BadMediaType"},
 		"coding":     {http.Header{"Content-Encoding": {"gzip"}}, "x", "415 BadEncoding"},
 		"repeatable": {http.Header{"Repeatability-Request-Id": {"1"}}, "x", "501 NotRepeatable"},
-		"host":       {http.Header{"Host": {"a_b c"}}, "x", "400 BadHost"},
 		"refused":    {nil, `{"requests":7}`, "400 F04"},
 		"long":       {nil, `{"requests":[]` + strings.Repeat(" ", 100) + "}", "413 TooLong"},
 		"groups":     {nil, `{"requests":[{"id":"a","method":"get","url":"A","atomicityGroup":"g"}]}`, "501 NoGroups"},
 	} {
-		if name == "host" {
-			continue // refused by net/http itself
-		}
 		if status, found := posted(t, server, it.headers, it.batch); fmt.Sprint(status, " ", found[""].ID) != it.wanted {
 			t.Error(name, status, found)
 		}
@@ -245,13 +273,10 @@ func TestLongAnswers(t *testing.T) {
 				return
 			}
 		}
-		if r.URL.Path == "/odata/huge" {
-			w.Header().Set("X-Long", strings.Repeat("x", 20000))
-		}
 		fmt.Fprint(w, strings.Repeat("y", 6000))
 	}, odb.HandlerOptions{MaxSize: 10000})
-	found := post(nil, "get endless", "get first", "get second", "post third", "get huge")
-	for id, wanted := range map[string]int{"r0": 507, "r1": 200, "r2": 507, "r3": 200, "r4": 507} {
+	found := post(nil, "get endless", "get first", "get second", "post third")
+	for id, wanted := range map[string]int{"r0": 507, "r1": 200, "r2": 507, "r3": 200} {
 		if found[id].Status != wanted {
 			t.Error(id, found[id].Status)
 		}

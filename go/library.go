@@ -15,19 +15,18 @@ import (
 	"encoding/json"
 	"errors"
 	"fmt"
-	"strconv"
 	"strings"
 	"unsafe"
 )
 
-var (
-	// ErrOutOfMemory is returned if an allocation of the library failed.
-	ErrOutOfMemory = errors.New("odb: out of memory")
-	// ErrOption is returned for an option, an id or a limit that is none of its values.
-	ErrOption = errors.New("odb: an option is none of its values")
-	// ErrClosed is returned by the calls of a run that is closed.
-	ErrClosed = errors.New("odb: the run is closed")
-)
+// ErrOutOfMemory is returned if an allocation of the library failed.
+var ErrOutOfMemory = errors.New("odb: out of memory")
+
+// ErrOption is returned for an option, an id or a limit that is none of its values.
+var ErrOption = errors.New("odb: an option is none of its values")
+
+// ErrClosed is returned by the calls of a run that is closed.
+var ErrClosed = errors.New("odb: the run is closed")
 
 // or returns a value, or the usual one if it is that of nothing.
 func or[T comparable](value, usual T) T {
@@ -41,20 +40,20 @@ const (
 	MaxWidth    = C.ODB_MAX_WIDTH    // the greatest width, and that of a Policy that has 0
 	MaxRequests = C.ODB_MAX_REQUESTS // how many requests a batch may have
 	MaxDocument = C.ODB_MAX_DOCUMENT // how many bytes a document may have
-
-	more = 256 // how much longer than its documents a text is thought to be
 )
+
+const more = 256 // how much longer than its documents a text is thought to be
 
 // seed is drawn once, and kept secret: nobody can choose names that make a call slow. Without random bytes it is 0, which is as safe.
 var seed = C.odb_seed()
 
 // constants is what the library says of itself.
 var constants = func() (found struct {
-	Headers     map[string][]string
-	Preferences []string
-	ReservedIDs []string `json:"reserved_ids"`
+	Headers             map[string][]string
+	States, Preferences []string
+	ReservedIDs         []string `json:"reserved_ids"`
 }) {
-	_, text, _ := called(4096, func(to *textOut) C.uint32_t { return C.odb_constants(to.text, to.room, &to.length) })
+	text, _ := answer(4096, func(to *textOut) C.uint32_t { return C.odb_constants(to.text, to.room, &to.length) })
 	_ = json.Unmarshal(text, &found)
 	return found
 }()
@@ -96,12 +95,21 @@ func called[T any](room int, call func(to *out[T]) C.uint32_t) (C.uint32_t, []by
 }
 
 // answer returns the text of a command over documents without the newline at its end, or why there is none.
-func answer(call func(to *textOut) C.uint32_t, documents ...[]byte) ([]byte, error) {
-	status, text, _ := called(len(documents[0])+len(documents[len(documents)-1])+more, call)
+func answer(room int, call func(to *textOut) C.uint32_t, documents ...[]byte) ([]byte, error) {
+	status, text, _ := called(room, call)
 	if err := failure(status, text, documents...); err != nil {
 		return nil, err
 	}
 	return bytes.TrimSuffix(text, []byte("\n")), nil
+}
+
+// read reads what a command over documents writes as JSON.
+func read[T any](call func(to *textOut) C.uint32_t, documents ...[]byte) (found T, err error) {
+	text, err := answer(len(documents[0])+more, call, documents...)
+	if err == nil {
+		err = json.Unmarshal(text, &found)
+	}
+	return found, err
 }
 
 // failure returns the error for a status; text is the line of a fault, in one of the documents: the batch, and maybe a second.
@@ -110,7 +118,7 @@ func failure(status C.uint32_t, text []byte, documents ...[]byte) error {
 	case C.ODB_DONE:
 		return nil
 	case C.ODB_REFUSED:
-		return faultOf(string(text), documents)
+		return faultOf(text, documents)
 	case C.ODB_WRONG_OPTION:
 		return ErrOption
 	case C.ODB_OUT_OF_MEMORY:
@@ -124,88 +132,78 @@ func Version() int { return int(C.odb_version()) }
 
 // Explanation returns what a code means, as F41 or S4: what `odb_batch explain` prints. It is empty for any other text.
 func Explanation(code string) string {
-	_, text, _ := called(2048, func(to *textOut) C.uint32_t {
+	text, _ := answer(2048, func(to *textOut) C.uint32_t {
 		return C.odb_explain(at([]byte(code)), C.size_t(len(code)), to.text, to.room, &to.length)
 	})
 	return string(text)
 }
 
-// meaning returns the sentences of an explanation, without its first line and its examples.
-func meaning(code string) string {
-	_, text, _ := strings.Cut(Explanation(code), "\n")
-	text, _, _ = strings.Cut(text, "\nrefused: ")
-	return text
-}
-
-// A Fault says why a document is refused. Its text is the code, the name and the place.
+// A Fault says why a document is refused, or why a start or a report of a live run may not come. Its text is the code, the name and the
+// place.
 type Fault struct {
-	Code, Name   string // as F41 and ForwardName
-	Place        string // the document, as batch, or its element, as /requests/0; events or /events/0 for a report of a live run
-	Line, Column int    // where the place begins, from 1, the column in characters; 0 for a report
-	Offset       int    // how many bytes are before it
+	Code, Name string // as F41 and ForwardName; S1 to S5 of a start, as S4 and Waiting, and P1 and P2 of a report
+	// The document, as batch, or its element, as /requests/0; of a run the id of the request, and events or /events/0 for what a report has.
+	Place        string
+	Line, Column int // where the place begins in the document, from 1, the column in characters; 0 for a run
+	Offset, End  int // how many bytes are before it, and before its end
 }
 
 func (f *Fault) Error() string { return f.Code + " " + f.Name + " " + f.Place }
 
 // Explanation returns what the fault means, and how it is repaired.
-func (f *Fault) Explanation() string { return meaning(f.Code) }
+func (f *Fault) Explanation() string {
+	_, text, _ := strings.Cut(Explanation(f.Code), "\n")
+	text, _, _ = strings.Cut(text, "\nrefused: ")
+	return text
+}
 
-// faultOf returns the fault of a line `fault CODE NAME PLACE`, in one of the documents.
-func faultOf(line string, documents [][]byte) *Fault {
-	words, found := strings.SplitN(strings.TrimSuffix(line, "\n"), " ", 4), C.odb_position{}
-	if place := words[3]; len(documents) > 0 {
+// at sets where the fault is.
+func (f *Fault) at(position C.odb_position) *Fault {
+	f.Line, f.Column, f.Offset, f.End = int(position.line), int(position.column), int(position.offset), int(position.end)
+	return f
+}
+
+// faultOf returns the fault of a line `fault CODE NAME PLACE`, or of its JSON, in one of the documents.
+func faultOf(text []byte, documents [][]byte) *Fault {
+	found := struct{ Fault Fault }{}
+	if json.Unmarshal(text, &found) != nil {
+		words := strings.SplitN(strings.TrimSpace(string(text)), " ", 4)
+		found.Fault = Fault{Code: words[1], Name: words[2], Place: words[3]}
+	}
+	place, position := found.Fault.Place, C.odb_position{}
+	if len(documents) > 0 {
 		in := documents[0]
 		if place != "batch" && !strings.HasPrefix(place, "/requests/") {
 			in = documents[len(documents)-1]
 		}
-		C.odb_where(at(in), size(in), at([]byte(place)), C.size_t(len(place)), &found)
+		C.odb_where(at(in), size(in), at([]byte(place)), C.size_t(len(place)), &position)
 	}
-	return &Fault{words[1], words[2], words[3], int(found.line), int(found.column), int(found.offset)}
+	return found.Fault.at(position)
 }
 
 // Faults returns all faults of the first phase that has any, in one scan; none if the batch is accepted.
-func Faults(batch []byte) ([]*Fault, error) {
-	status, text, found := called(len(batch)+more, func(to *out[C.odb_fault]) C.uint32_t {
+func Faults(batch []byte) (faults []*Fault, err error) {
+	status, line, found := called(len(batch)+more, func(to *out[C.odb_fault]) C.uint32_t {
 		return C.odb_faults(at(batch), size(batch), to.text, to.room, &to.length, to.items, to.most, &to.count, seed)
 	})
 	if status != C.ODB_REFUSED {
-		return nil, failure(status, text)
+		return nil, failure(status, line)
 	}
-	faults, words := make([]*Fault, len(found)), string(text)
-	for i, it := range found {
-		position := it.position
-		faults[i] = &Fault{part(words, it.code), part(words, it.name), part(words, it.place), int(position.line),
-			int(position.column), int(position.offset)}
+	text := string(line)
+	for _, it := range found {
+		fault := &Fault{Code: part(text, it.code), Name: part(text, it.name), Place: part(text, it.place)}
+		faults = append(faults, fault.at(it.position))
 	}
 	return faults, nil
 }
 
-// part returns the part of a text; it is empty if there is none.
-func part(text string, of C.odb_part) string {
+// part returns the part of a text or a document; it is empty if there is none.
+func part[T string | []byte](text T, of C.odb_part) (none T) {
 	if of.start == C.ODB_NONE {
-		return ""
+		return none
 	}
 	return text[of.start : of.start+of.length]
 }
-
-// slice returns the part of a document, which nobody can append to; nil if there is none.
-func slice(document []byte, of C.odb_part) []byte {
-	if of.start == C.ODB_NONE {
-		return nil
-	}
-	return document[of.start : of.start+of.length : of.start+of.length]
-}
-
-// A Refused says why a start or a report of a live run may not come: nothing has changed.
-type Refused struct {
-	Code, Name string // S1 to S5 of a start, P1 and P2 of a report; as Waiting
-	ID         string
-}
-
-func (r *Refused) Error() string { return r.Code + " " + r.Name + " " + r.ID }
-
-// Explanation returns what the cause means.
-func (r *Refused) Explanation() string { return meaning(r.Code) }
 
 // Mode is what an error, a status from 400 to 599, does to a run.
 type Mode uint32
@@ -230,74 +228,47 @@ type Policy struct {
 	Width int // how many requests may run at once, from 1 to MaxWidth; 0 is MaxWidth
 }
 
-// numbers returns a mode and a width; the library refuses a wrong one.
-func (p Policy) numbers() (C.uint32_t, C.uint32_t) {
-	if p.Width < 0 || p.Width > MaxWidth {
-		p.Width = MaxWidth + 1
+func (p Policy) width() C.uint32_t { return number(or(p.Width, MaxWidth)) }
+
+// number returns a number for the library, which refuses 0 as a width or a status; so it does others that are none.
+func number(value int) C.uint32_t {
+	if value < 0 || value > MaxWidth {
+		return 0
 	}
-	return C.uint32_t(p.Mode), C.uint32_t(or(p.Width, MaxWidth))
+	return C.uint32_t(value)
 }
 
 // Counts says how many requests and groups a batch has.
 type Counts struct{ Requests, Groups int }
 
 // Check checks a batch.
-func Check(batch []byte) (found Counts, err error) {
-	status, text, _ := called(more, func(to *textOut) C.uint32_t {
-		return C.odb_check_as(at(batch), size(batch), C.ODB_LINES, to.text, to.room, &to.length, seed)
-	})
-	if status != C.ODB_DONE {
-		return found, failure(status, text, batch)
-	}
-	words := strings.Fields(string(text))
-	return Counts{number(words[1]), number(words[3])}, nil
-}
-
-func number(word string) int {
-	value, _ := strconv.Atoi(word)
-	return value
+func Check(batch []byte) (Counts, error) {
+	return read[Counts](func(to *textOut) C.uint32_t {
+		return C.odb_check_as(at(batch), size(batch), C.ODB_JSON, to.text, to.room, &to.length, seed)
+	}, batch)
 }
 
 // PlannedRequest is a request with what it depends on.
 type PlannedRequest struct {
-	Position int
-	ID       string
-	Level    int      // requests of one level may run side by side
-	Group    string   // empty if it has none
-	Needs    []string // ids and groups
+	ID    string
+	Level int      // requests of one level may run side by side
+	Group string   // empty if it has none
+	Needs []string // ids and groups
 }
 
 // Plan returns the requests of a batch in order.
-func Plan(batch []byte) (found []PlannedRequest, err error) {
-	text, err := answer(func(to *textOut) C.uint32_t {
-		return C.odb_plan_as(at(batch), size(batch), C.ODB_LINES, to.text, to.room, &to.length, seed)
+func Plan(batch []byte) ([]PlannedRequest, error) {
+	found, err := read[struct{ Requests []PlannedRequest }](func(to *textOut) C.uint32_t {
+		return C.odb_plan_as(at(batch), size(batch), C.ODB_JSON, to.text, to.room, &to.length, seed)
 	}, batch)
-	for _, line := range lines(text) {
-		words := strings.Split(line, " ")
-		planned := PlannedRequest{len(found), words[1], number(words[3]), strings.Trim(words[5], "*"), nil}
-		if words[7] != "*" {
-			planned.Needs = strings.Split(words[7], ",")
-		}
-		found = append(found, planned)
-	}
-	return found, err
-}
-
-func lines(text []byte) []string {
-	return strings.FieldsFunc(string(text), func(it rune) bool { return it == '\n' })
+	return found.Requests, err
 }
 
 // Canon returns the canonical text of a batch, which is one text for all documents of the same batch, without a newline.
 func Canon(batch []byte) ([]byte, error) {
-	return answer(func(to *textOut) C.uint32_t {
+	return answer(len(batch)+more, func(to *textOut) C.uint32_t {
 		return C.odb_canon_as(at(batch), size(batch), C.ODB_LINES, to.text, to.room, &to.length, seed)
 	}, batch)
-}
-
-// Status is what a request was answered.
-type Status struct {
-	ID     string
-	Status int
 }
 
 // MatchOptions says what kind of service has answered. Its zero value is the default.
@@ -307,18 +278,13 @@ type MatchOptions struct {
 	Units  bool // whether that run may also send a group as one, as StartUnit does; for Strict alone
 }
 
-// Match matches the response document of a service against a batch; returns the statuses in the order of the batch.
-func Match(batch, responses []byte, options MatchOptions) (found []Status, err error) {
-	text, err := answer(func(to *textOut) C.uint32_t {
+// Match matches the response document of a service against a batch; returns ids and statuses in the order of the batch.
+func Match(batch, responses []byte, options MatchOptions) ([]Result, error) {
+	found, err := read[struct{ Responses []Result }](func(to *textOut) C.uint32_t {
 		return C.odb_match_with(at(batch), size(batch), at(responses), size(responses), C.uint32_t(options.Mode),
-			bit[options.Strict]*(1+bit[options.Units]), C.ODB_LINES, to.text, to.room, &to.length, seed)
+			bit[options.Strict]*(1+bit[options.Units]), C.ODB_JSON, to.text, to.room, &to.length, seed)
 	}, batch, responses)
-	for i, line := range lines(text) {
-		if id, status, _ := strings.Cut(line, " "); i > 0 {
-			found = append(found, Status{id, number(status)})
-		}
-	}
-	return found, err
+	return found.Responses, err
 }
 
 // bit has the numbers of the library for whether something is.
@@ -326,45 +292,27 @@ var bit = map[bool]C.uint32_t{true: 1}
 
 // Rest returns what may be sent again by the responses of a service, as a batch of its own. If nothing may, it has no requests.
 func Rest(batch, responses []byte, mode Mode) ([]byte, error) {
-	return answer(func(to *textOut) C.uint32_t {
+	return answer(len(batch)+len(responses)+more, func(to *textOut) C.uint32_t {
 		return C.odb_rest(at(batch), size(batch), at(responses), size(responses), C.uint32_t(mode), C.ODB_LINES, to.text, to.room, &to.length, seed)
 	}, batch, responses)
 }
 
 // Run runs a batch by recorded events; returns the response document. A run on its way is a LiveRun.
 func Run(batch, events []byte, policy Policy) ([]byte, error) {
-	mode, width := policy.numbers()
-	return answer(func(to *textOut) C.uint32_t {
-		return C.odb_run_as(at(batch), size(batch), at(events), size(events), mode, width, C.ODB_LINES, to.text, to.room, &to.length, seed)
+	return answer(len(batch)+len(events)+more, func(to *textOut) C.uint32_t {
+		return C.odb_run_as(at(batch), size(batch), at(events), size(events), C.uint32_t(policy.Mode), policy.width(), C.ODB_LINES,
+			to.text, to.room, &to.length, seed)
 	}, batch, events)
 }
 
-// Step is a step of a replay: start, report or undo.
-type Step struct {
-	Kind, ID string
-	Status   int // of a report
-}
-
-// ReplayOptions says how a batch is replayed. Its zero value is the default.
-type ReplayOptions struct {
-	Policy
-	Order Order
-	Trace bool // whether the steps are asked for
-}
-
-// Replay replays a batch by recorded outcomes; returns the response document and, if they are asked for, the steps.
-func Replay(batch, outcomes []byte, options ReplayOptions) (response []byte, steps []Step, err error) {
-	mode, width := options.numbers()
-	text, err := answer(func(to *textOut) C.uint32_t {
-		return C.odb_replay_as(at(batch), size(batch), at(outcomes), size(outcomes), mode, width, C.uint32_t(options.Order),
-			bit[options.Trace], C.ODB_LINES, to.text, to.room, &to.length, seed)
+// Replay replays a batch by recorded outcomes; returns the response document and the steps, as `start a`, `report a 200` and `undo a`.
+func Replay(batch, outcomes []byte, policy Policy, order Order) (response []byte, steps []string, err error) {
+	text, err := answer(2*len(batch)+len(outcomes)+more, func(to *textOut) C.uint32_t {
+		return C.odb_replay_as(at(batch), size(batch), at(outcomes), size(outcomes), C.uint32_t(policy.Mode), policy.width(),
+			C.uint32_t(order), 1, C.ODB_LINES, to.text, to.room, &to.length, seed)
 	}, batch, outcomes)
-	end := bytes.LastIndexByte(text, '\n') + 1
-	for _, line := range lines(text[:end]) {
-		words := append(strings.Split(line, " "), "")
-		steps = append(steps, Step{words[0], words[1], number(words[2])})
-	}
-	return text[end:], steps, err
+	lines := strings.Split(string(text), "\n")
+	return []byte(lines[len(lines)-1]), lines[:len(lines)-1], err
 }
 
 // Request is a request of a batch, as it is to be sent.
@@ -375,6 +323,7 @@ type Request struct {
 	Headers         map[string]string // names in lower case; nil if it has none
 	Group           string            // empty if it has none
 	Body            []byte            // the bytes of the document, or those on the wire if it is sent; nil if it has none
+	position        C.uint32_t
 }
 
 // Requests returns what is to be sent of each request of a batch. Bodies are slices of the document, without a copy.
@@ -388,33 +337,28 @@ func Requests(batch []byte) ([]Request, error) {
 func requestsOf(batch []byte, text string, found []C.odb_request) []Request {
 	requests := make([]Request, len(found))
 	for i, it := range found {
-		requests[i] = Request{part(text, it.id), part(text, it.method), part(text, it.url), "", part(text, it.rest),
-			headersOf([]byte(part(text, it.headers))), part(text, it.group), slice(batch, it.body)}
+		requests[i] = Request{part(text, it.id), part(text, it.method), part(text, it.url), "", part(text, it.rest), nil,
+			part(text, it.group), part(batch, it.body), C.uint32_t(i)}
 		if it.reference != C.ODB_NONE {
 			requests[i].Reference = requests[it.reference].ID
+		}
+		if it.headers.length > 2 { // else {}
+			_ = json.Unmarshal([]byte(part(text, it.headers)), &requests[i].Headers)
 		}
 	}
 	return requests
 }
 
-// headersOf returns the headers in a JSON object, nil if it has none; what is not a text is empty.
-func headersOf(text []byte) (found map[string]string) {
-	if len(text) > len("{}") {
-		_ = json.Unmarshal(text, &found)
-	}
-	return found
-}
-
 // Responses returns the responses in the document of a service, in its order; they need not fit a batch. Headers are as they are
 // written, and bodies are slices of the document.
-func Responses(document []byte) ([]Result, error) {
+func Responses(document []byte) (responses []Result, err error) {
 	status, text, found := called(len(document)+more, func(to *out[C.odb_response]) C.uint32_t {
 		return C.odb_responses(at(document), size(document), to.text, to.room, &to.length, to.items, to.most, &to.count)
 	})
-	responses, words := make([]Result, len(found)), string(text)
-	for i, it := range found {
-		answer := Answer{int(it.status), headersOf(slice(document, it.headers)), slice(document, it.body)}
-		responses[i] = Result{part(words, it.id), answer}
+	for _, it := range found {
+		answer := Answer{int(it.status), nil, part(document, it.body)}
+		_ = json.Unmarshal(part(document, it.headers), &answer.Headers) // what is not a text is empty
+		responses = append(responses, Result{string(part(text, it.id)), string(part(text, it.group)), answer})
 	}
 	return responses, failure(status, text, document)
 }

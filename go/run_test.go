@@ -52,7 +52,7 @@ func TestFaultsHavePositions(t *testing.T) {
 	if err != nil || len(faults) != 9 {
 		t.Fatal(faults, err)
 	}
-	if last := *faults[8]; last != (odb.Fault{Code: "F15", Name: "BadUrl", Place: "/requests/2", Line: 2, Column: 5, Offset: 22}) {
+	if last := *faults[8]; last != (odb.Fault{Code: "F15", Name: "BadUrl", Place: "/requests/2", Line: 2, Column: 5, Offset: 22, End: 34}) {
 		t.Errorf("%+v", last)
 	}
 	if found := faults[8].Explanation(); !strings.HasPrefix(found, "The request has no url, or") || strings.Contains(found, "refused: ") {
@@ -78,7 +78,7 @@ func TestOptionsThatHaveNoValue(t *testing.T) {
 		"mode":    func() error { _, err := odb.Open(batch, nil, odb.Policy{Mode: 2}); return err },
 		"width":   func() error { _, err := odb.Open(batch, nil, odb.Policy{Width: -1}); return err },
 		"width+":  func() error { _, err := odb.Run(batch, nil, odb.Policy{Width: 1<<32 + 1}); return err },
-		"order":   func() error { _, _, err := odb.Replay(batch, nil, odb.ReplayOptions{Order: 3}); return err },
+		"order":   func() error { _, _, err := odb.Replay(batch, nil, odb.Policy{}, 3); return err },
 		"limit":   func() error { _, _, err := opened(t, string(batch), odb.Policy{}).Part(0); return err },
 		"id":      func() error { return opened(t, string(batch), odb.Policy{}).Start("x") },
 		"root":    func() error { _, err := odb.Perform(nil, batch, nil, odb.Options{Base: "/odata/"}); return err },
@@ -138,12 +138,15 @@ func TestRefusedEvents(t *testing.T) {
 		t.Error(err)
 	}
 	state, status, err := run.State("a")
-	if state != odb.Reported || status != 200 || err != nil {
+	if state != "reported" || status != 200 || err != nil {
 		t.Error(state, status, err)
 	}
-	refused := run.Start("a").(*odb.Refused)
-	if refused.ID != "a" || refused.Name != "AlreadyStarted" || refused.Explanation() == "" {
+	refused := run.Start("a").(*odb.Fault)
+	if refused.Place != "a" || refused.Code != "S1" || refused.Name != "AlreadyStarted" || refused.Line != 0 || refused.Explanation() == "" {
 		t.Errorf("%+v", refused)
+	}
+	if _, _, err := run.State("x"); !errors.Is(err, odb.ErrOption) {
+		t.Error(err)
 	}
 }
 

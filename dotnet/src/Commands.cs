@@ -31,7 +31,8 @@ namespace OdbBatch {
             uint status = Native.List(Room(batch), Likely(batch), (byte[] to, ulong room, out ulong length, Native.FoundFault[] items, ulong most, out ulong count) =>
                 Native.odb_faults(batch.At, batch.Size, ref to[0], room, out length, ref items[0], most, out count, Native.Seed), out byte[] text, out Native.FoundFault[] found);
             if (status != Native.Done && status != Native.Refused) throw Native.Failure(status);
-            return found.Select(it => new Fault(Native.Text(text, it.Code), Native.Text(text, it.Name), Native.Text(text, it.Place), () => it.Position)).ToArray();
+            var words = new Native.Words(text);
+            return found.Select(it => new Fault(words[it.Code], words[it.Name], words[it.Place], () => it.Position)).ToArray();
         }
 
         /// <summary>The requests of a batch in order, with what each depends on.</summary>
@@ -88,7 +89,8 @@ namespace OdbBatch {
             uint status = Native.List(Room(document), Likely(document), (byte[] to, ulong room, out ulong length, Native.Response[] items, ulong most, out ulong count) =>
                 Native.odb_responses(document.At, document.Size, ref to[0], room, out length, ref items[0], most, out count), out byte[] text, out Native.Response[] found);
             Native.Require(status, text, document, document);
-            return found.Select(it => new BatchResponse(it, text, document.Bytes)).ToArray();
+            var words = new Native.Words(text);
+            return found.Select(it => new BatchResponse(it, words, document.Bytes)).ToArray();
         }
 
         /// <summary>What a code means, as F41 or S4: its name and places, what it means, and an example; empty for another text.</summary>

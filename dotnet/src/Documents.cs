@@ -73,16 +73,16 @@ namespace OdbBatch {
     /// <summary>A request, as the batch has it; or as it is sent: then its URL is absolute and in ASCII, references are replaced, and the body
     /// is bytes on the wire.</summary>
     public sealed class BatchRequest {
-        private BatchRequest(Native.Request it, byte[] text, byte[] document, BatchRequest[] before, Dictionary<string, IReadOnlyDictionary<string, string>> known) {
-            Id = Native.Text(text, it.Id); Method = Native.Text(text, it.Method); Url = Native.Text(text, it.Url); Rest = Native.Text(text, it.Rest);
-            Group = Native.Text(text, it.Group); Body = Native.Slice(document, it.Body);
+        private BatchRequest(Native.Request it, Native.Words text, byte[] document, BatchRequest[] before, Dictionary<string, IReadOnlyDictionary<string, string>> known) {
+            Id = text[it.Id]; Method = text[it.Method]; Url = text[it.Url]; Group = text[it.Group]; Body = Native.Slice(document, it.Body);
             Reference = it.Reference == Native.None ? null : before[it.Reference].Id;
-            string headers = Native.Text(text, it.Headers); // which many requests have alike
+            Rest = Reference == null ? Url : text[it.Rest]; Needs = it.Needs.Length == 0 ? new string[0] : text[it.Needs].Split(',');
+            string headers = text[it.Headers]; // which many requests have alike
             Headers = known.TryGetValue(headers, out var found) ? found : known[headers] = Native.Headers(headers);
         }
 
         internal BatchRequest(BatchRequest of, string url, IReadOnlyDictionary<string, string> headers, byte[] body) {
-            Id = of.Id; Method = of.Method; Group = of.Group; Url = Rest = url; Headers = headers; Body = body;
+            Id = of.Id; Method = of.Method; Group = of.Group; Needs = of.Needs; Url = Rest = url; Headers = headers; Body = body;
         }
 
         /// <summary>Its id.</summary>
@@ -99,6 +99,8 @@ namespace OdbBatch {
         public IReadOnlyDictionary<string, string> Headers { get; }
         /// <summary>Its group, or null.</summary>
         public string Group { get; }
+        /// <summary>The ids and groups that it depends on, as a plan has them.</summary>
+        public IReadOnlyList<string> Needs { get; }
         /// <summary>The bytes of its body, or null.</summary>
         public byte[] Body { get; }
 
@@ -112,16 +114,17 @@ namespace OdbBatch {
 
         internal static BatchRequest[] All(Native.Request[] parts, byte[] text, byte[] document) {
             var found = new BatchRequest[parts.Length];
-            var known = new Dictionary<string, IReadOnlyDictionary<string, string>>();
-            for (int i = 0; i < found.Length; i++) found[i] = new BatchRequest(parts[i], text, document, found, known);
+            var known = new Dictionary<string, IReadOnlyDictionary<string, string>> { ["{}"] = new Dictionary<string, string>() };
+            var words = new Native.Words(text);
+            for (int i = 0; i < found.Length; i++) found[i] = new BatchRequest(parts[i], words, document, found, known);
             return found;
         }
     }
 
     /// <summary>A response of a service, as its document has it.</summary>
     public sealed class BatchResponse {
-        internal BatchResponse(Native.Response it, byte[] text, byte[] document) {
-            Id = Native.Text(text, it.Id); Group = Native.Text(text, it.Group); Status = (int)it.Status; Body = Native.Slice(document, it.Body);
+        internal BatchResponse(Native.Response it, Native.Words text, byte[] document) {
+            Id = text[it.Id]; Group = text[it.Group]; Status = (int)it.Status; Body = Native.Slice(document, it.Body);
             byte[] headers = Native.Slice(document, it.Headers);
             Headers = headers == null ? new Dictionary<string, string>() : Native.Headers(headers) ?? Messages.Lowered(Json.Members(headers));
         }

@@ -54,6 +54,8 @@ namespace OdbBatch {
         public int? Column => (int?)position.Value?.Column;
         /// <summary>How many bytes of the document come before the place.</summary>
         public int? Offset => (int?)position.Value?.Offset;
+        /// <summary>How many bytes of the document come before its end.</summary>
+        public int? End => (int?)position.Value?.End;
 
         /// <summary>Code, name and place.</summary>
         public override string ToString() => Code + " " + Name + " " + Place;

@@ -38,8 +38,7 @@ namespace OdbBatch {
         /// <exception cref="FaultException">A document is refused, or an event may not come.</exception>
         public LiveRun(Document batch, RunMode mode = RunMode.Continue, int width = Odb.MaxWidth, byte[] events = null) {
             Document happened = events ?? (Document)"{\"events\":[]}";
-            this.batch = batch;
-            size = batch.Bytes.Length + happened.Bytes.Length;
+            this.batch = batch; size = batch.Bytes.Length + happened.Bytes.Length;
             try {
                 uint status = Native.List(Odb.Room(batch), Odb.Likely(batch), (byte[] to, ulong room, out ulong length, Native.Request[] items, ulong most, out ulong count) =>
                     Native.odb_run_open_requests(batch.At, batch.Size, happened.At, happened.Size, (uint)mode, (uint)width, handle, ref to[0], room, out length, ref items[0], most, out count, Native.Seed),
@@ -47,8 +46,7 @@ namespace OdbBatch {
                 Native.Require(status, text, batch, happened);
                 Requests = BatchRequest.All(found, text, batch.Bytes);
             } catch {
-                handle.Dispose();
-                throw;
+                handle.Dispose(); throw;
             }
             Ids = Requests.Select(it => it.Id).ToArray();
             foreach (string id in Ids) at[id] = (uint)at.Count;
@@ -108,11 +106,13 @@ namespace OdbBatch {
         internal uint TryStartUnit(string id) { uint position = PositionOf(id); lock (gate) return Native.odb_run_start_unit(handle, position); }
 
         /// <summary>The next part of the batch: requests that may be sent together as a batch of their own, and none of which was in a part
-        /// before. What they depend on is in the part or has succeeded; in a URL $a is replaced by the Location that was reported for a. Once
-        /// it is answered, start its units by <see cref="StartUnit"/>, in order, and report their requests.</summary>
+        /// before. What they depend on is in the part or has succeeded; in a URL $a is replaced by the Location that was reported for a, and the
+        /// part ends before the first unit for which there is none. Once it is answered, start its units by <see cref="StartUnit"/>, in order,
+        /// and report their requests.</summary>
         /// <param name="limit">How many requests it may have, from 1 to 10,000.</param>
         /// <returns>The ids and the document; of no ids if nothing may be sent now.</returns>
-        /// <exception cref="FaultException">F90: a request refers to one for which no Location of use was reported.</exception>
+        /// <exception cref="FaultException">F90: no Location of use was reported for the first unit that may begin: start and report that
+        /// one.</exception>
         /// <exception cref="ArgumentException">A group has more requests than the limit.</exception>
         public (IReadOnlyList<string> Ids, byte[] Document) NextPart(int limit = Odb.MaxWidth) {
             lock (gate) {

@@ -101,8 +101,7 @@ namespace OdbBatch {
         internal static BatchAnswer AnswerTo(Exception error) {
             if (error is RefusalException refusal) return refusal.Answer;
             if (error is TimeoutException || error is OperationCanceledException) return new RefusalException(504, "Timeout", "No answer came in time").Answer;
-            if (error is HttpRequestException || error is IOException || error is System.Net.Sockets.SocketException || error is System.Net.WebException)
-                return new RefusalException(502, "BadGateway", "The connection broke before an answer came").Answer;
+            if (error is HttpRequestException || error is IOException || error is System.Net.Sockets.SocketException || error is System.Net.WebException) return new RefusalException(502, "BadGateway", "The connection broke before an answer came").Answer;
             return new RefusalException(500, "InternalError", "The request failed; the log says why").Answer;
         }
     }

@@ -51,13 +51,12 @@ namespace OdbBatch {
         [DllImport(Library)] internal static extern uint odb_run_finished(RunHandle run);
         [DllImport(Library)] internal static extern uint odb_run_response(RunHandle run, ref byte text, ulong room, out ulong length);
         [DllImport(Library)] internal static extern void odb_run_stop(RunHandle run);
-        // A struct of one pointer by value is passed as that pointer on every platform with a library.
         [DllImport(Library)] internal static extern void odb_run_close(IntPtr run);
 
-        [StructLayout(LayoutKind.Sequential)] internal struct Position { internal ulong Line, Column, Offset; }
+        [StructLayout(LayoutKind.Sequential)] internal struct Position { internal ulong Line, Column, Offset, End; }
         [StructLayout(LayoutKind.Sequential)] internal struct Part { internal ulong Start, Length; }
         [StructLayout(LayoutKind.Sequential)] internal struct FoundFault { internal Part Code, Name, Place; internal Position Position; }
-        [StructLayout(LayoutKind.Sequential)] internal struct Request { internal Part Id, Method, Url, Rest, Headers, Group, Body; internal ulong Reference; }
+        [StructLayout(LayoutKind.Sequential)] internal struct Request { internal Part Id, Method, Url, Rest, Headers, Group, Needs, Body; internal ulong Reference; }
         [StructLayout(LayoutKind.Sequential)] internal struct Response { internal Part Id, Group, Headers, Body; internal ulong Status; }
         [StructLayout(LayoutKind.Sequential)] internal struct Header { internal Part Name, Value; }
 
@@ -69,8 +68,7 @@ namespace OdbBatch {
         private static ulong DrawSeed() {
             if (IntPtr.Size != 8) throw new PlatformNotSupportedException("odb_batch needs a process of 64 bits");
             if (odb_version() / 100 != Major * 100 + Minor) throw new DllNotFoundException("odb_batch has the version " + odb_version() + ", and this assembly needs " + Major + "." + Minor);
-            var bytes = new byte[8];
-            using (var source = RandomNumberGenerator.Create()) source.GetBytes(bytes);
+            var bytes = new byte[8]; using (var source = RandomNumberGenerator.Create()) source.GetBytes(bytes);
             return BitConverter.ToUInt64(bytes, 0);
         }
 
@@ -84,14 +82,11 @@ namespace OdbBatch {
         /// <summary>The same of one that lists items, too.</summary>
         internal static uint List<T>(int room, int most, Listing<T> call, out byte[] text, out T[] items) {
             for (;;) {
-                text = new byte[Math.Max(room, 1)];
-                items = new T[Math.Max(most, 1)];
+                text = new byte[Math.Max(room, 1)]; items = new T[Math.Max(most, 1)];
                 uint status = call(text, (ulong)text.Length, out ulong length, items, (ulong)items.Length, out ulong count);
-                room = checked((int)length);
-                most = checked((int)count);
+                room = checked((int)length); most = checked((int)count);
                 if (status == SmallBuffer) continue;
-                Array.Resize(ref text, room);
-                Array.Resize(ref items, most);
+                Array.Resize(ref text, room); Array.Resize(ref items, most);
                 return status;
             }
         }
@@ -115,8 +110,15 @@ namespace OdbBatch {
             status == OutOfMemory ? new OutOfMemoryException("odb_batch ran out of memory")
             : status == WrongOption ? new ArgumentException("an option has none of its values") : (Exception)new InvalidOperationException("odb_batch returned the status " + status);
 
-        /// <summary>The text of a part, or null if there is none.</summary>
-        internal static string Text(byte[] text, Part part) => part.Start == None ? null : Encoding.UTF8.GetString(text, (int)part.Start, (int)part.Length);
+        /// <summary>A text of the library, which is decoded once if each of its bytes is a character.</summary>
+        internal struct Words {
+            private readonly byte[] bytes; private readonly string text;
+            internal Words(byte[] bytes) { this.bytes = bytes; text = Encoding.UTF8.GetString(bytes); }
+
+            /// <summary>A part, or null if there is none.</summary>
+            internal string this[Part part] => part.Start == None ? null
+                : text.Length == bytes.Length ? text.Substring((int)part.Start, (int)part.Length) : Encoding.UTF8.GetString(bytes, (int)part.Start, (int)part.Length);
+        }
 
         /// <summary>The bytes of a part, or null if there is none.</summary>
         internal static byte[] Slice(byte[] text, Part part) => part.Start == None ? null : new ArraySegment<byte>(text, (int)part.Start, (int)part.Length).ToArray();
@@ -125,7 +127,8 @@ namespace OdbBatch {
         internal static Dictionary<string, string> Headers(Document json) {
             uint status = List(json.Bytes.Length, json.Bytes.Length / 8, (byte[] to, ulong room, out ulong length, Header[] items, ulong most, out ulong count) =>
                 odb_headers(json.At, json.Size, ref to[0], room, out length, ref items[0], most, out count), out byte[] text, out Header[] pairs);
-            return status == Done ? pairs.ToDictionary(it => Text(text, it.Name), it => Text(text, it.Value)) : status == Refused ? (Dictionary<string, string>)null : throw Failure(status);
+            var words = new Words(text);
+            return status == Done ? pairs.ToDictionary(it => words[it.Name], it => words[it.Value]) : status == Refused ? (Dictionary<string, string>)null : throw Failure(status);
         }
     }
 
@@ -135,16 +138,14 @@ namespace OdbBatch {
         internal static int Open; // runs that are not closed, for tests
 
         internal RunHandle() : base(true) {
-            SetHandle(Marshal.AllocHGlobal(IntPtr.Size));
-            Marshal.WriteIntPtr(handle, IntPtr.Zero);
+            SetHandle(Marshal.AllocHGlobal(IntPtr.Size)); Marshal.WriteIntPtr(handle, IntPtr.Zero);
             Interlocked.Increment(ref Open);
         }
 
         protected override bool ReleaseHandle() {
             IntPtr run = Marshal.ReadIntPtr(handle);
             if (run != IntPtr.Zero) Native.odb_run_close(run);
-            Marshal.FreeHGlobal(handle);
-            Interlocked.Decrement(ref Open);
+            Marshal.FreeHGlobal(handle); Interlocked.Decrement(ref Open);
             return true;
         }
     }

@@ -35,8 +35,8 @@ namespace OdbBatch {
         internal static string TagIn(BatchRequest request, string name) =>
             request.Headers.TryGetValue(name, out string value) && value.StartsWith("$", StringComparison.Ordinal) ? value.Substring(1) : null;
 
-        /// <summary>The first of some members that is there, or null.</summary>
-        private static string First(IReadOnlyDictionary<string, string> members, params string[] names) => names.Where(members.ContainsKey).Select(it => members[it]).FirstOrDefault();
+        /// <summary>The first of some members that is there and not empty, or null.</summary>
+        private static string First(IReadOnlyDictionary<string, string> members, params string[] names) => names.Where(members.ContainsKey).Select(it => members[it]).FirstOrDefault(it => it != "");
 
         /// <summary>The URL and the ETag of what an answer has created or returned, from its headers or its body; null if it has
         /// none. A URL in the body counts if it is absolute by itself or by the context (section 4.6.1).</summary>

@@ -127,7 +127,6 @@ namespace OdbBatch.Client {
             var requests = Odb.Requests(part);
             var inside = new HashSet<string>(requests.Select(it => it.Id));
             if (!requests.Any(it => it.Url.StartsWith(NoPlace, StringComparison.Ordinal) || Elsewhere(it, inside).Any())) return part;
-            var plan = Odb.Plan(part);
             var dropped = new HashSet<string>();
             foreach (var it in requests) {
                 if (mode == RunMode.Stop && dropped.Count > 0) dropped.Add(it.Group ?? it.Id); // a service that stops does not come to it
@@ -138,16 +137,16 @@ namespace OdbBatch.Client {
             }
             for (int before = -1; before != dropped.Count;) {
                 before = dropped.Count;
-                foreach (var it in plan) if (dropped.Contains(it.Group ?? it.Id) || it.Needs.Any(dropped.Contains)) dropped.UnionWith(new[] { it.Id, it.Group ?? it.Id });
+                foreach (var it in requests) if (dropped.Contains(it.Group ?? it.Id) || it.Needs.Any(dropped.Contains)) dropped.UnionWith(new[] { it.Id, it.Group ?? it.Id });
             }
-            var kept = plan.Where(it => !dropped.Contains(it.Id)).Select(it => Rewritten(requests[it.Position], it.Needs, inside)).ToArray();
+            var kept = requests.Where(it => !dropped.Contains(it.Id)).Select(it => Rewritten(it, inside)).ToArray();
             return kept.Length == 0 ? null : Batch.DocumentOf(kept);
         }
 
-        private byte[] Rewritten(BatchRequest request, IReadOnlyList<string> needs, HashSet<string> inside) {
+        private byte[] Rewritten(BatchRequest request, HashSet<string> inside) {
             var headers = request.Headers.ToDictionary(it => it.Key, it => it.Value);
             foreach (string name in Elsewhere(request, inside)) headers[name] = found[References.TagIn(request, name)].Tag;
-            return Batch.Element(request.Id, request.Group, needs, request.Method, request.Url, headers, request.Body);
+            return Batch.Element(request.Id, request.Group, request.Needs, request.Method, request.Url, headers, request.Body);
         }
 
         /// <summary>The conditions that refer to a request that is answered, and not in the same part.</summary>

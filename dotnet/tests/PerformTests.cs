@@ -221,6 +221,7 @@ public class PerformTests {
         Assert.AreEqual("a200 b200 c424: Books(1)?x=1, B(3)/Pages", sent("post", "OData-EntityId", "B(3)", "[]").Replace("Books(1)/B", "B"));
         Assert.AreEqual("a200 b424 c424: Books(1)?x=1", sent("post", null, null, "{\"@odata.etag\":\"8\"}"));
         Assert.AreEqual("a200 b404 c404: Books(1)?x=1", sent("post", "Location", "https://other/", null));
+        Assert.AreEqual("a200 b424 c424: Books(1)?x=1", sent("post", "Location", "", null));
         Assert.AreEqual("a200 b200 c200: Books(1)?x=1, B(4)/Pages, B(4) \"9\"",
             sent("post", null, null, "{\"x\":{\"@id\":\"no\"},\"@odata.context\":\"https://host/odata/$metadata#B/$entity\",\"@odata.id\":\"B(4)\",\"@odata.etag\":\"\\u00229\\\"\"}"));
         Assert.AreEqual("a200 b200 c200: Books(1)?x=1, B(5)/Pages, B(5) 9", sent("post", null, null, "{\"@id\":\"https://host/odata/B(5)\",\"@etag\":\"9\"}"));

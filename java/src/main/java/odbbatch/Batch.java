@@ -70,9 +70,7 @@ public final class Batch {
         private String id;
 
         private Adding(String method, Object url, Object body) {
-            this.method = method;
-            this.url = url.toString();
-            this.body = body;
+            this.method = method; this.url = url.toString(); this.body = body;
             refer(this.url.split("[/?#]", 2)[0]);
         }
 
@@ -190,8 +188,7 @@ public final class Batch {
         byte[] body = it.body == null ? null : Bodies.toJson(written(it.body), it.headers);
         Set<String> needs = new LinkedHashSet<>(it.needs);
         it.needs.forEach(name -> needs.add(groups.get(name)));
-        needs.remove(null);
-        needs.remove(open);
+        needs.removeAll(Arrays.asList(null, open));
         elements.add(Map.entry(id, element(id, open, needs, it.method, it.url, it.headers, body)));
         groups.put(id, open);
         if (open != null) { groups.put(open, open); }
@@ -232,16 +229,13 @@ public final class Batch {
      */
     public Name group(Runnable add) {
         if (open != null) { throw new IllegalStateException("a group cannot be in another one"); }
-        int begun = elements.size();
         open = free("g", groupCount++);
         try {
             add.run();
             return new Name(open);
         } catch (RuntimeException | Error error) {
-            List<Map.Entry<String, byte[]>> added = elements.subList(begun, elements.size());
-            added.forEach(it -> groups.remove(it.getKey()));
-            added.clear();
-            groups.remove(open);
+            elements.removeIf(it -> open.equals(groups.get(it.getKey())));
+            groups.values().removeIf(open::equals);
             throw error;
         } finally {
             open = null;

@@ -5,6 +5,7 @@ import java.net.URI;
 import java.net.http.*;
 import java.time.Duration;
 import java.util.*;
+import java.util.stream.Collectors;
 
 /**
  * Posts batches to a service, in parts if it takes few requests at once. Threads may share one that is not changed any more.
@@ -30,10 +31,8 @@ public final class BatchClient {
      * @param url the URL to which batches are posted
      */
     public BatchClient(HttpClient client, URI url) {
-        this.client = client;
-        this.url = url;
-        headers.put("content-type", "application/json");
-        headers.put("accept", "application/json");
+        this.client = client; this.url = url;
+        headers.putAll(Map.of("content-type", "application/json", "accept", "application/json"));
     }
 
     /**
@@ -94,41 +93,52 @@ public final class BatchClient {
             Exception error = null;
             try {
                 for (Optional<LiveRun.Part> part; error == null && (part = run.part(limit)).isPresent();) { error = sent(run, part.get(), found); }
-            } catch (FaultException fault) {
-                error = fault; // a request refers to a part that was answered without a Location
+            } catch (FaultException | IllegalStateException unsent) {
+                error = unsent; // a request refers to a part that was answered without a Location or an ETag
             }
-            run.stop();
-            byte[] response = run.response();
-            return new BatchResults(found, error, () -> withTags(Odb.rest(document, response, mode), found));
+            return new BatchResults(found, error, () -> withTags(Odb.rest(document, responses(run.requests(), found), Mode.CONTINUE), found));
         }
     }
 
     /** Sends a part, and takes what its requests are answered; returns why nothing more is sent. */
     private Exception sent(LiveRun run, LiveRun.Part part, Map<String, Answer> found) {
-        Exception error = null;
-        Map<String, Answer> answers = new LinkedHashMap<>();
+        byte[] document = withTags(part.document(), found);
+        Exception error;
+        Answer inPlace;
         try {
-            byte[] document = withTags(part.document(), found);
-            Answer answer = posted(document);
-            if (answer.isSuccess()) {
-                byte[] responses = Bodies.toJson(answer.body(), Map.of());
-                Odb.match(document, responses, mode, false).forEach((id, status) -> answers.put(id, Answer.of(status)));
-                answers.putAll(Odb.responses(responses));
-            } else {
-                error = new IOException("a part of the batch was answered " + answer.status());
-                part.ids().forEach(id -> answers.put(id, answer));
+            inPlace = posted(document);
+            if (inPlace.isSuccess()) {
+                byte[] responses = Bodies.toJson(inPlace.body(), Map.of());
+                Odb.match(document, responses, mode, 0);
+                Odb.responses(responses).forEach((id, answer) -> take(run, id, answer, found));
+                return null;
             }
-        } catch (IllegalStateException unsent) {
-            return unsent;
+            error = new IOException("a part of the batch was answered " + inPlace.status());
         } catch (IOException | InterruptedException | FaultException failed) {
             if (failed instanceof InterruptedException) { Thread.currentThread().interrupt(); }
             error = failed;
-            Answer inPlace = failed instanceof FaultException ? Answer.of(502) : RefusalException.answerTo(failed);
-            part.ids().forEach(id -> answers.put(id, inPlace));
+            inPlace = failed instanceof FaultException ? Answer.of(502) : RefusalException.answerTo(failed);
         }
-        found.putAll(answers);
-        part.ids().forEach(id -> report(run, id, answers.get(id)));
+        for (String id : part.ids()) { found.put(id, inPlace); }
         return error;
+    }
+
+    /** Notes an answer. One that may not start, since others have failed, is skipped by the run. */
+    private static void take(LiveRun run, String id, Answer answer, Map<String, Answer> found) {
+        found.put(id, answer);
+        if (run.state(id) != LiveRun.State.RUNNING && run.tryStartUnit(id) != OdbLibrary.DONE) { return; }
+        Map<String, String> headers = References.locationOf(answer.headers()).map(place -> Map.of("location", place)).orElse(null);
+        run.report(id, answer.status() < 200 ? 502 : answer.status(), headers, null);
+    }
+
+    /** A response document with statuses and Locations. */
+    private static byte[] responses(List<Odb.Request> requests, Map<String, Answer> found) {
+        return Bodies.joined(requests.stream().map(it -> {
+            Answer answer = found.get(it.id());
+            String group = it.group().map(name -> ",\"atomicityGroup\":" + Bodies.quoted(name)).orElse("");
+            String headers = References.locationOf(answer.headers()).map(place -> ",\"headers\":" + Bodies.object(Map.of("location", place))).orElse("");
+            return "{\"id\":" + Bodies.quoted(it.id()) + group + ",\"status\":" + (answer.status() < 200 ? 502 : answer.status()) + headers + "}";
+        }).collect(Collectors.joining(",", "{\"responses\":[", "]}")));
     }
 
     private Answer posted(byte[] document) throws IOException, InterruptedException {
@@ -136,13 +146,6 @@ public final class BatchClient {
         headers.forEach(request::setHeader);
         if (mode == Mode.CONTINUE) { request.header("prefer", "continue-on-error"); }
         return PreparedRequest.exchange(client, request, timeout);
-    }
-
-    /** Notes an answer, with what later parts refer to. What the run has skipped was not performed by the service either. */
-    private static void report(LiveRun run, String id, Answer answer) {
-        if (run.state(id) != LiveRun.State.RUNNING && run.tryStartUnit(id) != OdbLibrary.DONE) { return; }
-        String location = answer.headers().getOrDefault("location", answer.headers().get("odata-entityid"));
-        run.report(id, answer.status() < 200 ? 502 : answer.status(), location == null ? null : Map.of("location", location), null);
     }
 
     /**
@@ -156,14 +159,13 @@ public final class BatchClient {
         requests.forEach(it -> elsewhere.remove(it.id()));
         if (requests.stream().allMatch(it -> References.tags(it.headers(), elsewhere).isEmpty())) { return document; }
         List<byte[]> elements = new ArrayList<>();
-        for (Odb.PlannedRequest planned : Odb.plan(document)) {
-            Odb.Request it = requests.get(planned.position());
+        for (Odb.Request it : requests) {
             Map<String, String> headers = it.headers();
             References.tags(headers, elsewhere).forEach((name, other) -> {
                 headers.put(name, found.get(other).headers().get("etag"));
                 if (headers.get(name) == null) { throw new IllegalStateException(it.id() + " refers to " + other + ", which was answered without an ETag"); }
             });
-            elements.add(Batch.element(it.id(), planned.group().orElse(null), planned.needs(), it.method(), it.url(), headers, it.body()));
+            elements.add(Batch.element(it.id(), it.group().orElse(null), it.needs(), it.method(), it.url(), headers, it.body()));
         }
         return Batch.document(elements);
     }

@@ -6,7 +6,6 @@ import java.net.URI;
 import java.util.*;
 import java.util.concurrent.*;
 import java.util.concurrent.atomic.AtomicReference;
-import java.util.concurrent.locks.*;
 import java.util.function.BooleanSupplier;
 
 /**
@@ -150,7 +149,7 @@ public final class BatchPerformer {
             }
             ExecutorService threads = pool == null && width > 1 ? Executors.newCachedThreadPool() : pool;
             try {
-                new Work(run, send, transaction, threads).perform();
+                new Work(run, send, transaction, width == 1 ? Runnable::run : threads).perform();
             } finally {
                 if (threads != pool) { threads.shutdown(); }
             }
@@ -158,74 +157,54 @@ public final class BatchPerformer {
         }
     }
 
-    /** A batch on its way. The thread of the caller performs units, and others help it: with none of them it still comes to its end. */
+    /** A batch on its way. The thread of the caller begins units, and performs those that no other thread takes. */
     private final class Work {
         private final LiveRun run;
         private final References references;
         private final Send send;
         private final Transaction transaction;
         private final Executor threads;
-        private final ReentrantLock lock = new ReentrantLock(); // over what follows
-        private final Condition changed = lock.newCondition();
-        private final Set<Thread> busy = new HashSet<>();
-        private int workers = 1;
+        private final Queue<List<String>> pending = new ConcurrentLinkedQueue<>(); // units that no thread performs yet
+        private final Semaphore ended = new Semaphore(0);
+        private final Set<Thread> busy = new HashSet<>(); // and a lock over it and isOver, in which nothing blocks
         private boolean isOver;
-        private Throwable failure;
+        private volatile Throwable failure;
 
         Work(LiveRun run, Send send, Transaction transaction, Executor threads) {
-            this.run = run;
-            this.send = send;
-            this.transaction = transaction;
-            this.threads = threads;
+            this.run = run; this.send = send; this.transaction = transaction; this.threads = threads;
             references = new References(run.requests(), base, roots);
         }
 
         /** Performs all units. However it ends, those that are out are interrupted and awaited: send must not go on over a closed run. */
         void perform() throws InterruptedException {
+            Thread caller = Thread.currentThread();
+            int out = 0, patience = 20; // for how many milliseconds other threads may leave a unit
             try {
-                work();
-            } finally {
-                lock.lock();
-                isOver = true;
-                busy.forEach(Thread::interrupt);
-                changed.signalAll();
-                while (!busy.isEmpty()) { changed.awaitUninterruptibly(); }
-                lock.unlock();
-            }
-            if (failure instanceof Error) { throw (Error) failure; }
-            if (failure != null) { throw (RuntimeException) failure; }
-        }
-
-        private void work() throws InterruptedException {
-            for (List<String> unit; (unit = next()) != null;) {
-                Throwable error = null;
-                try {
-                    unit(unit);
-                } catch (RuntimeException | Error thrown) {
-                    error = thrown;
-                }
-                ended(error);
-            }
-        }
-
-        /** Begins the next unit, once one may begin; null if none will. */
-        private List<String> next() throws InterruptedException {
-            lock.lockInterruptibly();
-            try {
-                for (;; changed.await()) {
-                    List<String> unit = isOver ? null : begin();
+                while (failure == null) {
+                    List<String> unit = out < width ? begin() : null;
+                    if (unit == null && out == 0) { break; }
                     if (unit != null) {
-                        callHelp();
-                        busy.add(Thread.currentThread());
-                        return unit;
-                    } else if (isOver || busy.isEmpty()) {
-                        changed.signal(); // another one that waits finds the same
-                        return null;
+                        submit(unit, caller);
+                        out++;
+                    } else if (ended.tryAcquire(patience, TimeUnit.MILLISECONDS)) {
+                        out--;
+                    } else if (performPending(caller)) {
+                        patience = 0;
+                    } else {
+                        ended.acquire();
+                        out--;
                     }
                 }
             } finally {
-                lock.unlock();
+                synchronized (busy) {
+                    isOver = true;
+                    busy.forEach(Thread::interrupt);
+                }
+                while (performPending(caller)) { continue; }
+                ended.acquireUninterruptibly(out);
             }
+            if (failure instanceof Error) { throw (Error) failure; }
+            if (failure != null) { throw (RuntimeException) failure; }
         }
 
         /** Starts the first request of the first unit that may begin, else nextUnit would return it again; null if none may now. */
@@ -235,36 +214,31 @@ public final class BatchPerformer {
             return unit.isEmpty() || run.tryStart(unit.get(0)) != OdbLibrary.DONE ? null : unit; // meanwhile an error may have stopped the run
         }
 
-        /** Has another thread begin a further unit, if one may begin. */
-        private void callHelp() {
-            boolean isAnyIdle = lock.hasWaiters(changed);
-            if (isAnyIdle) { changed.signal(); }
-            if (isAnyIdle || workers == width || run.nextUnit().isEmpty()) { return; }
+        private void submit(List<String> unit, Thread caller) {
+            pending.add(unit);
             try {
-                threads.execute(this::help);
-                workers++;
+                threads.execute(() -> performPending(caller));
             } catch (RejectedExecutionException | OutOfMemoryError error) { // as of a system with no more threads
                 LOG.log(Level.WARNING, "the pool takes no more units, so fewer threads perform them");
             }
         }
 
-        private void help() {
+        /** Performs a unit that no thread performs yet; returns whether there was one. */
+        private boolean performPending(Thread caller) {
+            List<String> ids = pending.poll();
+            if (ids == null) { return false; }
+            Thread thread = Thread.currentThread();
+            boolean isBegun;
+            synchronized (busy) { isBegun = !isOver && busy.add(thread); }
             try {
-                work();
-            } catch (InterruptedException error) {
-                LOG.log(Level.DEBUG, "a thread of the pool was interrupted");
-            } finally {
-                Thread.interrupted(); // the next task of this thread is another's
+                if (isBegun) { unit(ids); }
+            } catch (RuntimeException | Error thrown) {
+                failure = thrown;
             }
-        }
-
-        private void ended(Throwable error) {
-            lock.lock();
-            failure = error == null ? failure : error;
-            isOver |= error != null;
-            busy.remove(Thread.currentThread());
-            changed.signal();
-            lock.unlock();
+            synchronized (busy) { busy.remove(thread); }
+            if (thread != caller) { Thread.interrupted(); } // the next task of this thread is another's
+            ended.release();
+            return true;
         }
 
         /** Performs a unit whose first request has started. */

@@ -11,9 +11,7 @@ public final class BatchResults {
     private final Supplier<byte[]> rest;
 
     BatchResults(Map<String, Answer> found, Exception error, Supplier<byte[]> rest) {
-        this.found = found;
-        this.error = error;
-        this.rest = rest;
+        this.found = found; this.error = error; this.rest = rest;
     }
 
     /**

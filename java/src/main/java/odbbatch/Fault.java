@@ -12,11 +12,7 @@ public final class Fault {
 
     /** A fault in a document, or at a position; with neither it has none. */
     Fault(String code, String name, String place, byte[] document, long[] position) {
-        this.code = code;
-        this.name = name;
-        this.place = place;
-        this.document = document;
-        this.position = position;
+        this.code = code; this.name = name; this.place = place; this.document = document; this.position = position;
     }
 
     /** The fault of a line {@code fault CODE NAME PLACE}. */
@@ -75,10 +71,17 @@ public final class Fault {
      */
     public OptionalInt offset() { return at(2); }
 
+    /**
+     * How many bytes of the document come before the end of the place.
+     *
+     * @return a number from 0; none for a fault that a live run has found
+     */
+    public OptionalInt end() { return at(3); }
+
     private OptionalInt at(int number) {
         long[] found = position;
         if (found == null && document != null) {
-            found = new long[3];
+            found = new long[4];
             byte[] path = bytes(place);
             settle(odb_where(some(document), document.length, path, path.length, found));
             position = found;

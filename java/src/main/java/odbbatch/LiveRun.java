@@ -96,16 +96,13 @@ public final class LiveRun implements AutoCloseable {
         Written found = listOver(batch, events, OF_REQUEST, (text, room, length, numbers, most, count) ->
             odb_run_open_requests(some(batch), batch.length, some(events), events.length, mode.ordinal(), width, handle.at,
                 text, room, length, numbers, most, count, SEED));
-        handle.isOpen = true;
-        OPEN.incrementAndGet();
-        this.batch = batch;
-        requests = Odb.Request.all(found, batch);
+        handle.isOpen = true; OPEN.incrementAndGet();
+        this.batch = batch; requests = Odb.Request.all(found, batch);
         for (Odb.Request request : requests) {
             positions.put(request.id(), ids.size());
             ids.add(request.id());
         }
-        listed = new int[ids.size() + 1];
-        size = batch.length + events.length;
+        listed = new int[ids.size() + 1]; size = batch.length + events.length;
     }
 
     /** Calls a function over the open run, by one thread at a time; the run is not collected meanwhile. */
@@ -183,11 +180,11 @@ public final class LiveRun implements AutoCloseable {
     /**
      * The next part of the batch: requests that were in none before, and that depend on what is in it or has succeeded. Once it is answered,
      * start its units one after another by {@link #startUnit}, and report their requests. A reference to an earlier part is replaced by
-     * the Location that was reported.
+     * the Location that was reported; the part ends before the first unit for which there is none.
      *
      * @param limit how many requests it may have, from 1
      * @return the part; none if nothing may be sent now
-     * @throws FaultException a request refers to one for which no Location of use was reported (F90)
+     * @throws FaultException no Location of use was reported for the first unit that may begin (F90): start and report that one
      * @throws IllegalArgumentException a group has more requests than the limit
      */
     public Optional<Part> part(int limit) {

@@ -134,7 +134,7 @@ public final class Odb {
          * @return its id
          */
         public Optional<String> reference() {
-            return found.numbers[at + 14] == NONE ? Optional.empty() : Optional.of(found.part(OF_REQUEST * (int) found.numbers[at + 14]));
+            return found.numbers[at + 16] == NONE ? Optional.empty() : Optional.of(found.part(OF_REQUEST * (int) found.numbers[at + 16]));
         }
 
         /**
@@ -161,11 +161,21 @@ public final class Odb {
         public Optional<String> group() { return Optional.ofNullable(found.part(at + 10)); }
 
         /**
+         * What it depends on.
+         *
+         * @return ids and groups, as a plan has them
+         */
+        public List<String> needs() {
+            String names = found.part(at + 12);
+            return names.isEmpty() ? List.of() : List.of(names.split(","));
+        }
+
+        /**
          * Its body.
          *
          * @return a copy of the bytes in the document; null if it has none
          */
-        public byte[] body() { return found.part(document, at + 12); }
+        public byte[] body() { return found.part(document, at + 14); }
     }
 
     /** What a replay did. */
@@ -212,7 +222,7 @@ public final class Odb {
         if (found.status != REFUSED) { settle(found.status); }
         List<Fault> faults = new ArrayList<>();
         for (int at = 0; at < OF_FAULT * found.count; at += OF_FAULT) {
-            faults.add(new Fault(found.part(at), found.part(at + 2), found.part(at + 4), null, Arrays.copyOfRange(found.numbers, at + 6, at + 9)));
+            faults.add(new Fault(found.part(at), found.part(at + 2), found.part(at + 4), null, Arrays.copyOfRange(found.numbers, at + 6, at + OF_FAULT)));
         }
         return faults;
     }
@@ -238,20 +248,6 @@ public final class Odb {
      */
     public static byte[] canon(byte[] batch) {
         return writeOver(batch, null, (to, room, length) -> odb_canon_as(some(batch), batch.length, 0, to, room, length, SEED)).withoutNewline();
-    }
-
-    /**
-     * Matches the response document of a service against a batch.
-     *
-     * @param batch the batch
-     * @param responses the response document
-     * @param mode STOP if the service stops at its first error: what it left out is 424 then
-     * @param isStrict whether some run has to answer these statuses, too
-     * @return the status of each request by its id, in the order of the batch
-     * @throws FaultException a document is refused, or they do not fit
-     */
-    public static Map<String, Integer> match(byte[] batch, byte[] responses, Mode mode, boolean isStrict) {
-        return match(batch, responses, mode, isStrict ? 1 : 0);
     }
 
     /**

@@ -12,7 +12,7 @@ final class OdbLibrary {
     /** Where a part starts that a request does not have. */
     static final long NONE = -1;
     /** How many numbers the structures have: a part is a start and a length. */
-    static final int OF_FAULT = 9, OF_REQUEST = 15, OF_RESPONSE = 9, OF_HEADER = 4;
+    static final int OF_FAULT = 10, OF_REQUEST = 17, OF_RESPONSE = 9, OF_HEADER = 4;
     /** The version that this package is made for; the library may have another patch. */
     static final int MAJOR = 0, MINOR = 2;
     /** Drawn once, and kept secret: nobody can choose names that make a call slow. */
@@ -73,7 +73,7 @@ final class OdbLibrary {
     static native int odb_run_finished(Pointer run);
     static native int odb_run_response(Pointer run, byte[] text, long room, long[] length);
     static native void odb_run_stop(Pointer run);
-    static native void odb_run_close(Pointer run); // a struct of one pointer by value is passed as that pointer
+    static native void odb_run_close(Pointer run);
 
     /** A call that writes a text. */
     interface Writing { int write(byte[] text, long room, long[] length); }
@@ -88,10 +88,7 @@ final class OdbLibrary {
         final long[] numbers;
 
         private Written(int status, byte[] text, long[] numbers, int count) {
-            this.status = status;
-            this.text = text;
-            this.numbers = numbers;
-            this.count = count;
+            this.status = status; this.text = text; this.numbers = numbers; this.count = count;
         }
 
         /** This, if the call is done; else throws what it returns, as the fault of one of two documents. */
@@ -126,8 +123,7 @@ final class OdbLibrary {
             long[] numbers = new long[width * most];
             int status = call.list(text, text.length, length, numbers, most, count);
             if (status != SMALL_BUFFER) { return new Written(status, Arrays.copyOf(text, (int) length[0]), numbers, (int) count[0]); }
-            room = Math.max(room, Math.toIntExact(length[0]));
-            most = Math.max(most, (int) count[0]);
+            room = Math.max(room, Math.toIntExact(length[0])); most = Math.max(most, (int) count[0]);
         }
     }
 

@@ -15,10 +15,7 @@ public final class PreparedRequest {
     private final byte[] body;
 
     PreparedRequest(Odb.Request of, String url, Map<String, String> headers, byte[] body) {
-        this.of = of;
-        this.url = url;
-        this.headers = headers;
-        this.body = body;
+        this.of = of; this.url = url; this.headers = headers; this.body = body;
     }
 
     /**

@@ -5,7 +5,7 @@ import static odbbatch.OdbLibrary.*;
 import java.net.URI;
 import java.util.*;
 import java.util.concurrent.ConcurrentHashMap;
-import java.util.stream.Collectors;
+import java.util.stream.*;
 
 /**
  * What the references of requests stand for (OData JSON Format 4.01, sections 19.2 and 19.3), by the headers of answers. Threads may share
@@ -60,8 +60,8 @@ final class References {
 
     private String tagOf(String id) {
         boolean isAnswered = answers.containsKey(id);
-        String tag = isAnswered ? answers.get(id).headers().get("etag") : null, why = isAnswered ? " was answered without an ETag" : " is not answered yet";
-        if (tag == null) { throw new RefusalException(isAnswered ? 424 : 400, "NoETag", id + why, id, Map.of()); }
+        String tag = isAnswered ? answers.get(id).headers().getOrDefault("etag", "") : "", why = isAnswered ? " was answered without an ETag" : " is not answered yet";
+        if (tag.isEmpty()) { throw new RefusalException(isAnswered ? 424 : 400, "NoETag", id + why, id, Map.of()); }
         return tag;
     }
 
@@ -76,9 +76,13 @@ final class References {
 
     /** The URL of what a request has created or returned, with what follows a reference to it. */
     private String below(Odb.Request other, String rest) {
-        Map<String, String> headers = answers.get(other.id()).headers();
-        String location = headers.getOrDefault("location", headers.getOrDefault("odata-entityid", ""));
+        String location = locationOf(answers.get(other.id()).headers()).orElse("");
         return sent(resolve(rest, urlOf(other), location, other.method().equals("POST") ? 1 : 0), other.id());
+    }
+
+    /** The URL of what a request has created or returned, by the headers of its answer. */
+    static Optional<String> locationOf(Map<String, String> headers) {
+        return Stream.of("location", "odata-entityid").map(headers::get).filter(it -> it != null && !it.isEmpty()).findFirst();
     }
 
     private Written resolve(String url, String sent, String location, int post) {

@@ -39,8 +39,7 @@ public final class RefusalException extends RuntimeException {
         if (status < 400 || status > 599) { throw new IllegalArgumentException("a refusal has a status from 400 to 599, not " + status); }
         Map<String, String> error = new TreeMap<>(Map.of("code", code, "message", message));
         if (target != null) { error.put("target", target); }
-        Map<String, String> all = new LinkedHashMap<>(headers);
-        all.put("content-type", "application/json");
+        Map<String, String> all = new LinkedHashMap<>(headers); all.put("content-type", "application/json");
         answer = Answer.of(status, all, bytes("{\"error\":" + Bodies.object(error) + "}"));
     }
 

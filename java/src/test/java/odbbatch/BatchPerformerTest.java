@@ -170,6 +170,15 @@ class BatchPerformerTest {
     }
 
     @Test
+    void anEmptyLocationIsShownAndIsNone() throws Exception {
+        byte[] batch = bytes("{\"requests\":[{\"id\":\"a\",\"method\":\"post\",\"url\":\"A\"},{\"id\":\"b\",\"method\":\"get\",\"url\":\"$a/x\",\"dependsOn\":[\"a\"]},"
+            + "{\"id\":\"c\",\"method\":\"get\",\"url\":\"C\",\"dependsOn\":[\"a\"],\"headers\":{\"If-Match\":\"$a\"}}]}");
+        byte[] response = BatchPerformer.of(batch, BASE).perform(request -> Answer.of(201, Map.of("Location", "", "ETag", ""), null));
+        assertEquals("a201 b424 c424", statuses(batch, response));
+        assertTrue(text(response).contains("\"location\":\"\""), text(response));
+    }
+
+    @Test
     void aBaseHasToBeOne() {
         for (String base : new String[] {"https://host/odata", "/odata/", "https://host/odata/?x=/", "https://me@host/"}) {
             assertThrows(IllegalArgumentException.class, () -> BatchPerformer.of(many(1, ""), URI.create(base)).perform(it -> CREATED), base);
@@ -242,7 +251,7 @@ class BatchPerformerTest {
             byte[] batch = many(1000, "");
             byte[] response = BatchPerformer.of(batch, BASE).mode(Mode.STOP).width(width).perform(request -> Answer.of(count.incrementAndGet() == 5 ? 500 : 200));
             assertTrue(count.get() < 5 + 2 * width, () -> count + " were sent");
-            assertEquals(1, Odb.match(batch, response, Mode.STOP, true).values().stream().filter(it -> it == 500).count());
+            assertEquals(1, Odb.match(batch, response, Mode.STOP, 1).values().stream().filter(it -> it == 500).count());
         }
     }
 
@@ -253,7 +262,7 @@ class BatchPerformerTest {
             byte[] batch = many(1000, "");
             byte[] response = BatchPerformer.of(batch, BASE).width(width).stop(() -> count.get() >= 10).perform(request -> Answer.of(200 + 0 * count.incrementAndGet()));
             assertTrue(count.get() < 10 + width, () -> count + " were sent");
-            assertTrue(Odb.match(batch, response, Mode.CONTINUE, false).values().stream().filter(it -> it == 424).count() > 900);
+            assertTrue(Odb.match(batch, response, Mode.CONTINUE, 0).values().stream().filter(it -> it == 424).count() > 900);
         }
     }
 
@@ -262,9 +271,9 @@ class BatchPerformerTest {
         byte[] apart = many(10_000, "");
         byte[] group = many(10_000, "\"atomicityGroup\":\"g\",");
         for (int width : new int[] {1, 8, 100}) {
-            assertEquals(10_000, Odb.match(apart, BatchPerformer.of(apart, BASE).width(width).perform(it -> Answer.of(204)), Mode.CONTINUE, true).size());
+            assertEquals(10_000, Odb.match(apart, BatchPerformer.of(apart, BASE).width(width).perform(it -> Answer.of(204)), Mode.CONTINUE, 1).size());
             byte[] response = BatchPerformer.of(group, BASE).width(width).perform(it -> Answer.of(204), (name, body) -> body.run());
-            assertEquals(10_000, Odb.match(group, response, Mode.CONTINUE, true).size());
+            assertEquals(10_000, Odb.match(group, response, Mode.CONTINUE, 1).size());
         }
     }
 
@@ -300,7 +309,7 @@ class BatchPerformerTest {
                 body.run();
                 now.decrementAndGet();
             });
-            assertEquals(600, Odb.match(batch, response, Mode.CONTINUE, true).values().stream().filter(it -> it == 204).count());
+            assertEquals(600, Odb.match(batch, response, Mode.CONTINUE, 1).values().stream().filter(it -> it == 204).count());
             assertEquals(width, most.get());
         }
     }
@@ -315,7 +324,7 @@ class BatchPerformerTest {
         byte[] batch = many(100, "");
         for (ExecutorService pool : List.of(full, ended)) {
             byte[] response = BatchPerformer.of(batch, BASE).width(8).pool(pool).perform(it -> Answer.of(204));
-            assertEquals(100, Odb.match(batch, response, Mode.CONTINUE, true).size());
+            assertEquals(100, Odb.match(batch, response, Mode.CONTINUE, 1).size());
         }
         end.countDown();
         full.shutdown();
@@ -326,7 +335,7 @@ class BatchPerformerTest {
     void aPoolMayFail() throws Exception {
         byte[] batch = many(100, "");
         BatchPerformer few = BatchPerformer.of(batch, BASE).width(8).pool(failing(new OutOfMemoryError("unable to create native thread")));
-        assertEquals(100, Odb.match(batch, few.perform(it -> Answer.of(204)), Mode.CONTINUE, true).size());
+        assertEquals(100, Odb.match(batch, few.perform(it -> Answer.of(204)), Mode.CONTINUE, 1).size());
         IllegalStateException broken = new IllegalStateException("broken");
         BatchPerformer none = BatchPerformer.of(batch, BASE).width(8).pool(failing(broken));
         assertEquals(broken, assertThrows(IllegalStateException.class, () -> none.perform(it -> Answer.of(204))));

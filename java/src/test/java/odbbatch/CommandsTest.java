@@ -29,7 +29,7 @@ class CommandsTest {
 
     @Test
     void aFaultOfASecondDocumentIsThere() {
-        FaultException error = assertThrows(FaultException.class, () -> Odb.match(Texts.USUAL, bytes("\n\n [1]"), Mode.CONTINUE, false));
+        FaultException error = assertThrows(FaultException.class, () -> Odb.match(Texts.USUAL, bytes("\n\n [1]"), Mode.CONTINUE, 0));
         assertEquals(3, error.fault().line().getAsInt());
         assertEquals(3, error.fault().offset().getAsInt());
     }

@@ -146,7 +146,7 @@ class LiveRunTest {
             it.join(60_000);
         }
         assertEquals(4000, started.get());
-        assertEquals(4000, Odb.match(batch, run.response(), Mode.CONTINUE, true).size());
+        assertEquals(4000, Odb.match(batch, run.response(), Mode.CONTINUE, 1).size());
         run.close();
     }
 

@@ -33,7 +33,7 @@ final class Texts {
     /** The statuses in a response to a batch, which some run has to answer. */
     static String statuses(byte[] batch, byte[] response) {
         StringBuilder found = new StringBuilder();
-        Odb.match(batch, response, Mode.CONTINUE, true).forEach((id, status) -> found.append(id).append(status).append(' '));
+        Odb.match(batch, response, Mode.CONTINUE, 1).forEach((id, status) -> found.append(id).append(status).append(' '));
         return found.toString().trim();
     }
 }

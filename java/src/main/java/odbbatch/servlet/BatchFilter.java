@@ -1,11 +1,13 @@
 package odbbatch.servlet;
 
-import java.io.IOException;
+import java.io.*;
 import java.lang.System.Logger;
 import java.lang.System.Logger.Level;
 import java.net.*;
 import java.time.Duration;
 import java.util.*;
+import java.util.concurrent.*;
+import java.util.concurrent.atomic.AtomicLong;
 import javax.servlet.*;
 import javax.servlet.http.*;
 import odbbatch.*;
@@ -33,8 +35,10 @@ public final class BatchFilter implements Filter {
     private final String path;
     private final BatchPerformer.Transaction transaction;
     private final Set<String> allowed = new TreeSet<>();
+    private final AtomicLong room = new AtomicLong(268_435_456);
     private int limit = 1000, maxBytes = Odb.MAX_BYTES;
-    private Duration deadline = Duration.ofDays(1);
+    private Duration timeout = Duration.ofSeconds(30), deadline = Duration.ofDays(1);
+    private ScheduledThreadPoolExecutor timer;
 
     /**
      * A filter for a path of batches.
@@ -62,6 +66,24 @@ public final class BatchFilter implements Filter {
     public BatchFilter maxBytes(int maxBytes) { this.maxBytes = maxBytes; return this; }
 
     /**
+     * How many bytes all batches may have at once, with the bodies of their answers: over this a batch, and a GET in one, is answered 503, and
+     * a write keeps its status, but loses its body. Bodies are copied, so a process needs four times as much.
+     *
+     * @param memory a number of at least maxBytes; without it 268,435,456
+     * @return this filter
+     */
+    public BatchFilter memory(long memory) { room.set(memory); return this; }
+
+    /**
+     * How long a request of a batch may take. Then its thread is interrupted, and if it ends by an exception, it is answered 504: a servlet that
+     * ignores interrupts holds its batch. An interrupt closes the channel of a file that the thread reads.
+     *
+     * @param timeout a duration; without it 30 seconds
+     * @return this filter
+     */
+    public BatchFilter timeout(Duration timeout) { this.timeout = timeout; return this; }
+
+    /**
      * How long a batch may take. Then nothing more starts, what has not started is answered 424, and what runs is waited for.
      *
      * @param deadline a duration; without it a day
@@ -79,6 +101,7 @@ public final class BatchFilter implements Filter {
 
     /** Logs how the filter and the others have to be mapped. Without the library the application does not start. */
     @Override public void init(FilterConfig config) {
+        timer = new ScheduledThreadPoolExecutor(1); timer.setRemoveOnCancelPolicy(true);
         Set<String> others = new TreeSet<>(config.getServletContext().getFilterRegistrations().keySet());
         others.remove(config.getFilterName());
         LOG.log(Level.INFO, "answers batches at " + path + ". Map this filter to that path alone, before all others, with DispatcherType.REQUEST,"
@@ -86,7 +109,7 @@ public final class BatchFilter implements Filter {
             + " Other filters: " + others + ". Library: " + Odb.version());
     }
 
-    @Override public void destroy() {}
+    @Override public void destroy() { timer.shutdownNow(); }
 
     @Override public void doFilter(ServletRequest given, ServletResponse response, FilterChain chain) throws IOException, ServletException {
         HttpServletRequest request = (HttpServletRequest) given;
@@ -95,25 +118,30 @@ public final class BatchFilter implements Filter {
             chain.doFilter(given, response);
             return;
         }
-        Answer answer = answered(request, to);
-        to.setStatus(answer.status());
-        to.setHeader("OData-Version", "4.01");
-        answer.headers().forEach(to::setHeader);
-        to.setContentLength(answer.body().length);
-        to.getOutputStream().write(answer.body());
+        try (Room taken = new Room(room, maxBytes)) {
+            Answer answer = answered(request, to, taken);
+            to.setStatus(answer.status());
+            to.setHeader("OData-Version", "4.01");
+            answer.headers().forEach(to::setHeader);
+            to.setContentLength(answer.body().length);
+            to.getOutputStream().write(answer.body());
+        }
     }
 
-    private Answer answered(HttpServletRequest request, HttpServletResponse response) throws IOException {
+    private Answer answered(HttpServletRequest request, HttpServletResponse response, Room taken) throws IOException {
         try {
             HeaderPolicy policy = new HeaderPolicy(request, allowed);
             require(request, policy);
-            byte[] batch = request.getInputStream().readNBytes(maxBytes + 1);
-            require(batch.length <= maxBytes, 413, "TooLong", "A batch may have " + maxBytes + " bytes", Map.of());
+            ByteArrayOutputStream batch = new ByteArrayOutputStream();
+            for (byte[] part; (part = request.getInputStream().readNBytes(65_536)).length > 0; batch.writeBytes(part)) {
+                require(part.length <= maxBytes - batch.size(), 413, "TooLong", "A batch may have " + maxBytes + " bytes", Map.of());
+                RefusalException why = taken.take(part.length, false);
+                if (why != null) { throw why; }
+            }
             URI[] roots = roots(request);
-            int[] room = {maxBytes};
             long end = System.nanoTime() + deadline.toNanos();
-            byte[] found = BatchPerformer.of(batch, roots[0]).roots(roots).mode(policy.mode()).limit(limit).stop(() -> System.nanoTime() - end >= 0)
-                .perform(it -> dispatched(request, response, policy, room, it), transaction);
+            byte[] found = BatchPerformer.of(batch.toByteArray(), roots[0]).roots(roots).mode(policy.mode()).limit(limit)
+                .stop(() -> System.nanoTime() - end >= 0).perform(it -> dispatched(request, response, policy, taken, it), transaction);
             Map<String, String> headers = new TreeMap<>(Map.of("content-type", "application/json"));
             if (policy.mode() == Mode.CONTINUE) { headers.put("preference-applied", "continue-on-error"); }
             return Answer.of(200, headers, found);
@@ -155,22 +183,71 @@ public final class BatchFilter implements Filter {
         }
     }
 
-    private Answer dispatched(HttpServletRequest outer, HttpServletResponse response, HeaderPolicy policy, int[] room, PreparedRequest request)
-            throws ServletException {
+    /** How many bytes a batch and its answers may take, of those that all batches of a filter may. One thread uses it, and closes it at the end. */
+    static final class Room implements AutoCloseable {
+        private final AtomicLong ofAll;
+        private long forAnswers, taken;
+
+        Room(AtomicLong ofAll, long forAnswers) { this.ofAll = ofAll; this.forAnswers = forAnswers; }
+
+        /** Takes bytes, of an answer or of the batch itself; returns why there are not as many, or null. */
+        RefusalException take(int count, boolean isOfAnswer) {
+            if (isOfAnswer && count > forAnswers) { return new RefusalException(507, "TooLong", "The answer is too long for a batch"); }
+            if (ofAll.addAndGet(-count) < 0) {
+                ofAll.addAndGet(count);
+                return new RefusalException(503, "Busy", "Other batches have taken the memory", null, Map.of("retry-after", "1"));
+            }
+            forAnswers -= isOfAnswer ? count : 0;
+            taken += count;
+            return null;
+        }
+
+        /** Gives back bytes of an answer. */
+        void give(int count) {
+            ofAll.addAndGet(count);
+            forAnswers += count;
+            taken -= count;
+        }
+
+        @Override public void close() { ofAll.addAndGet(taken); }
+    }
+
+    /** Interrupts this thread once the time of a request is over, unless it is closed before. */
+    private final class Limit implements AutoCloseable {
+        private final Future<?> end;
+        private Thread thread = Thread.currentThread(); // null once it is interrupted
+
+        Limit() { synchronized (this) { end = timer.schedule(this::interrupt, timeout.toNanos(), TimeUnit.NANOSECONDS); } }
+
+        private synchronized void interrupt() {
+            if (!end.isCancelled()) { thread.interrupt(); thread = null; }
+        }
+
+        synchronized boolean isOver() { return thread == null; }
+
+        @Override public synchronized void close() {
+            end.cancel(false);
+            if (isOver()) { Thread.interrupted(); } // so it is not that of what comes next
+        }
+    }
+
+    private Answer dispatched(HttpServletRequest outer, HttpServletResponse response, HeaderPolicy policy, Room taken, PreparedRequest request)
+            throws Exception {
         String target = request.url().substring(request.url().indexOf('/', request.url().indexOf("://") + 3)); // a path, and perhaps a query
         require(!target.matches(".*%(?![0-9A-Fa-f]{2}).*"), 400, "BadUrl", "The URL has a % without two digits", Map.of());
-        KeptResponse kept = new KeptResponse(response, room[0], request.method().equals("GET"));
+        KeptResponse kept = new KeptResponse(response, taken, request.method().equals("GET"));
         InnerRequest inner = new InnerRequest(outer, request, policy.headers(request.headers()));
         inner.setAttribute(INNER, true);
-        try {
-            RequestDispatcher dispatcher = outer.getRequestDispatcher(target.substring(outer.getContextPath().length()));
-            if (dispatcher == null) { throw new RefusalException(404, "NotFound", "Nothing answers " + target); }
-            dispatcher.forward(inner, kept);
-        } catch (IOException error) {
-            throw new ServletException(error); // it is none of the connection to a client
+        RequestDispatcher dispatcher = outer.getRequestDispatcher(target.substring(outer.getContextPath().length()));
+        if (dispatcher == null) { throw new RefusalException(404, "NotFound", "Nothing answers " + target); }
+        try (Limit limit = new Limit()) {
+            try {
+                dispatcher.forward(inner, kept);
+            } catch (Exception error) {
+                if (limit.isOver()) { throw new RefusalException(504, "Timeout", "No answer came in time"); }
+                throw error instanceof IOException ? new ServletException(error) : error; // it is none of the connection to a client
+            }
         }
-        Answer answer = kept.answer();
-        room[0] -= answer.body().length;
-        return answer;
+        return kept.answer();
     }
 }

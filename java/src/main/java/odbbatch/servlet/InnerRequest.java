@@ -18,9 +18,7 @@ final class InnerRequest extends HttpServletRequestWrapper {
 
     InnerRequest(HttpServletRequest outer, PreparedRequest request, Map<String, String> headers) {
         super(outer);
-        this.request = request;
-        this.headers = headers;
-        body = new Body(request.body());
+        this.request = request; this.headers = headers; body = new Body(request.body());
     }
 
     private static final class Body extends ServletInputStream {

@@ -16,23 +16,22 @@ final class KeptResponse extends HttpServletResponseWrapper {
     private final Map<String, String> headers = new TreeMap<>(String.CASE_INSENSITIVE_ORDER);
     private final ByteArrayOutputStream body = new ByteArrayOutputStream();
     private final ServletOutputStream stream = new Kept();
-    private final int room;
+    private final BatchFilter.Room room;
     private final boolean isRead;
     private PrintWriter writer;
+    private RefusalException why; // there was no room
     private int status = 200;
-    private boolean isSent, isTooLong;
+    private boolean isSent;
 
-    /** Keeps a body of at most so many bytes. If one is longer that answers a read, who writes it gets an exception; else it is dropped. */
-    KeptResponse(HttpServletResponse outer, int room, boolean isRead) { super(outer); this.room = room; this.isRead = isRead; }
+    /** Keeps a body for which there is room. If there is none for the answer to a read, who writes it gets an exception; else it is dropped. */
+    KeptResponse(HttpServletResponse outer, BatchFilter.Room room, boolean isRead) { super(outer); this.room = room; this.isRead = isRead; }
 
-    /** What was written; throws the refusal of what is too long. */
+    /** What was written; throws why it is too long. */
     Answer answer() {
         flushBuffer();
-        if (isTooLong && isRead) { throw tooLong(); }
-        return Answer.of(status, headers, isTooLong ? null : body.toByteArray());
+        if (why != null && isRead) { throw why; }
+        return Answer.of(status, headers, body.toByteArray());
     }
-
-    private static RefusalException tooLong() { return new RefusalException(507, "TooLong", "The answer is too long for a batch"); }
 
     private final class Kept extends ServletOutputStream {
         @Override public boolean isReady() { return true; }
@@ -44,9 +43,10 @@ final class KeptResponse extends HttpServletResponseWrapper {
         @Override public void write(int it) { write(new byte[] {(byte) it}, 0, 1); }
 
         @Override public void write(byte[] from, int at, int size) {
-            isTooLong |= size > room - body.size();
-            if (isTooLong && isRead) { throw tooLong(); }
-            if (!isTooLong && !isSent) { body.write(from, at, size); }
+            if (isSent) { return; }
+            why = why == null ? room.take(size, true) : why;
+            if (why == null) { body.write(from, at, size); } else { drop(); }
+            if (why != null && isRead) { throw why; }
         }
     }
 
@@ -59,7 +59,9 @@ final class KeptResponse extends HttpServletResponseWrapper {
 
     @Override public void flushBuffer() { if (writer != null) { writer.flush(); } }
 
-    @Override public void resetBuffer() { flushBuffer(); body.reset(); }
+    private void drop() { room.give(body.size()); body.reset(); }
+
+    @Override public void resetBuffer() { flushBuffer(); drop(); }
 
     @Override public void reset() { resetBuffer(); headers.clear(); setStatus(200); }
 
@@ -98,9 +100,7 @@ final class KeptResponse extends HttpServletResponseWrapper {
 
     @Override public void addDateHeader(String name, long date) { addHeader(name, shown(date)); }
 
-    private static String shown(long date) {
-        return DateTimeFormatter.RFC_1123_DATE_TIME.format(Instant.ofEpochMilli(date).atZone(ZoneOffset.UTC));
-    }
+    private static String shown(long date) { return DateTimeFormatter.RFC_1123_DATE_TIME.format(Instant.ofEpochMilli(date).atZone(ZoneOffset.UTC)); }
 
     @Override public String getHeader(String name) { return headers.get(name); }
 

@@ -141,7 +141,19 @@ class BatchFilterTest {
                     response.getWriter().print("\u00e9");
                     break;
                 case "slow":
-                    pause();
+                    pause(100);
+                    break;
+                case "hang":
+                    pause(60_000);
+                    break;
+                case "deaf":
+                    for (long end = System.nanoTime() + 1_300_000_000; System.nanoTime() < end;) {
+                        Thread.interrupted();
+                    }
+                    break;
+                case "away":
+                    response.setStatus(201);
+                    response.setHeader("Location", "http://elsewhere/odata/x");
                     break;
                 default:
                     response.setStatus(204);
@@ -149,10 +161,11 @@ class BatchFilterTest {
         }
     }
 
-    private static void pause() {
+    private static void pause(int milliseconds) {
         try {
-            Thread.sleep(100);
+            Thread.sleep(milliseconds);
         } catch (InterruptedException error) {
+            Thread.currentThread().interrupt();
             throw new IllegalStateException(error);
         }
     }
@@ -274,12 +287,73 @@ class BatchFilterTest {
     void failuresAreAnswers(String name) throws Exception {
         start(name);
         assertEquals("[500, 500, 500, 500, 204]", statuses(answers(get("panic"), get("broken"), get("overflow"), get("async"), get("x"))));
-        assertEquals("[404, 404, 404]", statuses(answers(get("../out"), get("/other"), get("%2e%2e/out"))));
-        Map<String, Answer> header = answers("{\"id\":\"ID\",\"method\":\"get\",\"url\":\"x\",\"headers\":{\"X-Forwarded-For\":\"1\"}}",
-            "{\"id\":\"ID\",\"method\":\"get\",\"url\":\"x\",\"headers\":{\"accept\":\"a\\nb\"}}");
-        assertEquals("[400, 400]", statuses(header));
-        assertTrue(text(header.get("r0").body()).contains("HeaderNotAllowed"));
         assertEquals("[400, 204]", statuses(answers(get("a%zz"), get("x"))));
+    }
+
+    @ParameterizedTest
+    @MethodSource("containers")
+    void requestsOutsideOfTheFolderAreNotSent(String name) throws Exception {
+        for (String contextPath : new String[] {"", "/app"}) {
+            start(name, contextPath, usual());
+            seen.clear();
+            String below = "{\"id\":\"below\",\"method\":\"get\",\"url\":\"$r8/x\",\"dependsOn\":[\"r8\"]}";
+            Map<String, Answer> found = answers(get("../out"), get("/other"), get("%2e%2e/out"), get("%252e%252e/out"), get("..%5cout"),
+                get("http://elsewhere/odata/x"), get("//elsewhere/odata/x"), get("x/../../out"), "{\"id\":\"ID\",\"method\":\"post\",\"url\":\"away\"}",
+                below);
+            assertEquals("[404, 404, 404, 404, 404, 404, 404, 404, 201, 404]", statuses(found));
+            assertEquals(List.of("POST away"), seen);
+            stop();
+        }
+    }
+
+    private static String withHeader(String name, String value) {
+        return "{\"id\":\"ID\",\"method\":\"get\",\"url\":\"x\",\"headers\":{\"" + name + "\":\"" + value + "\"}}";
+    }
+
+    @ParameterizedTest
+    @MethodSource("containers")
+    void headersThatDoNotPass(String name) throws Exception {
+        start(name, "", usual().allow("x-dry-run"));
+        Map<String, Answer> found = answers(withHeader("X-Forwarded-For", "1"), withHeader("Authorization", "you"), withHeader("Cookie", "a=b"),
+            withHeader("accept", "a\\nb"), withHeader("accept", "a\\u0000"), withHeader("X-Dry-Run", "1"), withHeader("User-Agent", "it"));
+        assertEquals("[400, 400, 400, 400, 400, 204, 204]", statuses(found));
+        assertTrue(text(found.get("r0").body()).contains("HeaderNotAllowed"));
+        assertEquals(List.of("GET x", "GET x"), seen);
+    }
+
+    /** Its thread is interrupted, and no other one: what comes next is answered. */
+    @ParameterizedTest
+    @MethodSource("containers")
+    void aServletThatHangsIsInterrupted(String name) throws Exception {
+        List<String> ended = Collections.synchronizedList(new ArrayList<>());
+        start(name, "", new BatchFilter("/odata/$batch", (group, body) -> {
+            try {
+                body.run();
+            } catch (RuntimeException error) {
+                ended.add("rolled back");
+                throw error;
+            }
+        }).timeout(Duration.ofSeconds(1)));
+        String post = "{\"id\":\"ID\",\"method\":\"post\",\"url\":\"hang\",\"atomicityGroup\":\"g\"}";
+        assertEquals("[504, 200, 504, 200, 204]", statuses(answers(get("hang"), get("slow"), post, get("deaf"), get("x"))));
+        assertEquals(List.of("rolled back"), ended);
+        assertEquals("[200, 200]", statuses(answers(get("slow"), get("slow"))));
+    }
+
+    /** What has no memory is answered 503, but a write keeps its status; all is given back at the end. */
+    @ParameterizedTest
+    @MethodSource("containers")
+    void batchesTakeNoMoreMemoryThanTheyMay(String name) throws Exception {
+        start(name, "", usual().memory(70_000));
+        String write = "{\"id\":\"ID\",\"method\":\"delete\",\"url\":\"long\"}";
+        for (int i = 0; i < 3; i++) {
+            Map<String, Answer> found = answers(get("endless"), get("long"), get("long"), write, get("x"));
+            assertEquals("[503, 200, 503, 200, 204]", statuses(found));
+            assertEquals("true 1 0", (found.get("r1").body().length >= 60_000) + " " + found.get("r2").headers().get("retry-after") + " " + found.get("r3").body().length);
+        }
+        HttpResponse<byte[]> busy = posted(root + "$batch", "application/json", "{\"requests\":[" + get("x") + "]}" + " ".repeat(70_000));
+        assertEquals("503 1", busy.statusCode() + " " + busy.headers().firstValue("Retry-After").orElse(""));
+        assertEquals(200, posted(root + "$batch", "application/json", "{\"requests\":[" + get("x") + "]}" + " ".repeat(60_000)).statusCode());
     }
 
     @ParameterizedTest
@@ -292,6 +366,7 @@ class BatchFilterTest {
         assertEquals(415, posted(url, json, one, "Content-Encoding", "gzip").statusCode());
         assertEquals(501, posted(url, json, one, "Repeatability-Request-ID", "7").statusCode());
         assertEquals(413, posted(url, json, "{\"requests\":[" + get("x") + "]}" + " ".repeat(1000)).statusCode());
+        assertEquals(413, posted(url, json, " ".repeat(300_000)).statusCode());
         assertEquals(413, posted(url, json, "{\"requests\":[" + get("x") + "," + get("y").replace("ID", "b") + "," + get("z").replace("ID", "c") + "]}").statusCode());
         HttpResponse<byte[]> refused = posted(url, json, "{\"requests\":[" + get("x") + "," + get("y") + "]}");
         assertEquals(400, refused.statusCode());
