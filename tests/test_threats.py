@@ -8,8 +8,8 @@ import pytest
 
 from support.program import ROOT
 
-NAMED = re.compile(r"`([\w/]+\.(?:py|test\.js))::([^`]+)`")
-MOST_LINES = 130  # about two printed pages
+NAMED = re.compile(r"`([\w/]+(?:\.py|\.test\.js|_test\.go|Test\.java))::([^`]+)`")
+MOST_LINES = 145  # about two printed pages
 
 
 def page():
@@ -39,8 +39,9 @@ def is_there(file, name):
         return False
     if file.endswith(".py"):
         return name in names_of_python(path)
+    begins = {".go": f"\nfunc {name}(t ", ".java": f"    void {name}("}.get(os.path.splitext(file)[1], f"'{name}")
     with open(path, encoding="utf-8") as text:
-        return f"'{name}" in text.read()
+        return begins in text.read()
 
 
 def test_each_line_names_a_test():

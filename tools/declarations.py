@@ -169,8 +169,9 @@ def differences():
             yield f"{name}: its fields are {kinds}, and not those of an odb_live_run"
     yield from constant_differences(header)
     yield from struct_differences(header)
-    if one(r"typedef struct odb_live_run \{\s*([^}]*?)\s*\} odb_live_run;", header, HEADER) != "void *at;":
-        yield "odb_live_run: it is another struct in the header"
+    struct = one(r"typedef struct (\w+) \*odb_live_run;", header, HEADER)
+    if re.search(rf"struct {struct}\s*\{{", header):
+        yield "odb_live_run: the header says what a handle points to"
 
 
 def output(*words):

@@ -2,8 +2,10 @@
 
 import contextlib
 import json
+import random
 import socket
 import threading
+import time
 
 import pytest
 
@@ -103,6 +105,21 @@ def test_a_batch_for_which_others_have_left_no_memory(upstream, front):
     assert service.seen == []
     it.gateway._budget.give(500_000 - 10)
     assert it.ask("POST", "/odata/$batch", ONE, CONTINUE)[0] == 200
+
+
+def test_all_is_given_back_whenever_a_client_leaves(upstream, front):
+    """Also the one connection to the service, for which others wait."""
+    it = front("--upstream", upstream().url, "--connections", "1", "--groups", "forward")
+    requests = [{"url": "big"}, {"url": "x", "method": "post", "atomicityGroup": "g"}, {"url": "y"}, {"url": "half"}]
+    batch = json.dumps({"requests": [{"id": f"r{k}", "method": "get", **given} for k, given in enumerate(requests)]})
+    lines = ["POST /odata/$batch HTTP/1.1", "Host: a", "Content-Type: application/json", f"Content-Length: {len(batch)}"]
+    text, draw = "\r\n".join([*lines, "", batch]).encode(), random.Random(1)
+    for k in range(60):
+        with socket.create_connection(("127.0.0.1", it.port), SECONDS) as client:
+            client.sendall(text[: draw.randrange(len(text)) if k % 4 == 0 else None])
+            time.sleep(draw.uniform(0, 0.03))
+    until(lambda: is_free(it) and "odb_gateway_batches_running 0\n" in it.metrics())
+    assert it.statuses({"url": "x"}) == [200]
 
 
 @pytest.mark.parametrize("method, status, code", [("get", 503, "Busy"), ("post", 201, None)])

@@ -107,7 +107,7 @@ def test_nothing_is_sent_once_a_gateway_stops(aiohttp):
 
     options = options_of(["--upstream", "http://127.0.0.1:1/"])
     upstreams = UpstreamClient(options, Counts())
-    upstreams.is_stopping = True
+    upstreams.stopping.set()
     request = PreparedRequest("a", "GET", "http://127.0.0.1:1/", {}, b"")
     with pytest.raises(Refusal) as refused:
         asyncio.run(upstreams.send(options.routes[0], request, BodyBudget(10)))

@@ -11,6 +11,7 @@ import time
 
 import pytest
 
+from support import urls
 from support.answers import RUNS
 from support.commands import run
 from support.languages import require_same
@@ -55,6 +56,12 @@ def test_the_worked_cases_and_live_runs(built, reference):
     built.compile("Tries.exe", os.path.join(TESTS, "Tries.cs"))
     for name in ("pages", "runs"):
         require_same(reference, name, built.run("Tries.exe", name, str(reference), str(RUNS)))
+
+
+def test_where_requests_lead(built, tmp_path):
+    wanted = urls.write(tmp_path / "table")
+    built.compile("Urls.exe", os.path.join(TESTS, "Urls.cs"))
+    assert built.run("Urls.exe", tmp_path / "table").splitlines() == wanted
 
 
 @pytest.mark.needs("nunit-console")

@@ -11,6 +11,7 @@ from pathlib import Path
 
 import pytest
 
+from support import urls
 from support.commands import run
 from support.markdown import blocks, text_of
 from support.program import ROOT
@@ -103,10 +104,15 @@ def test_its_service(width, programs, library, tmp_path):
     assert status == 0 and " 0 of them broken" in printed, printed + (tmp_path / "log").read_text()
 
 
+def test_where_requests_lead(programs, tmp_path):
+    wanted = urls.write(tmp_path / "table", has_any_base=False)
+    assert run(programs / "urls", tmp_path / "table").splitlines() == wanted
+
+
 def test_its_page(go, tmp_path):
     """The client of docs/go.md sends a batch to the service of that page."""
     service, client = blocks(text_of("docs", "go.md"), "go")
-    main = 'package main\n\nimport (\n"context"\n"fmt"\n"os"\n\n"odb_batch/odb"\n)\n\nfunc main() {\nctx := context.Background()\n'
+    main = 'package main\n\nimport (\n"context"\n"fmt"\n"log"\n"os"\n\n"odb_batch/odb"\n)\n\nfunc main() {\nctx := context.Background()\n'
     client = client.replace('"http://localhost:8080/odata/$batch"', 'os.Args[1]+"$batch"')
     shown = "fmt.Println(results.Of(order).Status, results.Of(lines).Status, err)\n}\n"
     folder = go.top / "tests/languages/go"
@@ -133,7 +139,7 @@ def test_vendored(go, reference):
 
 def test_without_c(go):
     """Where the library cannot be linked, a line of the compiler says what is needed."""
-    words = ["go", "vet", "."]
+    words = ["go", "build", "."]  # vet would compile all that the tests import, too
     environment = {**go.environment, "CGO_ENABLED": "0"}
     done = subprocess.run(words, cwd=go.top / "go", env=environment, capture_output=True, text=True, check=False)
     assert done.returncode != 0 and "odb_batch_needs_CGO_ENABLED_1" in done.stderr, done.stderr

@@ -9,6 +9,7 @@ import sys
 
 import pytest
 
+from support import urls
 from support.commands import run, with_package
 from support.markdown import blocks, text_of
 from support.program import ROOT
@@ -134,6 +135,11 @@ def test_it_answers_as_the_library(name, commands, reference):
     from support.languages import RUNS, require_same
 
     require_same(reference, name, run("java", "-cp", commands, "odbbatch.Tries", name, reference, str(RUNS)))
+
+
+def test_where_requests_lead(commands, tmp_path):
+    wanted = urls.write(tmp_path / "table", has_any_base=False)
+    assert run("java", "-cp", commands, "odbbatch.Urls", tmp_path / "table").splitlines() == wanted
 
 
 def test_names_are_those_of_the_library(commands, package_constants):

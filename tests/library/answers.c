@@ -183,11 +183,11 @@ static void print_places(bytes batch)
 {
     static const char *const places[] = {"batch", "/requests/0", "/requests/7"};
     for (size_t i = 0; i < COUNT(places); i++) {
-        odb_position at = {0, 0, 0};
+        odb_position at = {0, 0, 0, 0};
         long before = live_blocks;
         uint32_t status = odb_where(batch.at, batch.size, (const uint8_t *)places[i], strlen(places[i]), &at);
         expect_blocks(before);
-        uint32_t numbers[] = {status, (uint32_t)at.line, (uint32_t)at.column, (uint32_t)at.offset};
+        uint32_t numbers[] = {status, (uint32_t)at.line, (uint32_t)at.column, (uint32_t)at.offset, (uint32_t)at.end};
         print_line(numbers, COUNT(numbers), NULL, 0);
     }
 }

@@ -22,15 +22,15 @@ static const struct trial {
 } trials[] = {
     {"{\"requests\": [\n {\"id\":\"a\",\"method\":\"get\",\"url\":\"$b\"},"
      "{\"id\":\"\303\244\",\"method\":\"get\",\"url\":\"A\"}, 7,\n\n  []]}", 3,
-     {{"F13", "BadId", "/requests/1", {2, 39, 53}},
-      {"F10", "NotRequestObject", "/requests/2", {2, 76, 91}},
-      {"F10", "NotRequestObject", "/requests/3", {4, 3, 97}}}},
+     {{"F13", "BadId", "/requests/1", {2, 39, 53, 89}},
+      {"F10", "NotRequestObject", "/requests/2", {2, 76, 91, 92}},
+      {"F10", "NotRequestObject", "/requests/3", {4, 3, 97, 99}}}},
     {"{\"requests\":[{\"id\":\"a\",\"method\":\"get\",\"url\":\"$b\"}]}", 1,
-     {{"F44", "UnknownReference", "/requests/0", {1, 14, 13}}}},
-    {" {\"requests\":1}", 1, {{"F04", "NoRequests", "batch", {1, 2, 1}}}},
-    {"[7,]", 1, {{"F02", "NotJson", "batch", {1, 4, 3}}}},
-    {NULL, 1, {{"F02", "NotJson", "batch", {1, 1, 0}}}},
-    {"{\"requests\":[]}", 0, {{NULL, NULL, NULL, {0, 0, 0}}}},
+     {{"F44", "UnknownReference", "/requests/0", {1, 14, 13, 49}}}},
+    {" {\"requests\":1}", 1, {{"F04", "NoRequests", "batch", {1, 2, 1, 15}}}},
+    {"[7,]", 1, {{"F02", "NotJson", "batch", {1, 4, 3, 3}}}},
+    {NULL, 1, {{"F02", "NotJson", "batch", {1, 1, 0, 0}}}},
+    {"{\"requests\":[]}", 0, {{NULL, NULL, NULL, {0, 0, 0, 0}}}},
 };
 
 /* What `odb_check_all` writes of a batch that is refused, or nothing. */
@@ -48,13 +48,13 @@ static int word_is(const char *text, odb_part part, const char *wanted)
 
 static int is_at(odb_position found, odb_position wanted)
 {
-    return found.line == wanted.line && found.column == wanted.column && found.offset == wanted.offset;
+    return found.line == wanted.line && found.column == wanted.column && found.offset == wanted.offset && found.end == wanted.end;
 }
 
 /* Whether a fault is as wanted, and where `odb_where` has it. */
 static int fault_is(const char *batch, const char *text, const odb_fault *found, const struct wanted *it)
 {
-    odb_position at = {0, 0, 0};
+    odb_position at = {0, 0, 0, 0};
     uint32_t status = odb_where((const uint8_t *)batch, batch == NULL ? 0 : strlen(batch), (const uint8_t *)it->place,
                                 strlen(it->place), &at);
     return word_is(text, found->code, it->code) && word_is(text, found->name, it->name)

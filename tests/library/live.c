@@ -69,7 +69,7 @@ static uint32_t opened(odb_live_run *run, const char *batch, const char *events,
 
 static odb_live_run open_batch(const char *events)
 {
-    odb_live_run run = {NULL};
+    odb_live_run run = NULL;
     size_t length = 77;
     count("open", 0, opened(&run, BATCH, events, ODB_CONTINUE, 10000, NULL, 0, &length) == ODB_DONE && length == 0);
     return run;
@@ -264,7 +264,7 @@ static void try_deep_bodies(const char *open, const char *close)
 static void try_text(const char *body)
 {
     static const char head[] = "{\"responses\":[{\"body\":", tail[] = ",\"id\":\"a\",\"status\":200}]}\n";
-    odb_live_run run = {NULL};
+    odb_live_run run = NULL;
     size_t length = 77, size = strlen(head) + strlen(body) + strlen(tail);
     count("a request alone", 0, opened(&run, "{\"requests\":[" A "]}", NO_EVENTS, ODB_CONTINUE, 1, NULL, 0, &length) == ODB_DONE);
     count("its start", 0, odb_run_start(&run, 0) == ODB_DONE);
@@ -314,7 +314,7 @@ static void try_hidden_depth(void)
 
 static odb_live_run open_grouped(void)
 {
-    odb_live_run run = {NULL};
+    odb_live_run run = NULL;
     size_t length = 77;
     count("a batch with a group", 0, opened(&run, GROUPED, NO_EVENTS, ODB_CONTINUE, 10000, NULL, 0, &length) == ODB_DONE);
     for (uint32_t at = 0; at < 4; at++)
@@ -385,12 +385,12 @@ static void try_openings(void)
 static void try_refusal(const char *batch, const char *events, uint32_t mode, uint32_t width, uint32_t status, const char *wanted)
 {
     for (size_t size = 0; size <= strlen(wanted) + 3; size++) {
-        odb_live_run run = {&run};
+        odb_live_run unset = (odb_live_run)(void *)batch, run = unset;
         uint8_t *text = block_of(size);
         size_t length = 77;
         memset(text, FILLING, size);
         uint32_t returned = opened(&run, batch, events, mode, width, text, size, &length);
-        int right = length == strlen(wanted) && run.at == &run;
+        int right = length == strlen(wanted) && run == unset;
         if (size < strlen(wanted))
             right = right && returned == ODB_SMALL_BUFFER && is_filled(text, 0, size);
         else
@@ -421,7 +421,7 @@ static void try_many(void)
     long blocks = live_blocks;
     size_t steps = sizeof course / sizeof *course;
     for (long made = 0; made < RUNS; made++) {
-        odb_live_run run = {NULL};
+        odb_live_run run = NULL;
         size_t length;
         int right = odb_run_open((const uint8_t *)BATCH, strlen(BATCH), (const uint8_t *)NO_EVENTS, strlen(NO_EVENTS),
                                  ODB_CONTINUE, 10000, &run, NULL, 0, &length, 0) == ODB_DONE;
@@ -437,7 +437,7 @@ static void try_many(void)
 static void try_allocations(int rest)
 {
     for (long at = 0, has_failed = 1; has_failed; at++) {
-        odb_live_run run = {NULL};
+        odb_live_run run = NULL;
         size_t length = 77;
         long blocks = live_blocks;
         refuse_after(at, rest);
@@ -445,7 +445,7 @@ static void try_allocations(int rest)
                                        ODB_CONTINUE, 10000, &run, NULL, 0, &length, 7);
         has_failed = allow_all();
         if (has_failed)
-            count("an opening without memory", at, status == ODB_OUT_OF_MEMORY && length == 0 && run.at == NULL && live_blocks == blocks);
+            count("an opening without memory", at, status == ODB_OUT_OF_MEMORY && length == 0 && run == NULL && live_blocks == blocks);
         else
             odb_run_close(run);
     }

@@ -53,7 +53,7 @@ static int goes_on(odb_live_run *run)
 static void open_into(void *given, struct answer *it)
 {
     struct opening *opening = given;
-    opening->run.at = NULL;
+    opening->run = NULL;
     it->status = ask(opening, it->text, it->room, it->items, it->most);
     it->length = opening->length;
     it->count = opening->count;
@@ -63,10 +63,10 @@ static void open_into(void *given, struct answer *it)
 static int is_opened(void *given, const struct answer *it, int is_done)
 {
     odb_live_run *run = &((struct opening *)given)->run;
-    int right = (run->at != NULL) == is_done;
+    int right = (*run != NULL) == is_done;
     if (is_done && right)
         right = are_requests(it->text, it->length, it->items, it->count) && goes_on(run);
-    if (run->at != NULL)
+    if (*run != NULL)
         odb_run_close(*run);
     return right;
 }
@@ -75,7 +75,7 @@ static void try_events(void)
 {
     char text[ROOM];
     odb_request requests[MOST];
-    struct opening it = {BATCH, STARTED, ODB_CONTINUE, 1, {NULL}, 77, 77};
+    struct opening it = {BATCH, STARTED, ODB_CONTINUE, 1, NULL, 77, 77};
     uint32_t running, number, status = ask(&it, text, ROOM, requests, MOST);
     size_t found;
     count("after an event", 0, status == ODB_DONE && odb_run_running(&it.run, &running, 1, &found) == ODB_DONE && found == 1
@@ -88,19 +88,19 @@ static void try_refused(const char *batch, const char *events, uint32_t mode, ui
 {
     char text[ROOM];
     odb_request *requests = filled(MOST * sizeof *requests);
-    struct opening it = {batch, events, mode, width, {NULL}, 77, 77};
+    struct opening it = {batch, events, mode, width, NULL, 77, 77};
     uint32_t status = ask(&it, text, ROOM, requests, MOST);
-    count("refused", (long)wanted, status == wanted && it.run.at == NULL && it.count == 0 && it.length == strlen(line)
+    count("refused", (long)wanted, status == wanted && it.run == NULL && it.count == 0 && it.length == strlen(line)
           && memcmp(text, line, it.length) == 0 && is_unchanged(requests, MOST * sizeof *requests));
     free(requests);
 }
 
 int main(void)
 {
-    struct opening it = {BATCH, NONE, ODB_CONTINUE, 1, {NULL}, 77, 77};
+    struct opening it = {BATCH, NONE, ODB_CONTINUE, 1, NULL, 77, 77};
     uint32_t asked = ask(&it, NULL, 0, NULL, 0);
     struct listing all = {&it, open_into, is_opened, sizeof(odb_request), it.length, MOST, ODB_DONE};
-    count("the sizes", 0, asked == ODB_SMALL_BUFFER && it.count == MOST && it.length < ROOM && it.run.at == NULL);
+    count("the sizes", 0, asked == ODB_SMALL_BUFFER && it.count == MOST && it.length < ROOM && it.run == NULL);
     try_sizes(&all, 0);
     try_memory(&all, 0);
     try_events();

@@ -78,7 +78,7 @@ static const struct row rows[] = {
 
 static odb_live_run opened(const char *batch, uint32_t mode)
 {
-    odb_live_run run = {NULL};
+    odb_live_run run = NULL;
     size_t length = 77;
     count("open", 0, odb_run_open((const uint8_t *)batch, strlen(batch), (const uint8_t *)NO_EVENTS, strlen(NO_EVENTS), mode,
                                   ODB_MAX_WIDTH, &run, NULL, 0, &length, 7) == ODB_DONE);
@@ -275,6 +275,24 @@ static int is_refused(odb_live_run *run, const char *batch, uint32_t limit, uint
     return right;
 }
 
+#define LACKS BATCH(POST("a", "A") "," GET("b", "B") "," NEEDS("\"a\"", "c", "$a/C") "," GET("d", "D"))
+
+/* A part ends before a unit that lacks a Location. If that is the first there is none, and once it is reported the next begins after it. */
+static void try_lacking(void)
+{
+    static const struct row row = {"lacking", LACKS, MOST, ODB_CONTINUE, {{NULL}}, {0}};
+    static const struct part second = {BATCH(GET("b", "B")), "1", {200}, NULL}, last = {BATCH(GET("d", "D")), "3", {200}, NULL};
+    static const char empty[] = "{\"Location\":\"\"}";
+    odb_live_run run = opened(LACKS, ODB_CONTINUE);
+    count("lacking", 0, odb_run_start_unit(&run, 0) == ODB_DONE && odb_run_report(&run, 0, 201, (const uint8_t *)empty, strlen(empty), NULL, 0) == ODB_DONE);
+    count("lacking", 1, part_is(&run, &row, &second));
+    report_each(&run, &second);
+    count("lacking", 2, is_refused(&run, LACKS, MOST, ODB_REFUSED, "fault F90 NoLocation /requests/2\n"));
+    count("lacking", 3, odb_run_start_unit(&run, 2) == ODB_DONE && odb_run_report(&run, 2, 424, NULL, 0, NULL, 0) == ODB_DONE);
+    count("lacking", 4, part_is(&run, &row, &last));
+    odb_run_close(run);
+}
+
 static void try_refused_parts(void)
 {
     odb_live_run run = opened(GROUP, ODB_CONTINUE);
@@ -392,6 +410,9 @@ static const struct {
     {"an error after what was skipped", BATCH(GET("a", "A") "," GET("b", "B") "," GET("c", "C")), {424, 503, 304}, {424, 503, 304}},
     {"a group that failed otherwise", BATCH(MEMBER("g", "a", "A") "," MEMBER("g", "b", "B") "," GET("c", "C")), {424, 304, 200}, {424, 304, 200}},
     {"a group with an error", BATCH(MEMBER("g", "a", "A") "," MEMBER("g", "b", "B") "," GET("c", "C")), {424, 409, 0}, {424, 409, 424}},
+    {"a 3xx after what was undone", BATCH(MEMBER("g", "a", "A") "," MEMBER("g", "b", "$a/B") "," GET("c", "C")), {424, 304, 200}, {424, 304, 200}},
+    {"what waits for a 3xx of its group", BATCH(MEMBER("g", "a", "A") "," MEMBER("g", "b", "$a/B") "," GET("c", "C")), {304, 424, 200},
+     {304, 424, 200}},
     {"a group of two kinds", BATCH(MEMBER("g", "a", "A") "," MEMBER("g", "b", "B")), {500, 304}, {500, 304}},
     {"a group whose member needs another", BATCH(MEMBER("g", "a", "A") "," MEMBER("g", "b", "$a/B")), {424, 500}, {424, 500}},
 };
@@ -455,6 +476,7 @@ int main(void)
     try_apart();
     try_rooms();
     try_refused_parts();
+    try_lacking();
     try_bodies();
     try_takes();
     try_unfit_answers();

@@ -1,4 +1,4 @@
-/* Tries the call for where the element of a place begins in a document.
+/* Tries the call for where the element of a place begins and ends in a document.
  *
  * The last line that it prints is `N tries, M wrong`; a wrong one is shown before it. Documents are blocks of just
  * their size, so that valgrind and the sanitizers see what goes beyond. */
@@ -22,25 +22,25 @@ static const struct trial {
     const char *document, *place;
     odb_position wanted;
 } trials[] = {
-    {BATCH, "batch", {1, 1, 0}},
-    {BATCH, "/requests/0", {1, 15, 14}},
-    {BATCH, "/requests/1", {1, 18, 17}},
-    {BATCH, "/requests/2", {2, 1, 21}},
-    {BATCH, "/requests/3", {2, 6, 27}},
-    {BATCH, "/requests/4", {1, 1, 0}},
-    {BATCH, "/requests/18446744073709551615", {1, 1, 0}},
-    {BATCH, "/outcomes/0", {1, 1, 0}},
-    {"\n {\"outcomes\":[\n1]}", "outcomes", {2, 2, 2}},
-    {"\n {\"outcomes\":[\n1]}", "/outcomes/0", {3, 1, 16}},
-    {"{\"responses\":[[],{}]}", "responses", {1, 1, 0}},
-    {"{\"responses\":[[],{}]}", "/responses/1", {1, 18, 17}},
-    {"{\"events\":[[],{}]}", "events", {1, 1, 0}},
-    {"{\"events\":[[],{}]}", "/events/1", {1, 15, 14}},
-    {"{\"requests\":[1],\"requests\":[2]}", "/requests/0", {1, 29, 28}},
-    {"[7,]", "batch", {1, 4, 3}},
-    {"{\n\"\303\244\":", "batch", {2, 5, 7}},
-    {"", "batch", {1, 1, 0}},
-    {NULL, "batch", {1, 1, 0}},
+    {BATCH, "batch", {1, 1, 0, 39}},
+    {BATCH, "/requests/0", {1, 15, 14, 15}},
+    {BATCH, "/requests/1", {1, 18, 17, 19}},
+    {BATCH, "/requests/2", {2, 1, 21, 25}},
+    {BATCH, "/requests/3", {2, 6, 27, 37}},
+    {BATCH, "/requests/4", {1, 1, 0, 39}},
+    {BATCH, "/requests/18446744073709551615", {1, 1, 0, 39}},
+    {BATCH, "/outcomes/0", {1, 1, 0, 39}},
+    {"\n {\"outcomes\":[\n1 ]} \n", "outcomes", {2, 2, 2, 20}},
+    {"\n {\"outcomes\":[\n1 ]} \n", "/outcomes/0", {3, 1, 16, 17}},
+    {"{\"responses\":[[],{}]}", "responses", {1, 1, 0, 21}},
+    {"{\"responses\":[[],{}]}", "/responses/1", {1, 18, 17, 19}},
+    {"{\"events\":[[],{}]}", "events", {1, 1, 0, 18}},
+    {"{\"events\":[[],{}]}", "/events/1", {1, 15, 14, 16}},
+    {"{\"requests\":[1],\"requests\":[2]}", "/requests/0", {1, 29, 28, 29}},
+    {"[7,]", "batch", {1, 4, 3, 3}},
+    {"{\n\"\303\244\":", "batch", {2, 5, 7, 7}},
+    {"", "batch", {1, 1, 0, 0}},
+    {NULL, "batch", {1, 1, 0, 0}},
 };
 
 /* What names no place. */
@@ -65,10 +65,10 @@ static uint8_t *block_of(const char *text, size_t *size)
 
 static int is_at(odb_position found, odb_position wanted)
 {
-    return found.line == wanted.line && found.column == wanted.column && found.offset == wanted.offset;
+    return found.line == wanted.line && found.column == wanted.column && found.offset == wanted.offset && found.end == wanted.end;
 }
 
-static const odb_position unset = {UNSET, UNSET, UNSET};
+static const odb_position unset = {UNSET, UNSET, UNSET, UNSET};
 
 /* Asks for a place, while allocations fail or not. Returns whether all is as wanted; no document is changed. */
 static int answers(const char *document, const char *place, uint32_t wanted_status, odb_position wanted)

@@ -22,7 +22,7 @@
 
 static odb_live_run opened(const char *batch)
 {
-    odb_live_run run = {NULL};
+    odb_live_run run = NULL;
     size_t length;
     uint32_t status = odb_run_open((const uint8_t *)batch, strlen(batch), (const uint8_t *)NO_EVENTS, strlen(NO_EVENTS),
                                    ODB_CONTINUE, ODB_MAX_WIDTH, &run, NULL, 0, &length, 7);

@@ -18,14 +18,14 @@
 
 /* What a request is to be. */
 struct wanted {
-    const char *id, *method, *url, *rest, *headers, *group, *body;
+    const char *id, *method, *url, *rest, *headers, *group, *needs, *body;
     size_t reference;
 };
 
 static const struct wanted wanted[MOST] = {
-    {"a", "POST", "Orders", "Orders", "{\"a\":\"1\",\"x-b\":\"2\"}", "g", BODY, ODB_NONE},
-    {"b", "GET", "$a/Lines?x=1", "/Lines?x=1", "{}", NULL, NULL, 0},
-    {"c", "PUT", "A", "A", "{}", NULL, "[ 2.0 ]", ODB_NONE},
+    {"a", "POST", "Orders", "Orders", "{\"a\":\"1\",\"x-b\":\"2\"}", "g", "", BODY, ODB_NONE},
+    {"b", "GET", "$a/Lines?x=1", "/Lines?x=1", "{}", NULL, "g,a", NULL, 0},
+    {"c", "PUT", "A", "A", "{}", NULL, "", "[ 2.0 ]", ODB_NONE},
 };
 
 /* Whether the part of a text is as wanted. */
@@ -41,7 +41,7 @@ static int request_is(const char *text, const odb_request *found, const struct w
     return part_is(text, found->id, it->id) && part_is(text, found->method, it->method)
         && part_is(text, found->url, it->url) && part_is(text, found->rest, it->rest)
         && part_is(text, found->headers, it->headers) && part_is(text, found->group, it->group)
-        && part_is(BATCH, found->body, it->body) && found->reference == it->reference;
+        && part_is(text, found->needs, it->needs) && part_is(BATCH, found->body, it->body) && found->reference == it->reference;
 }
 
 /* The status of a call. */

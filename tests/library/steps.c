@@ -41,7 +41,7 @@ static uint32_t status_of(unsigned failures, uint32_t position)
 
 static odb_live_run open_batch(const char *batch, uint32_t mode, uint32_t width)
 {
-    odb_live_run run = {NULL};
+    odb_live_run run = NULL;
     size_t length = 77;
     count("open", 0, odb_run_open((const uint8_t *)batch, strlen(batch), (const uint8_t *)NO_EVENTS, strlen(NO_EVENTS),
                                   mode, width, &run, NULL, 0, &length, 7) == ODB_DONE);

@@ -25,7 +25,7 @@
 
 static odb_live_run open_batch(uint32_t mode, uint32_t width)
 {
-    odb_live_run run = {NULL};
+    odb_live_run run = NULL;
     size_t length = 77;
     count("open", 0, odb_run_open((const uint8_t *)BATCH, strlen(BATCH), (const uint8_t *)NO_EVENTS, strlen(NO_EVENTS),
                                   mode, width, &run, NULL, 0, &length, 7) == ODB_DONE);

@@ -1,6 +1,8 @@
-"""The page says of every document of the worked cases what the program says, and its scanner of JSON finds the elements."""
+"""The page says of every document of the worked cases what the program says, and marks the elements of its faults."""
 
+import contextlib
 import json
+import os
 import subprocess
 
 import pytest
@@ -115,27 +117,34 @@ def is_of(command, data):
 
 
 @pytest.mark.needs("node")
-def test_the_scanner_finds_the_elements(program, tmp_path):
+def test_the_elements_are_marked(wasm, tmp_path):
     """Of all batches that are JSON the element that a fault names is that of the JSON."""
-    documents = [it for it in {call.documents[0]: None for call in CALLS} if short(it)]
-    cases = []
-    for data in documents:
-        try:
-            text = data.decode()
-        except UnicodeDecodeError:
-            continue
-        verdict = output(program, tmp_path, "check", [data])
-        cases.append({"text": text, "place": verdict.rpartition(" ")[2]})
-    (tmp_path / "cases.json").write_text(json.dumps(cases))
+    texts = []
+    for data in {call.documents[0]: None for call in CALLS}:
+        with contextlib.suppress(UnicodeDecodeError):
+            texts += [data.decode()] if short(data) else []
+    (tmp_path / "texts.json").write_text(json.dumps(texts))
     script = """
-        const { Places } = require(process.argv[1] + '/page/places.js')
+        const [root, module, texts] = process.argv.slice(1)
+        const { readFileSync } = require('fs')
+        const { openModule } = require(root + '/node/library/wasm.js')
+        const exports = openModule(new WebAssembly.Module(readFileSync(module)), require('crypto').webcrypto)
+        require.cache[require.resolve(root + '/node/library/index.js')] = { id: 'library', loaded: true, exports }
+        const { faults } = require(root + '/node/calls/commands.js')
+        const { Places } = require(root + '/page/places.js')
         const { isDeepStrictEqual } = require('node:util')
-        for (const { text, place } of JSON.parse(require('fs').readFileSync(process.argv[2]))) {
-          const [, at] = /^.requests.(\\d+)$/.exec(place) ?? []
-          if (at === undefined) continue
-          const { start, end } = new Places(text).locate({ code: 'F10', place }).whole
-          if (!isDeepStrictEqual(JSON.parse(text.slice(start, end)), JSON.parse(text).requests[at])) console.log('place', text)
-        }"""
-    done = subprocess.run(["node", "-e", script, ROOT, tmp_path / "cases.json"], capture_output=True, text=True)
-    assert (done.stdout, done.stderr) == ("", "")
-    assert len(cases) > 200
+        let count = 0
+        for (const text of JSON.parse(readFileSync(texts))) {
+          const places = new Places(text, Buffer.from(text))
+          for (const fault of faults(text)) {
+            const [, at] = /^.requests.(\\d+)$/.exec(fault.place) ?? []
+            if (at === undefined) continue
+            const { start, end } = places.locate(fault).whole
+            if (!isDeepStrictEqual(JSON.parse(text.slice(start, end)), JSON.parse(text).requests[at])) console.log('place', text)
+            count++
+          }
+        }
+        console.log(count > 200)"""
+    words = ["node", "-e", script, ROOT, os.path.join(wasm, "odb_batch32.wasm"), tmp_path / "texts.json"]
+    done = subprocess.run(words, capture_output=True, text=True)
+    assert (done.stdout, done.stderr) == ("true\n", "")

@@ -81,7 +81,7 @@ def located(text, batch, second):
         place = line.split(" ", 3)[3]
         is_first = second is None or place == "batch" or place.startswith("/requests/")
         numbers = library.call_where(batch if is_first else second, place.encode())[1]
-        found.append(f"{line} {' '.join(map(str, numbers))}\n")
+        found.append(f"{line} {' '.join(map(str, numbers[:3]))}\n")
     return "".join(found).encode()
 
 
@@ -108,11 +108,11 @@ def requested(batch):
         return status, located(text, batch, None)
     lines = []
     for it in found:
-        parts = [request_part(batch if at == 6 else text, *it[2 * at : 2 * at + 2]) for at in range(7)]
+        parts = [request_part(batch if at == 7 else text, *it[2 * at : 2 * at + 2]) for at in (0, 1, 2, 3, 4, 5, 7)]
         headers = json.loads(parts[4])
         names = sorted(headers, key=str.encode)
         parts[4] = "".join(f"{name}:{headers[name]};" for name in names).encode("utf-8", "surrogatepass")
-        reference = -1 if it[14] == library.NONE else it[14]
+        reference = -1 if it[16] == library.NONE else it[16]
         lines.append(b"|".join(part or b"-" for part in parts) + b"|%d\n" % reference)
     return status, b"".join(lines)
 

@@ -58,7 +58,7 @@ def location(response):
 
 def moved_url(request, location):
     """The URL with a Location in the place of its reference, or None if it is not a plain URL."""
-    url = None if location is None else location + rest_of(request)
+    url = location + rest_of(request) if location else None
     return url if url is not None and rules.front(url)[0] == "plain" and not rules.is_nested_batch(url) else None
 
 

@@ -71,8 +71,8 @@ func answered(it call) (int, string) {
 		return text(fmt.Sprintf("ok %d requests %d groups\n", counts.Requests, counts.Groups), err)
 	case 1:
 		plan, err := odb.Plan(it.batch)
-		for _, p := range plan {
-			fmt.Fprintf(&out, "%d %s level %d group %s needs %s\n", p.Position, p.ID, p.Level, star(p.Group), star(strings.Join(p.Needs, ",")))
+		for i, p := range plan {
+			fmt.Fprintf(&out, "%d %s level %d group %s needs %s\n", i, p.ID, p.Level, star(p.Group), star(strings.Join(p.Needs, ",")))
 		}
 		return text(out.String(), err)
 	case 2:
@@ -89,13 +89,9 @@ func answered(it call) (int, string) {
 		found, err := odb.Run(it.batch, it.second, policy)
 		return text(string(found)+"\n", err)
 	case 5:
-		response, steps, err := odb.Replay(it.batch, it.second, odb.ReplayOptions{Policy: policy, Order: odb.Order(n[3]), Trace: n[4] == 1})
-		for _, step := range steps {
-			if step.Kind == "report" {
-				fmt.Fprintf(&out, "report %s %d\n", step.ID, step.Status)
-			} else {
-				fmt.Fprintf(&out, "%s %s\n", step.Kind, step.ID)
-			}
+		response, steps, err := odb.Replay(it.batch, it.second, policy, odb.Order(n[3]))
+		for i := 0; i < len(steps) && n[4] == 1; i++ { // with a trace
+			fmt.Fprintln(&out, steps[i])
 		}
 		return text(out.String()+string(response)+"\n", err)
 	}
@@ -139,6 +135,7 @@ func digest(text string) string { return fmt.Sprintf("%x", sha256.Sum256([]byte(
 var (
 	statuses = []int{200, 201, 204, 299, 300, 404, 409, 500, 599, 199, 600, 0}
 	headers  = []map[string]string{nil, {"etag": "7"}, {"A": "1", "a": "2"}}
+	states   = map[string]int{"waiting": 0, "ready": 1, "running": 2, "reported": 3, "skipped": 4, "undone": 5}
 	bodies   = []string{"", "null", `{"a":[1,2]}`, `"x"`, "{", "1.5", "[0.10, 1e999]"}
 )
 
@@ -152,12 +149,9 @@ func driven(number int, accepted [][]byte) string {
 	note := func(text string) { notes.WriteString(text + "\n") }
 	tried := func(result string, err error) {
 		var fault *odb.Fault
-		var refused *odb.Refused
 		switch {
 		case errors.As(err, &fault):
 			note(fault.Code + " " + fault.Name)
-		case errors.As(err, &refused):
-			note(refused.Code + " " + refused.Name)
 		case err != nil:
 			panic(err)
 		default:
@@ -201,7 +195,7 @@ func driven(number int, accepted [][]byte) string {
 			tried("ok", run.Report(id, status, heads, []byte(body)))
 		}
 		state, status, _ := run.State(id)
-		note(fmt.Sprint(uint32(state), status))
+		note(fmt.Sprint(states[state], status))
 		if next(50) == 0 {
 			run.Stop()
 		}
