@@ -73,7 +73,7 @@ function* answers(library, file) {
       yield lineOf([status, text.length], new Uint8Array(parts.buffer))
     }
     for (const place of PLACES) {
-      const numbers = new Float64Array(3)
+      const numbers = new Float64Array(4)
       const status = library.where(batch, bytesOf(place), numbers)
       expectFreed()
       yield lineOf([status, ...numbers], new Uint8Array())
