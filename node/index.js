@@ -7,11 +7,11 @@ const { requests } = require('./calls/requests.js')
 const { Run } = require('./calls/run.js')
 const { Fault, Refused } = require('./errors/faults.js')
 const { GroupFailed, Refusal } = require('./errors/refusals.js')
-const { version: number } = require('./library/index.js')
+const library = require('./library/index.js')
 const { perform } = require('./perform/index.js')
 
 /** The version of the library, MAJOR.MINOR.PATCH. */
-const version = [number / 10000, number / 100, number].map((part) => Math.floor(part) % 100).join('.')
+const version = [library.version / 10000, library.version / 100, library.version].map((part) => Math.floor(part) % 100).join('.')
 
 module.exports = {
   Fault,

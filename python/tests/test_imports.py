@@ -9,8 +9,6 @@ import odb_batch
 
 PACKAGE = os.path.dirname(odb_batch.__file__)
 NAME = "odb_batch"
-# What one module imports of another for its types alone, and nothing else.
-FOR_TYPES = {("journals._journal", "journals._journals")}
 # The layers: a folder or a module imports those of its own line and of earlier ones alone.
 LAYERS = [
     {"_native.library", "_native.constants"},
@@ -57,7 +55,7 @@ def imported(name):
             assert not isinstance(node, ast.Import) or not any(alias.name.startswith(NAME) for alias in node.names)
 
 
-EDGES = {name: {other for other in imported(name) if (name, other) not in FOR_TYPES} - {name} for name in MODULES}
+EDGES = {name: set(imported(name)) - {name} for name in MODULES}
 
 
 def layer(name):

@@ -2,16 +2,13 @@
 
 import asyncio
 import contextlib
-from typing import TYPE_CHECKING, Iterator, Optional, Sequence
+from typing import Iterator, Optional, Protocol, Sequence
 
 from ..documents.encoding import Report, Start
 from ..driver.journal import JournalEvent, StartUnit
 from ..http.messages import Refusal
 from ._encoding import PIECE, decode_batch, encode_events, join_texts, reports_of
-from ._stores import NOBODY, Late, Part, clock
-
-if TYPE_CHECKING:
-    from ._journals import Journals
+from ._stores import NOBODY, Late, Part, Store, clock
 
 # After how many seconds an answer is kept that comes while others of its batch are waited for.
 _SOON = 0.25
@@ -26,6 +23,16 @@ def in_progress() -> Refusal:
     return Refusal(409, "InProgress", "The batch is being performed", retry_after="1")
 
 
+class Owner(Protocol):
+    """What has the journals of a process: a journal asks it for the appends."""
+
+    store: Store
+    writers: Iterator[int]
+    lost: int
+
+    def flush(self, journal: "StoreJournal") -> asyncio.Event: ...
+
+
 class StoreJournal:
     """The journal of one batch, for `journal` of :func:`odb_batch.perform_async`; :meth:`Journals.journal` opens it.
 
@@ -37,7 +44,7 @@ class StoreJournal:
         failure: Why nothing more is appended: another one has the batch, or it is not known what was kept.
     """
 
-    def __init__(self, owner: "Journals", batch: bytes, parts: Sequence[Part], first: bytes = b"") -> None:
+    def __init__(self, owner: Owner, batch: bytes, parts: Sequence[Part], first: bytes = b"") -> None:
         text = join_texts(parts) if parts else b""
         self._owner, self.batch, self.events = owner, batch, decode_batch(first, text) if text and first else []
         # What no part has yet.

@@ -51,7 +51,7 @@ class Journals:
         self, store: Store, keep: float = 86_400.0, ahead: float = 0.0, steady: Callable[[], float] = clock
     ) -> None:
         self.store, self._keep, self._ahead, self._steady = store, keep, ahead, steady
-        self.writers = itertools.count(1)
+        self.writers: Iterator[int] = itertools.count(1)
         self._active: set[bytes] = set()
         # What is set at the end of the append of a journal that has begun, or is waited for.
         self._appends: dict[StoreJournal, asyncio.Event] = {}
