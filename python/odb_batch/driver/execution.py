@@ -6,7 +6,6 @@ from typing import Callable, Generator, Optional, Sequence, Union
 from .._native.calls import MAX_WIDTH, Mode
 from .._native.constants import limit, listed_names
 from ..documents.encoding import Report, Start
-from ..documents.requests import Request
 from ..errors.faults import Fault, Refused
 from ..http.bodies import text_json, to_json
 from ..http.messages import (
