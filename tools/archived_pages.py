@@ -19,7 +19,7 @@ SHIPPED_FILES = (
 # What the pages name and the repository alone has.
 OF_REPOSITORY = (
     ".ci/", "bench/", "bin/building.sh", "bin/crates", "bin/odb_library", "bin/odb_page", "bin/odb_program", "bin/odb_wasm", "bin/release",
-    "crates/", "dotnet/compile", "examples/service/tests/", "go/", "java/", "node/bundle", "node/compile", "node/http/",
+    "crates/", "dotnet/compile", "examples/service/tests/", "go/", "java/compile", "java/src/", "node/bundle", "node/compile", "node/http/",
     "node/library/wasm.js", "node/middleware/", "node/perform/", "node/test/", "page/", "ports/", "python/odb_batch/", "python/tests/",
     "tests/", "tools/", "wasm/",
 )  # fmt: skip

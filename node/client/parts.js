@@ -244,7 +244,6 @@ class Parts {
       if (isSuccess(answer) && this.#references.referred.has(id)) this.#references.keep(id, answer.headers, answer.body)
     }
     if (!this.#isStopped) this.#run.take(this.#given, { responses: ids.map((id) => this.#recorded(id)) }, { mode: this.#mode })
-    this.#isStopped ||= this.#mode === 'stop' && this.#refused.size > 0
   }
 
   /** The response to a request, with the URL and the ETag of what others refer to as headers. */

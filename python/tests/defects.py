@@ -82,7 +82,6 @@ DEFECTS = {
         "client/_parts", "itertools.dropwhile(lambda name: name not in refused, ids)", "ids", SENDING, "etags_that_are_not_there",
     ),
     "a-stop-that-goes-on": ("client/_parts", "ListedRun(document, mode=mode)", "ListedRun(document)", SENDING, "error_in_mode_stop"),
-    "what-comes-after-a-refusal": ("client/_parts", 'bool(self._refused) and self._mode == "stop"', "False", SENDING, "etags_that_are_not_there"),
     "each-error-goes-on": ("client/_parts", "self._groups), mode=self._mode)", "self._groups))", SENDING, "error_in_mode_stop"),
     "a-part-that-is-not-reported": ("client/_parts", "if not self._is_stopped:\n", "if False:\n", SENDING, "as_many"),
     "a-part-after-a-refusal": ("client/_parts", "self._is_stopped = True\n", "pass\n", SENDING, "answer_to_the_whole"),

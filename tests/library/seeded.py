@@ -22,7 +22,7 @@ def answer(name, documents, numbers, requests):
         status, _, found = listed(*documents, ROOM, requests)
         assert (status, len(found)) == (library.DONE, 0 if name == "odb_faults" else requests), name
         return ""
-    handle = library.Handle()
+    handle = ctypes.c_void_p()
     place = (ctypes.byref(handle),) if name.startswith("odb_run_open") else ()
     if name == "odb_run_open_requests":
         status, _, found = library.call_open(*documents, (*numbers, *place), ROOM, requests)

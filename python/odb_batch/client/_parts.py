@@ -175,7 +175,6 @@ class Parts:
         if not self._is_stopped:
             recorded = {request_id: self._recorded(request_id) for request_id in self._part.ids}
             self._run.take(self._given, responses_json(recorded, self._groups), mode=self._mode)
-        self._is_stopped |= bool(self._refused) and self._mode == "stop"
 
     def _recorded(self, request_id: str) -> Answer:
         """Returns the status that a request was answered, with the URL and the ETag of what others refer to as headers."""
