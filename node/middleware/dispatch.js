@@ -38,7 +38,7 @@ class MemorySocket extends Duplex {
     this.outer = outer
     this.#budget = budget
     this.#readsOnly = readsOnly
-    if (outer.getPeerCertificate) this.getPeerCertificate = (...given) => outer.getPeerCertificate(...given)
+    if (outer.getPeerCertificate) this.getPeerCertificate = outer.getPeerCertificate.bind(outer)
   }
 
   _read() {}
@@ -251,10 +251,13 @@ function dispatcher(handler) {
       process.nextTick(() => socket.destroy())
     })
     for (const emitter of [res, socket]) emitter.on('error', reject)
-    wait.onEnd = (reason) => {
+    const end = (reason) => {
       reject(reason)
       socket.destroy()
     }
+    // V8 keeps a function among its old objects that is assigned to a member where it is written. All that it holds would outlive the
+    // request, until these are collected.
+    wait.onEnd = end
     new Promise((done) => done(handler(req, res))).catch((error) => {
       if (res.writableEnded) return
       reject(error)

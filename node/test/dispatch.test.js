@@ -1,10 +1,12 @@
 'use strict'
 
-// Requests and responses in memory where the classes of node:http are classes of the language, as they may become.
+// Requests and responses in memory, where the classes of node:http are classes of the language, as they may become.
 
 const assert = require('node:assert/strict')
 const http = require('node:http')
 const { test } = require('node:test')
+const { getHeapSpaceStatistics, setFlagsFromString } = require('node:v8')
+const { runInNewContext } = require('node:vm')
 
 const { IncomingMessage, ServerResponse } = http
 http.IncomingMessage = class extends IncomingMessage {}
@@ -56,4 +58,22 @@ test('takes of the budget what is written as it is written, and gives back what 
   assert.deepEqual([all.take(40), budget.take(1)], [true, false])
   budget.giveBack(1)
   assert.equal(all.take(1), false)
+})
+
+test('holds nothing of a request that was answered until all objects are collected', async () => {
+  setFlagsFromString('--expose-gc')
+  const collect = runInNewContext('gc')
+  const old = () => getHeapSpaceStatistics().find(({ space_name: name }) => name === 'old_space').space_used_size
+  const answer = dispatcher((req, res) => res.end())
+  const grown = async () => {
+    const before = old()
+    for (let k = 0; k < 200; k++) {
+      await answer({}, GET, new BodyBudget(1000), {})
+      if (k % 20 === 0) collect({ type: 'minor' })
+    }
+    return old() - before
+  }
+  await grown() // code and the like
+  const bytes = await grown()
+  assert(bytes < 200000, `200 requests left ${bytes} bytes`)
 })
