@@ -6,7 +6,7 @@ const { match } = require('../calls/commands.js')
 const { requireOptions } = require('../calls/options.js')
 const { writeBatch } = require('../documents/batch_text.js')
 const { Refusal } = require('../errors/refusals.js')
-const { foldHeaders, isSuccess, readAnswer } = require('../http/messages.js')
+const { foldHeaders, isSuccess, validateAnswer } = require('../http/messages.js')
 const { Stop } = require('../perform/index.js')
 const { responseBytes } = require('./parts.js')
 const { Results, UNSURE, readSeconds } = require('./results.js')
@@ -153,7 +153,7 @@ class Sending {
     const request = { method, headers: { ...headers, ...own, ...id }, body }
     try {
       const answer = await this.#stop.within(timeout, async (wait) => {
-        return readAnswer(await fetch(url, { ...request, signal: wait?.signal }))
+        return validateAnswer(await fetch(url, { ...request, signal: wait?.signal }))
       })
       if (ID in id) this.#learn(answer)
       if (isSuccess(answer)) {

@@ -8,7 +8,7 @@ const { Refusal } = require('../errors/refusals.js')
 const { CONSTANTS } = require('../library/constants.js')
 
 // How long the text of a body may be in a response.
-const MOST_BYTES = CONSTANTS.limits.document_bytes
+const MAX_BODY_BYTES = CONSTANTS.limits.document_bytes
 const MARK = Buffer.from([0xef, 0xbb, 0xbf])
 
 // The names of Node for character sets in which a text can be written.
@@ -96,4 +96,4 @@ function readEntity(text) {
   }
 }
 
-module.exports = { MOST_BYTES, isJson, mediaType, readEntity, skipMark, toJson, toJsonString, toWire }
+module.exports = { MAX_BODY_BYTES, isJson, mediaType, readEntity, skipMark, toJson, toJsonString, toWire }

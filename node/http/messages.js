@@ -37,7 +37,7 @@ function isSuccess({ status }) {
  * The answer in what a function that sends returns: an answer, or the response of a fetch, whose body is read. Throws for a status
  * that is not a whole number: what is no answer must not commit a group.
  */
-async function readAnswer(returned) {
+async function validateAnswer(returned) {
   if (typeof returned !== 'object' || returned === null) throw new TypeError(`send must return an answer, not ${String(returned)}`)
   const { status } = returned
   if (!Number.isInteger(status)) {
@@ -47,4 +47,4 @@ async function readAnswer(returned) {
   return { status: finalStatus(status), headers: foldHeaders(returned.headers), body }
 }
 
-module.exports = { finalStatus, foldHeaders, isSuccess, readAnswer }
+module.exports = { finalStatus, foldHeaders, isSuccess, validateAnswer }

@@ -4,7 +4,7 @@
 
 const { IncomingMessage, ServerResponse } = require('node:http')
 const { Duplex } = require('node:stream')
-const { finalStatus, readAnswer } = require('../http/messages.js')
+const { finalStatus, validateAnswer } = require('../http/messages.js')
 
 // What a handler may ask of the connection of a client.
 const OF_CONNECTION = ['authorized', 'encrypted', 'localAddress', 'localPort', 'remoteAddress', 'remoteFamily', 'remotePort']
@@ -272,7 +272,7 @@ function injector(app) {
     const injected = await app.inject({ method, url, headers, payload: body, remoteAddress })
     if (wait.reason !== undefined) throw wait.reason // nobody waits for it any more
     const { statusCode: status, rawPayload } = injected
-    const answer = await readAnswer({ status, headers: injected.headers, body: rawPayload })
+    const answer = await validateAnswer({ status, headers: injected.headers, body: rawPayload })
     return budget.take(rawPayload.length) ? answer : dropBody({ method }, answer, budget.shortage(rawPayload.length))
   }
 }

@@ -7,7 +7,7 @@ const { requireOptions } = require('../calls/options.js')
 const { Fault } = require('../errors/faults.js')
 const { Refusal, toRefusal } = require('../errors/refusals.js')
 const { BatchRequest, HeaderPolicy, folder } = require('../http/batch_request.js')
-const { MOST_BYTES } = require('../http/bodies.js')
+const { MAX_BODY_BYTES } = require('../http/bodies.js')
 const { decodePart } = require('../http/urls.js')
 const { Stop, performBatch, performSettings } = require('../perform/index.js')
 const { BodyBudget } = require('./body_budget.js')
@@ -36,7 +36,7 @@ function requireBytes({ maxSize, memory }) {
 /** The options with their defaults, or a TypeError. */
 function batchSettings(options) {
   const { path = '/$batch', root = folder(path), allowed = [], inspect, onRequest, requestLog, ...more } = options
-  const { maxSize = MOST_BYTES, ...others } = more
+  const { maxSize = MAX_BODY_BYTES, ...others } = more
   const { memory = Math.max(USUAL_MEMORY, 2 * maxSize), limit = MOST_REQUESTS, timeout = MOST_MILLISECONDS, ...rest } = others
   for (const [name, value] of Object.entries({ path, root })) {
     if (!String(value).startsWith('/')) throw new TypeError(`the ${name} must begin with /, not ${String(value)}`)
@@ -83,13 +83,18 @@ async function answerBatch(callApp, req, client, memory, { path, root, policy, h
   client.stopWith(stop)
   const body = await performBatch(document, send, { ...perform, stop, mode, base, roots })
   if (client.hasLeft) perform.log(new Error('the client left before the answer: what had not started was not sent'), 'the batch')
+  return batchResponse(body, mode)
+}
+
+/** The answer to a batch that was performed. */
+function batchResponse(body, mode) {
   const applied = mode === 'continue' ? { 'preference-applied': 'continue-on-error' } : {}
   return { status: 200, headers: { 'content-type': 'application/json', ...applied }, body }
 }
 
-/** The answer in place of one that failed. A batch that is refused is answered with its first fault. */
-function failureAnswer(error, log) {
-  if (error instanceof Fault) return failureAnswer(new Refusal(400, error.code, error.details, { target: error.place }), log)
+/** The answer to a batch that was not. One that is refused is answered with its first fault. */
+function errorResponse(error, log) {
+  if (error instanceof Fault) return errorResponse(new Refusal(400, error.code, error.details, { target: error.place }), log)
   if (!(error instanceof Refusal)) log(error, 'the batch')
   const { status, headers, body } = toRefusal(error).answer
   return { status, headers, body: Buffer.from(JSON.stringify(body)) }
@@ -105,7 +110,7 @@ function batch(app, options = {}) {
     const client = new ClientConnection(res, settings.perform.timeout)
     const memory = new BodyBudget(Infinity, settings.memory) // of this batch, to be given back as a whole
     answerBatch(callApp, req, client, memory, settings)
-      .catch((error) => failureAnswer(error, log))
+      .catch((error) => errorResponse(error, log))
       .then((answer) => client.answer(answer))
       .catch((error) => log(error, 'the response to a batch'))
       .finally(() => client.whenClosed(() => memory.close()))

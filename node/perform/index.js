@@ -8,8 +8,8 @@ const { openListed } = require('../calls/run.js')
 const { documentBytes, kindName } = require('../documents/bytes.js')
 const { Fault } = require('../errors/faults.js')
 const { Refusal, toRefusal } = require('../errors/refusals.js')
-const { readAnswer } = require('../http/messages.js')
-const { MOST_BYTES, toJson, toJsonString } = require('../http/bodies.js')
+const { validateAnswer } = require('../http/messages.js')
+const { MAX_BODY_BYTES, toJson, toJsonString } = require('../http/bodies.js')
 const { References } = require('../http/references.js')
 const { CONSTANTS } = require('../library/constants.js')
 const { GroupTransaction } = require('./group.js')
@@ -256,7 +256,7 @@ class Performer {
 
   /** The text of a body that is answered. If it is too long for a response a GET is refused, and any other request loses it. */
   #requireFitting({ method }, text) {
-    if (text === undefined || text.length <= MOST_BYTES) return text
+    if (text === undefined || text.length <= MAX_BODY_BYTES) return text
     if (method === 'GET') throw new Refusal(507, 'TooLong', 'The answer is too long for a batch')
     return undefined
   }
@@ -275,7 +275,7 @@ class Performer {
   #reportReadable(id, status, headers, text) {
     if (this.#tryReport(id, status, headers, text)) return
     const string = text && toJsonString(text, {})
-    const fitting = string?.length > MOST_BYTES ? undefined : string
+    const fitting = string?.length > MAX_BODY_BYTES ? undefined : string
     if (this.#tryReport(id, status, headers, fitting) || this.#tryReport(id, status, asciiHeaders(headers), text)) return
     this.#run.report(id, status, asciiHeaders(headers), fitting)
   }
@@ -301,7 +301,7 @@ function requirePerformable(requests, { limit, transaction }) {
 }
 
 /**
- * Performs a batch by a function that is given requests and the waits for their answers, and returns what `readAnswer` does. `stop` of
+ * Performs a batch by a function that is given requests and the waits for their answers, and returns what `validateAnswer` does. `stop` of
  * the settings is a `Stop`.
  */
 async function performBatch(batch, send, settings) {
@@ -324,7 +324,7 @@ async function perform(batch, send, options = {}) {
       return wait?.signal
     },
   })
-  const sendPublic = async (request, wait) => readAnswer(await send(withSignal(request, wait)))
+  const sendPublic = async (request, wait) => validateAnswer(await send(withSignal(request, wait)))
   const settings = performSettings(options)
   return performBatch(batch, sendPublic, { ...settings, stop: new Stop(settings.stop, settings.deadline) })
 }
