@@ -63,7 +63,8 @@ function toWire(text, headers) {
 
 /** Bytes of a text, without the mark that it may begin with. */
 function skipMark(bytes) {
-  return bytes.subarray(0, MARK.length).equals(MARK) ? bytes.subarray(MARK.length) : bytes
+  const hasMark = bytes[0] === MARK[0] && bytes.subarray(0, MARK.length).equals(MARK)
+  return hasMark ? bytes.subarray(MARK.length) : bytes
 }
 
 /**
