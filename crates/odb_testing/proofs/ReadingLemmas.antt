@@ -36,3 +36,9 @@ pub one_of : {X E : Type 0} (ended : X → E) (text : X → List ℕ) (W : E →
 one_of ended text W one None b _ _ = tt
 one_of ended text W one (Some x) None _ _ = tt
 one_of ended text W one (Some x) (Some y) is too = one (ended x) (ended y) (text x) (text y) is too
+
+-- what holds of each two such things holds of what two calls find
+pub both_found : {X : Type 0} (P : X → Type 0) (R : X → X → Type 0) → ((x y : X) → P x → P y → R x y) → (a b : Option X) → IfSome a P → IfSome b P → IfSome a (λ x. IfSome b (R x))
+both_found P R so None b _ _ = tt
+both_found P R so (Some x) None _ _ = tt
+both_found P R so (Some x) (Some y) p q = so x y p q
