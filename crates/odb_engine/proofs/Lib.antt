@@ -34,3 +34,6 @@ mod VerdictLemmas
 mod LocatedLemmas
 mod ListLawLemmas
 mod WrittenLemmas
+mod PlaceTextLemmas
+mod LocatedTextLemmas
+mod OneLocatedLemmas

@@ -138,15 +138,19 @@ task-one law (tasks.Replay policy order traced) document form given known batch 
     given-one given known places.Outcomes (ReplaysValue (AllowsOrder order) policy traced batch) form (λ value. replays_value_one order (law.order order) law.recorded policy traced batch value form) a b s t x y
 task-one law (tasks.Run policy) document form given known batch good taken a b s t x y = given-one given known places.Events (RunsValue policy batch) form (λ value. runs_value_one law.causes law.history policy batch good value form) a b s t x y
 
-answers-one : AreOneText → (task : Task) (form : Form) (given : Given) → IsKnown given → (bytes : List ℕ) → IsOne (Answers (OfTask task bytes given) bytes form)
+pub answers-one : AreOneText → (task : Task) (form : Form) (given : Given) → IsKnown given → (bytes : List ℕ) → IsOne (Answers (OfTask task bytes given) bytes form)
 answers-one law task form given known bytes = answers_in_one law.batch (OfTask task bytes given) bytes form (λ d batch is good. task-one law task bytes form given known batch good (λ takes. (d, is)))
 
 pub documents-one : AreOneText → (task : Task) (form : Form) (given : Given) → IsKnown given → (bytes : List ℕ) → IsOne (OfDocuments task given bytes form)
 documents-one law task form given known bytes = written-one law.batch (lists_all task) (Answers (OfTask task bytes given) bytes) bytes form (answers-one law task form given known bytes)
 
-pub line-one : AreOneText → (task : Task) (form : Form) (line : List ℕ) → IsOne (OfWholeLine task line form)
-line-one law task form line = written-one law.batch (lists_all task) (OfLine task line) line form (at (takes_second task))
+-- what is written of a line before all faults are listed is one text
+pub of-line-one : AreOneText → (task : Task) (form : Form) (line : List ℕ) → IsOne (OfLine task line form)
+of-line-one law task form line = at (takes_second task)
   where
     at : (two : Bool) → IsOne (InLine two (takes_bytes task) (OfTask task) line form)
     at false = answers-one law task form (InMemory []) tt line
     at true = pair-one law.batch law.pair (takes_bytes task) (OfTask task) form (λ document batch good taken second. task-one law task document form (InHand second) tt batch good taken) line
+
+pub line-one : AreOneText → (task : Task) (form : Form) (line : List ℕ) → IsOne (OfWholeLine task line form)
+line-one law task form line = written-one law.batch (lists_all task) (OfLine task line) line form (of-line-one law task form line)

@@ -13,7 +13,7 @@ ghost use Rattle.odb_sched.specs.run.Runs.{event_position};
 ghost use Rattle.odb_sched.specs.run.State.{after, size};
 ghost use Rattle.odb_sched.specs.run.Steps.{may_come};
 ghost use Rattle.serde_json.specs.Data.{Data};
-ghost use Rattle.odb_doc.specs.Documents.{IsDocument};
+ghost use Rattle.odb_doc.specs.Documents.{IsDocument, IsJson};
 ghost use Rattle.odb_doc.specs.Refusals.{Printed};
 ghost use Rattle.odb_spans.specs.Positions.{pair};
 ghost use Rattle.odb_engine.specs.AllFaults.{AreFaultsIn};
@@ -25,6 +25,8 @@ ghost use Rattle.odb_engine.specs.Contents.Given.{ByReader, InMemory};
 ghost use Rattle.odb_engine.specs.Inputs.{IsDocumentOf};
 ghost use Rattle.odb_engine.specs.declared.tasks.task.Task.{Task};
 ghost use Rattle.odb_engine.specs.Tasks.{IsLineOf, OfDocuments, OfWholeLine, WritesParts, takes_bytes, takes_second};
+ghost use Rattle.odb_engine.specs.Located.{LocatesDocuments};
+ghost use Rattle.odb_engine.specs.lines.Numbers.{OfNumbered};
 ghost use Rattle.odb_engine.specs.Live.{Live, Opens, RecordsOneMore, Shows, with_run};
 ghost use Rattle.odb_engine.specs.declared.ending.Ended.TheVariants.{Done};
 ghost use Rattle.odb_reply.specs.declared.strictness.Strictness.TheVariants.{Requests};
@@ -70,14 +72,24 @@ pub fn one_document()
 /// refused. Likewise for a line of a log, with one document or with two. So what a task writes is a function of the bytes and
 /// the form.
 ///
+/// So it is if faults are printed with where they are, provided that the documents are JSON (`located`): where one that is not
+/// JSON stops being so (F02) is tested. A fault of a line with its number, located or not, is one text too (`numbered`).
+///
 /// The relation `OfDocuments` is that of [`crate::answer_documents`], and `OfWholeLine` that of [`crate::answer_line`]. `left` is
-/// what the second reader has left.
+/// what the second reader has left. `LocatesDocuments` is that of [`crate::answer_in_memory`], and `OfNumbered` that of
+/// [`crate::answer_line`].
 pub fn one_text()
     ensures task { (task : Task) (form : Form) (bytes left : List ℕ)
         → IsOne (OfDocuments task (ByReader (Some left)) bytes form) }
     ensures memory { (task : Task) (form : Form) (bytes second : List ℕ)
         → IsOne (OfDocuments task (InMemory second) bytes form) }
     ensures line { (task : Task) (form : Form) (line : List ℕ) → IsOne (OfWholeLine task line form) }
+    ensures located { (task : Task) (form : Form) (batch_name batch second_name second : List ℕ) (d : Data)
+        → IsJson batch d → (takes_second task ≡ true → (e : Data) × IsJson second e)
+        → IsOne (LocatesDocuments task batch_name batch second_name second form) }
+    ensures numbered { (numbers located : Bool) (task : Task) (form : Form) (name : List ℕ) (number : ℕ)
+        (line : List ℕ) → (located ≡ true → (d : Data) × IsJson line d)
+        → IsOne (OfNumbered numbers located name task number line form) }
 {
     odb_doc::laws::one_batch();
     odb_doc::laws::one_fault();
@@ -86,6 +98,8 @@ pub fn one_text()
     odb_reply::laws::one_match();
     odb_spans::laws::one_place();
     odb_spans::laws::one_pair();
+    odb_spans::laws::one_position();
+    odb_text::laws::every_result();
     odb_send::laws::one_rest();
     odb_reply::laws::one_status();
     odb_doc::laws::one_record();

@@ -3,6 +3,7 @@ use Rattle.odb_engine.specs.Contents.Given.{ByReader, InMemory}
 use Rattle.odb_engine.proofs.LawLemmas.{AreFunctional}
 use Rattle.odb_engine.proofs.TaskLawLemmas.{AreOneText, documents-one, line-one}
 use Rattle.odb_engine.proofs.MatchLawLemmas.{AreOneMatch}
+use Rattle.odb_engine.proofs.OneLocatedLemmas.{AreOneLocated, ArePositions, located-documents, numbered-line}
 use Rattle.odb_engine.proofs.laws.one_text.Goals as goal
 
 pub returns : goal.returns
@@ -34,8 +35,12 @@ returns c =
       history = record { one_fault = c.one_history.ensures.one; no_fault = c.one_history.ensures.none; one_reading = c.one_history.ensures.events };
       causes = record { one_refusal = c.every_cause.ensures.one_refusal; one_unknown = c.every_cause.ensures.one_unknown };
     } in
+    let places : ArePositions = record { document = c.one_position.ensures.document; line = c.one_position.ensures.line } in
+    let located : AreOneLocated = record { text = law; read = c.every_result.ensures.fault; positions = places } in
     record {
       task = λ task form bytes left. documents-one law task form (ByReader (Some left)) tt bytes;
       memory = λ task form bytes second. documents-one law task form (InMemory second) tt bytes;
       line = λ task form line. line-one law task form line;
+      located = λ task form batch_name batch second_name second d json other. located-documents located task form batch_name batch second_name second d json other;
+      numbered = λ numbers is_located task form name number line json. numbered-line located numbers is_located task form name number line json;
     }
