@@ -1,5 +1,5 @@
 -- What is written of a line of a log, by how its faults are printed.
-use Rattle.std.specs.Prelude.{◌≡◌, ◌⊎◌, ◌+◌, ◌<◌, ◌-◌, ◌++◌, ℕ, Bool, true, false, List, Option, None, Some, length, take, drop, codes}
+use Rattle.std.specs.Prelude.{◌≡◌, ◌+◌, ◌-◌, ◌++◌, ℕ, Bool, true, false, List, Option, None, Some, length, take, drop, codes}
 use Rattle.std.specs.Fmt.{decimal}
 use Rattle.memchr.specs.Find.{IsFirstByte, is_byte}
 use Rattle.odb_engine.specs.Cascade.{WritesIn}
