@@ -17,6 +17,10 @@ from ._options import PROGRAM, Options, options_of
 from ._values import Address
 from ._workers import UNUSABLE, Worker, Workers
 
+# After so many seconds the loop lets another thread of Python go on. With Python's 5 ms a journal in SQLite waits longer for the
+# loop than for the disk.
+_SWITCH_SECONDS = 0.0005
+
 
 def main(words: Sequence[str]) -> int:
     """Does what the words of a command line ask; returns the exit status."""
@@ -40,6 +44,7 @@ def _run(options: Options, worker: Optional[Worker] = None) -> int:
     """Is a gateway until it is stopped, alone or as one of several; returns the exit status."""
     if worker is not None:
         log_to_stderr(options.log, options.log_format == "json", worker.number)
+    sys.setswitchinterval(_SWITCH_SECONDS)
     try:
         asyncio.run(_serve(options, worker))
     except OSError as error:
