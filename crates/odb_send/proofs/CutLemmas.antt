@@ -1,5 +1,5 @@
--- The part of the units that fit, up to the first that lacks a Location.
-use Rattle.std.proofs.Common.{◌≡◌, ◌∙◌, ◌<◌, ◌≤◌, ℕ, zero, suc, Bool, true, false, nat_lt, List, [], ◌∷◌, length, Option, None, Some, option_and_then, inl, inr, refl, ap, sym, subst, arith, IsSomeAnd, lt-ltb}
+-- The part of the units that fit, up to the first that lacks a Location or an ETag.
+use Rattle.std.proofs.Common.{◌≡◌, ◌∙◌, ◌<◌, ◌≤◌, ℕ, zero, suc, Bool, true, false, nat_lt, List, [], ◌∷◌, length, Option, None, Some, option_and_then, inl, inr, codes, refl, ap, sym, subst, arith, IsSomeAnd, lt-ltb}
 use Rattle.std.specs.List.{list_any}
 use Rattle.std.proofs.lemmas.Bool.{and_from, and_parts, cases_order, ltb-true, true≢false, false≢true}
 use Rattle.odb_doc.specs.batch.Records.{Record}
@@ -13,23 +13,24 @@ use Rattle.odb_check.proofs.BelowLemmas.{get_or-list_below, length-list_below}
 use Rattle.odb_check.proofs.PlanLemmas.{needs_before}
 use Rattle.odb_check.proofs.PositionLemmas.{position_first}
 use Rattle.odb_check.proofs.UnitLemmas.{unit_before}
-use Rattle.odb_reply.specs.BodyTexts.{text_at}
-use Rattle.odb_send.specs.declared.fault.RestRule.TheVariants.{NoLocation}
-use Rattle.odb_send.specs.Faults.{LacksLocation, RefusesRest, RestFault}
+use Rattle.odb_send.specs.declared.fault.RestRule.{RestRule}
+use Rattle.odb_send.specs.Answers.{Answer}
+use Rattle.odb_send.specs.Faults.{Breaks, Lacks, LacksLocation, LacksTag, RefusesRest, RestFault}
 use Rattle.odb_send.specs.Marks.{marked_before}
-use Rattle.odb_send.specs.NextPart.{HasLack, HasSome, IsCut, LacksFirst, RefusesPart}
-use Rattle.odb_send.specs.Rests.{HasUrls, Leaves, is_kept}
+use Rattle.odb_send.specs.NextPart.{BreaksFirst, HasLack, HasSome, IsCut, IsPartOf, RefusesPart}
+use Rattle.odb_send.specs.declared.rest.Rest.{Rest}
+use Rattle.odb_send.specs.Rests.{Change, HasChanges, Leaves, change_at, changes, is_kept, kept}
 use Rattle.odb_send.specs.Units.{marked}
 use Rattle.odb_send.proofs.MarkLemmas.{not_marked}
 use Rattle.odb_send.proofs.NextPartLemmas.{unit_member}
-use Rattle.odb_send.proofs.UrlLemmas.{SameLocations, has_url, lacks_by, one_position, referred_within, referring}
+use Rattle.odb_send.proofs.UrlLemmas.{SameAnswers, breaks_by, breaks_lacks, changes_by, has_change, lacks_by, one_position, referred_within, referring, tagged_before, tagging}
 
 -- where each request has its URL, the part has all that fits
-pub cut_whole : (rs : List Record) (fitting : List Bool) (locations : ℕ → Option (List ℕ)) (list : List (Option (List ℕ))) → length fitting ≡ unit_count rs → HasUrls rs fitting locations list → IsCut rs fitting locations fitting
-cut_whole rs fitting locations list count are = record {
+pub cut_whole : (rs : List Record) (fitting : List Bool) (answers : ℕ → Answer) (list : List Change) → length fitting ≡ unit_count rs → HasChanges rs fitting answers list → IsCut rs fitting answers fitting
+cut_whole rs fitting answers list count are = record {
   end = unit_count rs;
   units = record { count = count; each = λ u known. ((λ is. (known, is)), (λ first. first.1)) };
-  placed = λ u less lack. let (i, within, unit, lacks) = lack in has_url rs fitting locations i (text_at list i) (are.each i within) lacks;
+  placed = λ u less lack. let (i, within, unit, lacks) = lack in has_change rs fitting answers i (change_at list i) (are.each i within) lacks;
   next = inl refl;
 }
 
@@ -47,11 +48,17 @@ refers_before rs good i p is = by_reference (reference_at rs i) refl is
           | inr (inr after) ↦ absurd (good rules.ForwardReference i (subst (λ q. IsSomeAnd q (λ x. IsIdFrom rs x i)) (sym here) (p, omega (arith, after), first.1.here)))
         ]
 
--- `part` has those of the units that fit that come before the unit of the first request that lacks a Location
-module _ (rs : List Record) (good : HasGoodNames rs) (fitting part : List Bool) (locations : ℕ → Option (List ℕ)) (at : ℕ) (count : length fitting ≡ unit_count rs) (lacks : LacksLocation rs fitting locations at) (least : (i : ℕ) → i < at → ¬ LacksLocation rs fitting locations i)
+-- what lacks something is one of the batch
+pub lacks_within : (rs : List Record) (kept : List Bool) (answers : ℕ → Answer) (i : ℕ) → Lacks rs kept answers i → i < length rs
+lacks_within rs kept answers i (inl lacks) = referring rs i lacks.position lacks.leaves.refers
+lacks_within rs kept answers i (inr (inl lacks)) = tagging rs (codes "if-match") i lacks.position lacks.leaves.refers
+lacks_within rs kept answers i (inr (inr lacks)) = tagging rs (codes "if-none-match") i lacks.position lacks.leaves.refers
+
+-- `part` has those of the units that fit that come before the unit of the first request that breaks a rule
+module _ (rs : List Record) (good : HasGoodNames rs) (fitting part : List Bool) (answers : ℕ → Answer) (at : ℕ) (rule : RestRule) (count : length fitting ≡ unit_count rs) (breaks : Breaks rule rs fitting answers at) (least : (i : ℕ) → i < at → ¬ Lacks rs fitting answers i)
     (is : part ≡ list_below (length fitting) (marked_before fitting (unit_at rs at))) where
   within : at < length rs
-  within = referring rs at lacks.position lacks.leaves.refers
+  within = lacks_within rs fitting answers at (breaks_lacks rule rs fitting answers at breaks)
 
   part-at : (u : ℕ) → u < unit_count rs → marked part u ≡ marked_before fitting (unit_at rs at) u
   part-at u known = ap (λ (marks : List Bool). marked marks u) is ∙ get_or-list_below (length fitting) (marked_before fitting (unit_at rs at)) u false (omega (arith, known, count))
@@ -73,17 +80,17 @@ module _ (rs : List Record) (good : HasGoodNames rs) (fitting part : List Bool) 
   pub part-count : length part ≡ unit_count rs
   part-count = ap (λ (marks : List Bool). length marks) is ∙ length-list_below (length fitting) (marked_before fitting (unit_at rs at)) ∙ count
 
-  pub cut-before : HasSome rs part → IsCut rs fitting locations part
+  pub cut-before : HasSome rs part → IsCut rs fitting answers part
   cut-before some = record {
     end = unit_at rs at;
     units = record { count = part-count; each = λ u known. (part-first u known, (λ first. part-there u known first.0 first.1)) };
     placed = λ u less lack. let (i, inside, unit, bad) = lack in least i (earlier i (omega (arith, unit, less))) bad;
-    next = inr (some, (at, within, refl, lacks));
+    next = inr (some, (at, within, refl, breaks_lacks rule rs fitting answers at breaks));
   }
 
-  pub cut-none : ((u : ℕ) → u < unit_count rs → marked part u ≡ false) → LacksFirst rs fitting locations at
+  pub cut-none : ((u : ℕ) → u < unit_count rs → marked part u ≡ false) → BreaksFirst rule rs fitting answers at
   cut-none none = record {
-    lacks = lacks;
+    breaks = breaks;
     least = least;
     begins = λ u less.
         let known : u < unit_count rs = omega (arith, less, unit_before rs at (length rs) within) in
@@ -102,12 +109,12 @@ module _ (rs : List Record) (good : HasGoodNames rs) (fitting part : List Bool) 
   }
 
   -- no request of the part lacks a Location
-  pub cut-lacks : (i : ℕ) → ¬ LacksLocation rs part locations i
-  cut-lacks i bad =
+  cut-placed : (i : ℕ) → ¬ LacksLocation rs part answers i
+  cut-placed i bad =
       let inside : i < length rs = referring rs i bad.position bad.leaves.refers in
       let first = part-first (unit_at rs i) (unit_before rs i (length rs) inside) bad.leaves.stays in
       let leaves = leaves-fitting i bad.position bad.leaves first.0 first.1 in
-      least i (earlier i first.0) (record {
+      least i (earlier i first.0) (inl (record {
         position = bad.position;
         leaves = leaves;
         none = λ url moves.
@@ -123,10 +130,34 @@ module _ (rs : List Record) (good : HasGoodNames rs) (fitting part : List Bool) 
               joined = moves.joined;
               plain = moves.plain;
             });
-      })
+      }))
 
-  pub cut-refuses : (fault : RestFault) → RefusesRest fault rs part locations → RefusesPart fault rs fitting locations
-  cut-refuses (faults.Broken i NoLocation) refuses = absurd (cut-lacks i refuses.0)
+  -- nor an ETag
+  cut-tagged : (name : List ℕ) → ((i : ℕ) → LacksTag rs fitting answers name i → Lacks rs fitting answers i) → (i : ℕ) → ¬ LacksTag rs part answers name i
+  cut-tagged name lacks i bad =
+      let p = bad.position in
+      let inside : i < length rs = tagging rs name i p bad.leaves.refers in
+      let first = part-first (unit_at rs i) (unit_before rs i (length rs) inside) bad.leaves.stays in
+      let (less, within) = tagged_before rs name i p bad.leaves.refers in
+      let before = (needs_before rs good).order p i (omega (arith, less)) in
+      least i (earlier i first.0) (lacks i (record {
+        position = p;
+        leaves = record {
+          stays = first.1;
+          refers = bad.leaves.refers;
+          leaves = not_marked (is_kept rs fitting p) (λ fits.
+              true≢false (sym (part-there (unit_at rs p) (unit_before rs p (length rs) within) (omega (arith, before, first.0)) fits) ∙ bad.leaves.leaves));
+        };
+        none = bad.none;
+      }))
+
+  pub cut-lacks : (i : ℕ) → ¬ Lacks rs part answers i
+  cut-lacks i (inl bad) = cut-placed i bad
+  cut-lacks i (inr (inl bad)) = cut-tagged (codes "if-match") (λ j lacks. inr (inl lacks)) i bad
+  cut-lacks i (inr (inr bad)) = cut-tagged (codes "if-none-match") (λ j lacks. inr (inr lacks)) i bad
+
+  pub cut-refuses : (fault : RestFault) → RefusesRest fault rs part answers → RefusesPart fault rs fitting answers
+  cut-refuses (faults.Broken i broken) refuses = absurd (cut-lacks i (breaks_lacks broken rs part answers i refuses.0))
   cut-refuses faults.OutOfMemory refuses = tt
 
 -- ---- whether there is a unit
@@ -148,12 +179,12 @@ some-request rs units count some =
     let (i, inside, unit) = unit_member rs u (omega (arith, within, count)) in
     (i, inside, ap (marked units) unit ∙ marks)
 
--- ---- other Locations, which are the same at the positions of the batch
+-- ---- other answers, which are the same at the positions of the batch
 
-lack_by : (rs : List Record) (fitting : List Bool) (one other : ℕ → Option (List ℕ)) (u : ℕ) → SameLocations rs one other → HasLack rs fitting one u → HasLack rs fitting other u
+lack_by : (rs : List Record) (fitting : List Bool) (one other : ℕ → Answer) (u : ℕ) → SameAnswers rs one other → HasLack rs fitting one u → HasLack rs fitting other u
 lack_by rs fitting one other u agree (i, within, unit, lacks) = (i, within, unit, lacks_by rs fitting one other i agree lacks)
 
-pub cut_by : (rs : List Record) (fitting : List Bool) (one other : ℕ → Option (List ℕ)) (part : List Bool) → SameLocations rs one other → IsCut rs fitting one part → IsCut rs fitting other part
+pub cut_by : (rs : List Record) (fitting : List Bool) (one other : ℕ → Answer) (part : List Bool) → SameAnswers rs one other → IsCut rs fitting one part → IsCut rs fitting other part
 cut_by rs fitting one other part agree is = record {
   end = is.end;
   units = is.units;
@@ -161,9 +192,15 @@ cut_by rs fitting one other part agree is = record {
   next = elim is.next [ inl end ↦ inl end | inr (some, lack) ↦ inr (some, lack_by rs fitting one other is.end agree lack) ];
 }
 
-pub part_refuses_by : (rs : List Record) (fitting : List Bool) (one other : ℕ → Option (List ℕ)) (fault : RestFault) → SameLocations rs one other → RefusesPart fault rs fitting one → RefusesPart fault rs fitting other
-part_refuses_by rs fitting one other (faults.Broken at NoLocation) agree first = record {
-  lacks = lacks_by rs fitting one other at agree first.lacks;
+pub part_by : (rs : List Record) (done left : List Bool) (limit : ℕ) (one other : ℕ → Answer) (part : Rest) → SameAnswers rs one other → IsPartOf rs done left limit one part → IsPartOf rs done left limit other part
+part_by rs done left limit one other part agree is = record {
+  units = record { fitting = is.units.fitting; fits = is.units.fits; cut = cut_by rs is.units.fitting one other (kept part) agree is.units.cut };
+  changes_are = changes_by rs (kept part) one other (changes part) agree is.changes_are;
+}
+
+pub part_refuses_by : (rs : List Record) (fitting : List Bool) (one other : ℕ → Answer) (fault : RestFault) → SameAnswers rs one other → RefusesPart fault rs fitting one → RefusesPart fault rs fitting other
+part_refuses_by rs fitting one other (faults.Broken at rule) agree first = record {
+  breaks = breaks_by rule rs fitting one other at agree first.breaks;
   least = λ i less lacks. first.least i less (lacks_by rs fitting other one i (λ p within. sym (agree p within)) lacks);
   begins = first.begins;
 }

@@ -17,8 +17,8 @@ use Rattle.odb_reply.specs.Fits.{Fits, IsRow, IsTableOf, Responds, Succeeds}
 use Rattle.odb_reply.specs.ResponseDocuments.{Entry}
 use Rattle.odb_send.specs.Laws.{HasSucceeded, MayBeSent}
 use Rattle.odb_send.specs.Repeats.{may_repeat, may_repeat_at}
-use Rattle.odb_reply.specs.BodyTexts.{text_at}
-use Rattle.odb_send.specs.Rests.{HasUrls, IsUrl, is_kept, rest_record, select}
+use Rattle.odb_send.specs.Answers.{Answer}
+use Rattle.odb_send.specs.Rests.{Change, HasChanges, IsUrl, change_at, is_kept, rest_record, select}
 use Rattle.odb_send.specs.Rests.IsUrl.{same, moved}
 use Rattle.odb_send.proofs.NameLemmas.{HasStayingUrls}
 use Rattle.odb_send.specs.Units.{AreMarksOf, IsDone, IsInRest, IsLeftOut, marked}
@@ -132,9 +132,9 @@ select_none passes make i (x ∷ xs) none =
     let first : passes i ≡ false = ap passes (omega arith) ∙ none 0 (omega arith) in
     rw first (select_none passes make (i + 1) xs (λ offset less. let same : (i + 1) + offset ≡ i + suc offset = omega arith in ap passes same ∙ none (suc offset) (omega arith)))
 
-pub none_left : (rs : List Record) (statuses : List ℕ) (units : List Bool) (list : List (Option (List ℕ))) → AreMarksOf rs (IsInRest rs statuses) units → HasSucceeded rs statuses
-    → select (is_kept rs units) (λ i r. rest_record rs units (text_at list i) r) 0 rs ≡ []
-none_left rs statuses units list are all = select_none (is_kept rs units) (λ i r. rest_record rs units (text_at list i) r) 0 rs (λ offset less. gone (0 + offset) (omega arith))
+pub none_left : (rs : List Record) (statuses : List ℕ) (units : List Bool) (list : List Change) → AreMarksOf rs (IsInRest rs statuses) units → HasSucceeded rs statuses
+    → select (is_kept rs units) (λ i r. rest_record rs units (change_at list i) r) 0 rs ≡ []
+none_left rs statuses units list are all = select_none (is_kept rs units) (λ i r. rest_record rs units (change_at list i) r) 0 rs (λ offset less. gone (0 + offset) (omega arith))
   where
     gone : (i : ℕ) → i < length rs → is_kept rs units i ≡ false
     gone i less = elim (cases_Bool (is_kept rs units i)) [
@@ -158,9 +158,9 @@ may_be_sent_rests rs es places statuses good fits table u sent = record {
 }
 
 -- URLs that stay refer to nothing that is not in the rest
-pub urls_stay : (rs : List Record) (units : List Bool) (locations : ℕ → Option (List ℕ)) (list : List (Option (List ℕ))) → HasUrls rs units locations list → HasStayingUrls rs units list
-urls_stay rs units locations list are i p within stays leaves = by_url (text_at list i) (are.each i within) stays
+pub urls_stay : (rs : List Record) (units : List Bool) (answers : ℕ → Answer) (list : List Change) → HasChanges rs units answers list → HasStayingUrls rs units list
+urls_stay rs units answers list are i p within stays leaves = by_url (change_at list i).url (are.each i within).url stays
   where
-    by_url : (url : Option (List ℕ)) → IsUrl rs units locations i url → url ≡ None → ⊥
+    by_url : (url : Option (List ℕ)) → IsUrl rs units answers i url → url ≡ None → ⊥
     by_url url (same none) is = none p leaves
     by_url url (moved text moves) is = cc (is)

@@ -9,6 +9,7 @@ pub mod LawLemmas
 pub mod DependsLemmas
 pub mod TextLemmas
 pub mod PlanLemmas
+pub mod HeaderLemmas
 pub mod ReadLemmas
 pub mod SoundLemmas
 mod ResendLemmas

@@ -1,17 +1,15 @@
 -- The next part of a batch: what its units are, and that it is determined.
-use Rattle.std.proofs.Common.{◌≡◌, ◌∙◌, ◌⊎◌, ◌+◌, ◌-◌, ◌<◌, ◌≤◌, ◌==◌, ◌&&◌, ◌||◌, ℕ, zero, suc, Bool, true, false, not, cond, if◌then◌else◌, List, [], ◌∷◌, ◌++◌, length, set, replicate, inl, inr, refl, ap, sym, subst, arith, eq-eqb, get_or-set_other, append-nil}
+use Rattle.std.proofs.Common.{◌≡◌, ◌∙◌, ◌⊎◌, ◌+◌, ◌-◌, ◌<◌, ◌≤◌, ◌==◌, ◌&&◌, ◌||◌, ℕ, zero, suc, Bool, true, false, not, cond, if◌then◌else◌, List, [], ◌∷◌, ◌++◌, length, set, replicate, inl, inr, refl, ap, sym, subst, arith, eq-eqb, append-nil}
 use Rattle.std.specs.Prelude.{Result, Ok, Err, IfOk, IfErr}
 use Rattle.std.specs.List.{list_any}
 use Rattle.std.proofs.lemmas.Bool.{cases_Bool, cases_eq, eqb-true, ne_eqb, true≢false, false≢true}
 use Rattle.std.proofs.lemmas.List.{length-set, length-replicate}
 use Rattle.odb_doc.specs.batch.Records.{Record}
-use Rattle.odb_check.specs.Firsts.{count_below, joined_below, list_below}
+use Rattle.odb_check.specs.Firsts.{count_below, joined_below}
 use Rattle.odb_check.specs.LeastNameFault.{HasGoodNames}
 use Rattle.odb_check.specs.Needs.{needs_at}
 use Rattle.odb_check.specs.PlanGraph.{PlanGraph, IsPlanGraphOf, IsSpan, plan_graph_of, unit_of, unit_needed}
 use Rattle.odb_check.specs.Units.{unit_at, unit_count}
-use Rattle.std.proofs.lemmas.Grind.{get_or-set_at}
-use Rattle.odb_check.proofs.BelowLemmas.{get_or-list_below}
 use Rattle.odb_check.proofs.PlanLemmas.{in_plan_graph, is_plan_graph}
 use Rattle.odb_sched.specs.run.State.{members_in}
 use Rattle.odb_sched.proofs.CountLemmas.{count_same, count_none, count_either}

@@ -1,5 +1,5 @@
 -- What holds of every next part.
-use Rattle.std.proofs.Common.{◌≡◌, ◌∙◌, ◌⊎◌, ◌+◌, ◌<◌, ◌≤◌, ℕ, suc, Bool, true, false, cond, List, [], ◌∷◌, length, set, Option, inl, inr, refl, ap, sym, subst, arith, Contains}
+use Rattle.std.proofs.Common.{◌≡◌, ◌∙◌, ◌⊎◌, ◌+◌, ◌<◌, ◌≤◌, ℕ, suc, Bool, true, false, cond, List, [], ◌∷◌, length, set, inl, inr, refl, ap, sym, subst, arith, Contains}
 use Rattle.std.proofs.lemmas.Bool.{cases_Bool, cases_order, true≢false}
 use Rattle.std.proofs.lemmas.List.{same_lists, get_or_default}
 use Rattle.odb_doc.specs.batch.Records.{Record}
@@ -12,12 +12,12 @@ use Rattle.odb_check.specs.Units.{unit_at, unit_count}
 use Rattle.odb_check.proofs.FirstLemmas.{count_few}
 use Rattle.odb_check.proofs.PlanLemmas.{needs_before}
 use Rattle.odb_check.proofs.UnitLemmas.{unit_before}
-use Rattle.odb_reply.specs.BodyTexts.{text_at}
 use Rattle.odb_sched.specs.declared.states.RequestState.{RequestState}
 use Rattle.odb_send.specs.declared.rest.Rest.{Rest}
 use Rattle.odb_send.specs.Laws.{IsPartOfPlan}
 use Rattle.odb_send.specs.NextPart.{AreFitting, HasNoLonger, HasSome, HasToWait, IsCut, IsFresh, IsNextPart, IsPartAfter, IsPartOf, MayGo, NeedsMet, request_count}
-use Rattle.odb_send.specs.Rests.{HasUrls, IsRestOf, is_kept, kept, records_in, rest_record, rest_records, select, urls}
+use Rattle.odb_send.specs.Answers.{Answer}
+use Rattle.odb_send.specs.Rests.{Change, HasChanges, IsRestOf, change_at, changes, is_kept, kept, records_in, rest_record, rest_records, select}
 use Rattle.odb_send.specs.Units.{AreMarksOf, IsDone, IsInRest, marked}
 use Rattle.odb_send.specs.Units.IsBarred.{own, needing}
 use Rattle.odb_send.proofs.MarkLemmas.{marked-cases, needed_before, not_marked, one_marks}
@@ -81,20 +81,20 @@ one_fitting rs done left limit one other is also =
     one_upto rs (MayGo rs done left) is.end also.end one other is.units also.units (not_before rs done left limit one other is also) (not_before rs done left limit other one also is)
 
 -- likewise of two parts
-cut_not_before : (rs : List Record) (fitting : List Bool) (locations : ℕ → Option (List ℕ)) (one other : List Bool) (is : IsCut rs fitting locations one) (also : IsCut rs fitting locations other) → is.end < also.end → is.end < unit_count rs → ⊥
-cut_not_before rs fitting locations one other is also less known = elim is.next [
+cut_not_before : (rs : List Record) (fitting : List Bool) (answers : ℕ → Answer) (one other : List Bool) (is : IsCut rs fitting answers one) (also : IsCut rs fitting answers other) → is.end < also.end → is.end < unit_count rs → ⊥
+cut_not_before rs fitting answers one other is also less known = elim is.next [
   | inl end ↦ omega (arith, end, known)
   | inr (some, lack) ↦ also.placed is.end less lack
 ]
 
-one_cut : (rs : List Record) (fitting : List Bool) (locations : ℕ → Option (List ℕ)) (one other : List Bool) → IsCut rs fitting locations one → IsCut rs fitting locations other → one ≡ other
-one_cut rs fitting locations one other is also =
-    one_upto rs (λ u. marked fitting u ≡ true) is.end also.end one other is.units also.units (cut_not_before rs fitting locations one other is also) (cut_not_before rs fitting locations other one also is)
+one_cut : (rs : List Record) (fitting : List Bool) (answers : ℕ → Answer) (one other : List Bool) → IsCut rs fitting answers one → IsCut rs fitting answers other → one ≡ other
+one_cut rs fitting answers one other is also =
+    one_upto rs (λ u. marked fitting u ≡ true) is.end also.end one other is.units also.units (cut_not_before rs fitting answers one other is also) (cut_not_before rs fitting answers other one also is)
 
-one_part : (rs : List Record) (done left : List Bool) (limit : ℕ) (locations : ℕ → Option (List ℕ)) (one other : List Bool) → IsNextPart rs done left limit locations one → IsNextPart rs done left limit locations other → one ≡ other
-one_part rs done left limit locations one other is also =
+one_part : (rs : List Record) (done left : List Bool) (limit : ℕ) (answers : ℕ → Answer) (one other : List Bool) → IsNextPart rs done left limit answers one → IsNextPart rs done left limit answers other → one ≡ other
+one_part rs done left limit answers one other is also =
     let same : also.fitting ≡ is.fitting = one_fitting rs done left limit also.fitting is.fitting also.fits is.fits in
-    one_cut rs is.fitting locations one other is.cut (subst (λ (fitting : List Bool). IsCut rs fitting locations other) same also.cut)
+    one_cut rs is.fitting answers one other is.cut (subst (λ (fitting : List Bool). IsCut rs fitting answers other) same also.cut)
 
 -- ---- what a part needs
 
@@ -137,43 +137,43 @@ needs_fit rs done left limit fitting good is i need within stays inside =
     ]
 
 -- a unit of the part fits
-in_fitting : (rs : List Record) (done left : List Bool) (limit : ℕ) (locations : ℕ → Option (List ℕ)) (part : List Bool) (is : IsNextPart rs done left limit locations part) (i : ℕ) → i < length rs → is_kept rs part i ≡ true
+in_fitting : (rs : List Record) (done left : List Bool) (limit : ℕ) (answers : ℕ → Answer) (part : List Bool) (is : IsNextPart rs done left limit answers part) (i : ℕ) → i < length rs → is_kept rs part i ≡ true
     → (unit_at rs i < is.cut.end) × (is_kept rs is.fitting i ≡ true)
-in_fitting rs done left limit locations part is i within stays = (is.cut.units.each (unit_at rs i) (unit_before rs i (length rs) within)).0 stays
+in_fitting rs done left limit answers part is i within stays = (is.cut.units.each (unit_at rs i) (unit_before rs i (length rs) within)).0 stays
 
 -- what a request of the part needs is in the part, or done
-needs_met : (rs : List Record) (done left : List Bool) (limit : ℕ) (locations : ℕ → Option (List ℕ)) (part : List Bool) → HasGoodNames rs → IsNextPart rs done left limit locations part → (i : ℕ) (need : Need) → i < length rs → is_kept rs part i ≡ true
+needs_met : (rs : List Record) (done left : List Bool) (limit : ℕ) (answers : ℕ → Answer) (part : List Bool) → HasGoodNames rs → IsNextPart rs done left limit answers part → (i : ℕ) (need : Need) → i < length rs → is_kept rs part i ≡ true
     → Contains (needs_at rs i) need → (marked part (unit_needed (unit_at rs) need) ≡ true) ⊎ (marked done (unit_needed (unit_at rs) need) ≡ true)
-needs_met rs done left limit locations part good is i need within stays inside =
-    let (early, fits) = in_fitting rs done left limit locations part is i within stays in
+needs_met rs done left limit answers part good is i need within stays inside =
+    let (early, fits) = in_fitting rs done left limit answers part is i within stays in
     let before : unit_needed (unit_at rs) need ≤ unit_at rs i = needed_before rs (needs_before rs good) i need inside in
     elim (needs_fit rs done left limit is.fitting good is.fits i need within fits inside) [
       | inl there ↦ inl ((is.cut.units.each (unit_needed (unit_at rs) need) (need_known rs good i need within inside)).1 (omega (arith, before, early), there))
       | inr met ↦ inr met
     ]
 
-pub needs_met_after : (rs : List Record) (states : List RequestState) (limit : ℕ) (locations : ℕ → Option (List ℕ)) (part : Rest) → HasGoodNames rs → IsPartAfter rs states limit locations part → NeedsMet rs states (kept part)
-needs_met_after rs states limit locations part good is i need within stays inside =
-    elim (needs_met rs is.done is.left limit locations (kept part) good is.part_is.units i need within stays inside) [
+pub needs_met_after : (rs : List Record) (states : List RequestState) (limit : ℕ) (answers : ℕ → Answer) (part : Rest) → HasGoodNames rs → IsPartAfter rs states limit answers part → NeedsMet rs states (kept part)
+needs_met_after rs states limit answers part good is i need within stays inside =
+    elim (needs_met rs is.done is.left limit answers (kept part) good is.part_is.units i need within stays inside) [
       | inl there ↦ inl there
       | inr met ↦ inr ((is.progress.succeeded.each (unit_needed (unit_at rs) need) (need_known rs good i need within inside)).0 met)
     ]
 
 -- a part has only requests that may still start
-pub fresh : (rs : List Record) (states : List RequestState) (limit : ℕ) (locations : ℕ → Option (List ℕ)) (part : Rest) → IsPartAfter rs states limit locations part → IsFresh rs states (kept part)
-fresh rs states limit locations part is i within stays =
+pub fresh : (rs : List Record) (states : List RequestState) (limit : ℕ) (answers : ℕ → Answer) (part : Rest) → IsPartAfter rs states limit answers part → IsFresh rs states (kept part)
+fresh rs states limit answers part is i within stays =
     let known = unit_before rs i (length rs) within in
-    let fits = (in_fitting rs is.done is.left limit locations (kept part) is.part_is.units i within stays).1 in
+    let fits = (in_fitting rs is.done is.left limit answers (kept part) is.part_is.units i within stays).1 in
     let goes = ((is.part_is.units.fits.units.each (unit_at rs i) known).0 fits).1 in
     (is.progress.starting.each (unit_at rs i) known).0 (goes_left rs is.done is.left (unit_at rs i) goes) i within refl
 
 -- a part of a run is determined
-pub one_part_after : (rs : List Record) (states : List RequestState) (limit : ℕ) (locations : ℕ → Option (List ℕ)) (part other : Rest) → IsPartAfter rs states limit locations part → IsPartAfter rs states limit locations other → kept part ≡ kept other
-one_part_after rs states limit locations part other is also =
+pub one_part_after : (rs : List Record) (states : List RequestState) (limit : ℕ) (answers : ℕ → Answer) (part other : Rest) → IsPartAfter rs states limit answers part → IsPartAfter rs states limit answers other → kept part ≡ kept other
+one_part_after rs states limit answers part other is also =
     let same_done : also.done ≡ is.done = one_marks rs _ also.done is.done also.progress.succeeded is.progress.succeeded in
     let same_left : also.left ≡ is.left = one_marks rs _ also.left is.left also.progress.starting is.progress.starting in
-    one_part rs is.done is.left limit locations (kept part) (kept other) is.part_is.units
-    (subst (λ (left : List Bool). IsNextPart rs is.done left limit locations (kept other)) same_left (subst (λ (done : List Bool). IsNextPart rs done also.left limit locations (kept other)) same_done also.part_is.units))
+    one_part rs is.done is.left limit answers (kept part) (kept other) is.part_is.units
+    (subst (λ (left : List Bool). IsNextPart rs is.done left limit answers (kept other)) same_left (subst (λ (done : List Bool). IsNextPart rs done also.left limit answers (kept other)) same_done also.part_is.units))
 
 -- ---- how many requests a part has
 
@@ -189,8 +189,8 @@ some_fit rs done left limit fitting is short u goes = elim is.next [
 ]
 
 -- then a part has a request
-pub some_go : (rs : List Record) (done left : List Bool) (limit : ℕ) (locations : ℕ → Option (List ℕ)) (part : List Bool) → IsNextPart rs done left limit locations part → HasNoLonger rs limit → (u : ℕ) → MayGo rs done left u → HasSome rs part
-some_go rs done left limit locations part is short u goes = elim is.cut.next [
+pub some_go : (rs : List Record) (done left : List Bool) (limit : ℕ) (answers : ℕ → Answer) (part : List Bool) → IsNextPart rs done left limit answers part → HasNoLonger rs limit → (u : ℕ) → MayGo rs done left u → HasSome rs part
+some_go rs done left limit answers part is short u goes = elim is.cut.next [
   | inl end ↦
       let (i, within, stays) = some_fit rs done left limit is.fitting is.fits short u goes in
       let known : unit_at rs i < unit_count rs = unit_before rs i (length rs) within in
@@ -216,12 +216,12 @@ select_count {X} {Y} passes make i (x ∷ xs) =
     by_first true is = omega (arith, is)
     by_first false is = is
 
-pub at_most : (rs : List Record) (done left : List Bool) (limit : ℕ) (locations : ℕ → Option (List ℕ)) (part : List Bool) (moved : List (Option (List ℕ))) → IsNextPart rs done left limit locations part → length (rest_records rs part moved) ≤ limit
-at_most rs done left limit locations part moved is =
-    let counted = select_count (is_kept rs part) (λ i r. rest_record rs part (text_at moved i) r) 0 rs in
+pub at_most : (rs : List Record) (done left : List Bool) (limit : ℕ) (answers : ℕ → Answer) (part : List Bool) (list : List Change) → IsNextPart rs done left limit answers part → length (rest_records rs part list) ≤ limit
+at_most rs done left limit answers part list is =
+    let counted = select_count (is_kept rs part) (λ i r. rest_record rs part (change_at list i) r) 0 rs in
     let all : 0 + length rs ≡ length rs = omega arith in
     let same : count_below (0 + length rs) (is_kept rs part) ≡ request_count rs part = ap (λ n. count_below n (is_kept rs part)) all in
-    let fewer : request_count rs part ≤ request_count rs is.fitting = count_upto (length rs) (is_kept rs part) (is_kept rs is.fitting) (λ i within stays. (in_fitting rs done left limit locations part is i within stays).1) in
+    let fewer : request_count rs part ≤ request_count rs is.fitting = count_upto (length rs) (is_kept rs part) (is_kept rs is.fitting) (λ i within stays. (in_fitting rs done left limit answers part is i within stays).1) in
     omega (arith, counted, same, fewer, is.fits.within)
 
 -- ---- the rest is a part
@@ -263,23 +263,23 @@ rest_fits rs statuses done units good are also = record {
 }
 
 -- the rest is the part of all that is in it, which is not limited
-pub rest_is_part : (rs : List Record) (statuses : List ℕ) (locations : ℕ → Option (List ℕ)) (done : List Bool) (rest : Rest) → HasGoodNames rs → AreMarksOf rs (IsDone rs statuses) done → IsRestOf rs statuses locations rest
-    → IsPartOf rs done (kept rest) (length rs) locations rest
-rest_is_part rs statuses locations done rest good are is = record {
+pub rest_is_part : (rs : List Record) (statuses : List ℕ) (answers : ℕ → Answer) (done : List Bool) (rest : Rest) → HasGoodNames rs → AreMarksOf rs (IsDone rs statuses) done → IsRestOf rs statuses answers rest
+    → IsPartOf rs done (kept rest) (length rs) answers rest
+rest_is_part rs statuses answers done rest good are is = record {
   units = record {
     fitting = kept rest;
     fits = rest_fits rs statuses done (kept rest) good are is.units;
-    cut = cut_whole rs (kept rest) locations (urls rest) is.units.count is.urls_are;
+    cut = cut_whole rs (kept rest) answers (changes rest) is.units.count is.changes_are;
   };
-  urls_are = is.urls_are;
+  changes_are = is.changes_are;
 }
 
 -- ---- a part as a batch
 
 -- its names fit together
-pub part_good : (rs : List Record) (locations : ℕ → Option (List ℕ)) (part : Rest) → HasGoodNames rs → HasUrls rs (kept part) locations (urls part) → HasGoodNames (records_in rs part)
-part_good rs locations part good are = rest_good rs (kept part) (urls part) good (urls_stay rs (kept part) locations (urls part) are)
+pub part_good : (rs : List Record) (answers : ℕ → Answer) (part : Rest) → HasGoodNames rs → HasChanges rs (kept part) answers (changes part) → HasGoodNames (records_in rs part)
+part_good rs answers part good are = rest_good rs (kept part) (changes part) good (urls_stay rs (kept part) answers (changes part) are)
 
 -- its plan is a part of the plan
-pub part_of_plan : (rs : List Record) (locations : ℕ → Option (List ℕ)) (part : Rest) → HasGoodNames rs → HasUrls rs (kept part) locations (urls part) → IsPartOfPlan rs (kept part) (records_in rs part)
-part_of_plan rs locations part good are = is_part rs (kept part) locations (urls part) good (urls_stay rs (kept part) locations (urls part) are) are
+pub part_of_plan : (rs : List Record) (answers : ℕ → Answer) (part : Rest) → HasGoodNames rs → HasChanges rs (kept part) answers (changes part) → IsPartOfPlan rs (kept part) (records_in rs part)
+part_of_plan rs answers part good are = is_part rs (kept part) answers (changes part) good (urls_stay rs (kept part) answers (changes part) are) are

@@ -17,8 +17,9 @@ use Rattle.odb_check.proofs.NeedLemmas.{is_meant, id_need, group_need}
 use Rattle.odb_check.proofs.PositionLemmas.{id_within, group_within, position_none}
 use Rattle.odb_check.proofs.UnitLemmas.{IsUnitOf, has_units, in_unit}
 use Rattle.odb_send.specs.Laws.{IsPartOfPlan, IsSameNeed}
-use Rattle.odb_reply.specs.BodyTexts.{text_at}
-use Rattle.odb_send.specs.Rests.{HasUrls, IsUrl, is_kept, is_kept_name, is_kept_need, rest_record, rest_records}
+use Rattle.odb_doc.specs.Headers.{Header}
+use Rattle.odb_send.specs.Answers.{Answer}
+use Rattle.odb_send.specs.Rests.{Change, HasChanges, IsUrl, change_at, is_kept, is_kept_name, is_kept_need, rest_record, rest_records, with_url}
 use Rattle.odb_send.specs.Rests.IsUrl.{same, moved}
 use Rattle.odb_send.specs.Units.{marked}
 use Rattle.odb_send.proofs.NameLemmas.{HasStayingUrls, rest_good}
@@ -27,77 +28,77 @@ use Rattle.odb_send.proofs.PositionLemmas.{source, IsFrom, filter-from, filter-t
 -- ---- units
 
 -- two positions of the rest that come from one are one
-one_source : (rs : List Record) (kept : List Bool) (urls : List (Option (List ℕ))) (m n : ℕ) → m < length (rest_records rs kept urls) → n < length (rest_records rs kept urls) → source rs kept m ≡ source rs kept n → m ≡ n
-one_source rs kept urls m n less within is = elim (cases_order m n) [
+one_source : (rs : List Record) (kept : List Bool) (changes : List Change) (m n : ℕ) → m < length (rest_records rs kept changes) → n < length (rest_records rs kept changes) → source rs kept m ≡ source rs kept n → m ≡ n
+one_source rs kept changes m n less within is = elim (cases_order m n) [
   | inl one ↦ one
-  | inr (inl before) ↦ absurd (omega (arith, in_order rs kept urls m n before within, is))
-  | inr (inr after) ↦ absurd (omega (arith, in_order rs kept urls n m after less, is))
+  | inr (inl before) ↦ absurd (omega (arith, in_order rs kept changes m n before within, is))
+  | inr (inr after) ↦ absurd (omega (arith, in_order rs kept changes n m after less, is))
 ]
 
-same_units : (rs : List Record) (kept : List Bool) (urls : List (Option (List ℕ))) (m n : ℕ) → m < length (rest_records rs kept urls) → n < length (rest_records rs kept urls)
-    → (unit_at (rest_records rs kept urls) m ≡ unit_at (rest_records rs kept urls) n) ↔ (unit_at rs (source rs kept m) ≡ unit_at rs (source rs kept n))
-same_units rs kept urls m n less within = (forth, back)
+same_units : (rs : List Record) (kept : List Bool) (changes : List Change) (m n : ℕ) → m < length (rest_records rs kept changes) → n < length (rest_records rs kept changes)
+    → (unit_at (rest_records rs kept changes) m ≡ unit_at (rest_records rs kept changes) n) ↔ (unit_at rs (source rs kept m) ≡ unit_at rs (source rs kept n))
+same_units rs kept changes m n less within = (forth, back)
   where
-    forth : unit_at (rest_records rs kept urls) m ≡ unit_at (rest_records rs kept urls) n → unit_at rs (source rs kept m) ≡ unit_at rs (source rs kept n)
-    forth is = elim (((has_units (rest_records rs kept urls)).together m n).0 is) [
+    forth : unit_at (rest_records rs kept changes) m ≡ unit_at (rest_records rs kept changes) n → unit_at rs (source rs kept m) ≡ unit_at rs (source rs kept n)
+    forth is = elim (((has_units (rest_records rs kept changes)).together m n).0 is) [
       | inl one ↦ ap (λ k. unit_at rs (source rs kept k)) one
-      | inr (group, here, there) ↦ ((has_units rs).together (source rs kept m) (source rs kept n)).1 (inr (group, (group_from rs kept urls m group here).was, (group_from rs kept urls n group there).was))
+      | inr (group, here, there) ↦ ((has_units rs).together (source rs kept m) (source rs kept n)).1 (inr (group, (group_from rs kept changes m group here).was, (group_from rs kept changes n group there).was))
     ]
 
-    back : unit_at rs (source rs kept m) ≡ unit_at rs (source rs kept n) → unit_at (rest_records rs kept urls) m ≡ unit_at (rest_records rs kept urls) n
+    back : unit_at rs (source rs kept m) ≡ unit_at rs (source rs kept n) → unit_at (rest_records rs kept changes) m ≡ unit_at (rest_records rs kept changes) n
     back is = elim (((has_units rs).together (source rs kept m) (source rs kept n)).0 is) [
-      | inl one ↦ ap (unit_at (rest_records rs kept urls)) (one_source rs kept urls m n less within one)
-      | inr (group, here, there) ↦ ((has_units (rest_records rs kept urls)).together m n).1 (inr (group, group_to rs kept urls m less ∙ here, group_to rs kept urls n within ∙ there))
+      | inl one ↦ ap (unit_at (rest_records rs kept changes)) (one_source rs kept changes m n less within one)
+      | inr (group, here, there) ↦ ((has_units (rest_records rs kept changes)).together m n).1 (inr (group, group_to rs kept changes m less ∙ here, group_to rs kept changes n within ∙ there))
     ]
 
 -- ---- what a name resolves to
 
 -- what is needed by a name, in the rest
-pub record HasNeed (rs : List Record) (kept : List Bool) (urls : List (Option (List ℕ))) (name : List ℕ) (need : Need) : Type 0 where
+pub record HasNeed (rs : List Record) (kept : List Bool) (changes : List Change) (name : List ℕ) (need : Need) : Type 0 where
   pub other : Need
-  pub is : need_of (rest_records rs kept urls) name ≡ Some other
-  pub same_need : IsSameNeed (rest_records rs kept urls) rs (source rs kept) other need
+  pub is : need_of (rest_records rs kept changes) name ≡ Some other
+  pub same_need : IsSameNeed (rest_records rs kept changes) rs (source rs kept) other need
 
-kept_need : (rs : List Record) (kept : List Bool) (urls : List (Option (List ℕ))) → HasGoodNames (rest_records rs kept urls) → (name : List ℕ) (need : Need) → need_of rs name ≡ Some need → marked kept (unit_needed (unit_at rs) need) ≡ true → HasNeed rs kept urls name need
-kept_need rs kept urls good name (One p) is stays =
+kept_need : (rs : List Record) (kept : List Bool) (changes : List Change) → HasGoodNames (rest_records rs kept changes) → (name : List ℕ) (need : Need) → need_of rs name ≡ Some need → marked kept (unit_needed (unit_at rs) need) ≡ true → HasNeed rs kept changes name need
+kept_need rs kept changes good name (One p) is stays =
     let here : id_at rs p ≡ Some name = (is_meant rs name (One p) is).1.here in
-    let (k, within, at) = kept_at rs kept urls p (id_within rs p name here) stays in
+    let (k, within, at) = kept_at rs kept changes p (id_within rs p name here) stays in
     record {
       other = One k;
-      is = id_need (rest_records rs kept urls) (good rules.IdTwice) name k (id_to rs kept urls k within ∙ ap (id_at rs) at ∙ here);
+      is = id_need (rest_records rs kept changes) (good rules.IdTwice) name k (id_to rs kept changes k within ∙ ap (id_at rs) at ∙ here);
       same_need = at;
     }
-kept_need rs kept urls good name (Group u) is stays =
-    let rest = rest_records rs kept urls in
+kept_need rs kept changes good name (Group u) is stays =
+    let rest = rest_records rs kept changes in
     let unit : IsUnitOf rs name u = (is_meant rs name (Group u) is).unit in
     let here : group_at rs unit.start ≡ Some name = unit.first.here in
     let number : unit_at rs unit.start ≡ u = in_unit rs name u unit.start unit here in
-    let (k, within, at) = kept_at rs kept urls unit.start (group_within rs unit.start name here) (ap (marked kept) number ∙ stays) in
+    let (k, within, at) = kept_at rs kept changes unit.start (group_within rs unit.start name here) (ap (marked kept) number ∙ stays) in
     let from : unit_at rs (source rs kept k) ≡ u = ap (unit_at rs) at ∙ number in
     record {
       other = Group (unit_at rest k);
-      is = group_need rest (good rules.IdIsGroup) name k (group_to rs kept urls k within ∙ ap (group_at rs) at ∙ here);
-      same_need = λ m less. let both = same_units rs kept urls m k less within in ((λ one. both.0 one ∙ from), (λ one. both.1 (one ∙ sym from)));
+      is = group_need rest (good rules.IdIsGroup) name k (group_to rs kept changes k within ∙ ap (group_at rs) at ∙ here);
+      same_need = λ m less. let both = same_units rs kept changes m k less within in ((λ one. both.0 one ∙ from), (λ one. both.1 (one ∙ sym from)));
     }
 
 -- what the names of a list resolve to
-needs_zip : (rs : List Record) (kept : List Bool) (urls : List (Option (List ℕ))) → HasGoodNames (rest_records rs kept urls) → (names : List (List ℕ))
-    → AllZip (IsSameNeed (rest_records rs kept urls) rs (source rs kept)) (filter_map (need_of (rest_records rs kept urls)) (filter (is_kept_name rs kept) names)) (filter (λ need. marked kept (unit_needed (unit_at rs) need)) (filter_map (need_of rs) names))
-needs_zip rs kept urls good [] = tt
-needs_zip rs kept urls good (name ∷ names) = by_need (needs_zip rs kept urls good names) (need_of rs name) refl
+needs_zip : (rs : List Record) (kept : List Bool) (changes : List Change) → HasGoodNames (rest_records rs kept changes) → (names : List (List ℕ))
+    → AllZip (IsSameNeed (rest_records rs kept changes) rs (source rs kept)) (filter_map (need_of (rest_records rs kept changes)) (filter (is_kept_name rs kept) names)) (filter (λ need. marked kept (unit_needed (unit_at rs) need)) (filter_map (need_of rs) names))
+needs_zip rs kept changes good [] = tt
+needs_zip rs kept changes good (name ∷ names) = by_need (needs_zip rs kept changes good names) (need_of rs name) refl
   where
     rest : List Record
-    rest = rest_records rs kept urls
+    rest = rest_records rs kept changes
 
-    by_need : AllZip (IsSameNeed (rest_records rs kept urls) rs (source rs kept)) (filter_map (need_of (rest_records rs kept urls)) (filter (is_kept_name rs kept) names)) (filter (λ need. marked kept (unit_needed (unit_at rs) need)) (filter_map (need_of rs) names))
+    by_need : AllZip (IsSameNeed (rest_records rs kept changes) rs (source rs kept)) (filter_map (need_of (rest_records rs kept changes)) (filter (is_kept_name rs kept) names)) (filter (λ need. marked kept (unit_needed (unit_at rs) need)) (filter_map (need_of rs) names))
         → (o : Option Need) → need_of rs name ≡ o
-        → AllZip (IsSameNeed (rest_records rs kept urls) rs (source rs kept)) (filter_map (need_of (rest_records rs kept urls)) (cond (is_kept_need rs kept o) (name ∷ filter (is_kept_name rs kept) names) (filter (is_kept_name rs kept) names))) (filter (λ need. marked kept (unit_needed (unit_at rs) need)) (cons_option o (filter_map (need_of rs) names)))
+        → AllZip (IsSameNeed (rest_records rs kept changes) rs (source rs kept)) (filter_map (need_of (rest_records rs kept changes)) (cond (is_kept_need rs kept o) (name ∷ filter (is_kept_name rs kept) names) (filter (is_kept_name rs kept) names))) (filter (λ need. marked kept (unit_needed (unit_at rs) need)) (cons_option o (filter_map (need_of rs) names)))
     by_need more None is = more
-    by_need more (Some need) is = (elim (marked kept (unit_needed (unit_at rs) need)) as (λ b. marked kept (unit_needed (unit_at rs) need) ≡ b → AllZip (IsSameNeed (rest_records rs kept urls) rs (source rs kept)) (filter_map (need_of (rest_records rs kept urls)) (cond b (name ∷ filter (is_kept_name rs kept) names) (filter (is_kept_name rs kept) names))) (cond b (need ∷ filter (λ need. marked kept (unit_needed (unit_at rs) need)) (filter_map (need_of rs) names)) (filter (λ need. marked kept (unit_needed (unit_at rs) need)) (filter_map (need_of rs) names)))) [
+    by_need more (Some need) is = (elim (marked kept (unit_needed (unit_at rs) need)) as (λ b. marked kept (unit_needed (unit_at rs) need) ≡ b → AllZip (IsSameNeed (rest_records rs kept changes) rs (source rs kept)) (filter_map (need_of (rest_records rs kept changes)) (cond b (name ∷ filter (is_kept_name rs kept) names) (filter (is_kept_name rs kept) names))) (cond b (need ∷ filter (λ need. marked kept (unit_needed (unit_at rs) need)) (filter_map (need_of rs) names)) (filter (λ need. marked kept (unit_needed (unit_at rs) need)) (filter_map (need_of rs) names)))) [
       | false ↦ λ leaves. more
       | true ↦ λ stays.
-          let found = kept_need rs kept urls good name need is stays in
-          subst (λ o. AllZip (IsSameNeed (rest_records rs kept urls) rs (source rs kept)) (cons_option o (filter_map (need_of (rest_records rs kept urls)) (filter (is_kept_name rs kept) names))) (need ∷ filter (λ need. marked kept (unit_needed (unit_at rs) need)) (filter_map (need_of rs) names))) (sym found.is) (found.same_need, more)
+          let found = kept_need rs kept changes good name need is stays in
+          subst (λ o. AllZip (IsSameNeed (rest_records rs kept changes) rs (source rs kept)) (cons_option o (filter_map (need_of (rest_records rs kept changes)) (filter (is_kept_name rs kept) names))) (need ∷ filter (λ need. marked kept (unit_needed (unit_at rs) need)) (filter_map (need_of rs) names))) (sym found.is) (found.same_need, more)
     ]) refl
 
 -- ---- the names that a request needs
@@ -153,9 +154,9 @@ known_reference rs good i r id here refers = by_position (position_of rs id) ref
     by_position (Some p) is = (p, is)
 
 -- what a request in the rest refers to beside its names
-further_there : (rs : List Record) (kept : List Bool) (locations : ℕ → Option (List ℕ)) (names : List (List ℕ)) (url : Option (List ℕ)) (r : Record) (i : ℕ) → HasGoodNames rs → slice_get rs i ≡ Some r → is_kept rs kept i ≡ true → IsUrl rs kept locations i url
-    → further_names (filter (is_kept_name rs kept) names) (rest_record rs kept url r).reference ≡ filter (is_kept_name rs kept) (further_names names r.reference)
-further_there rs kept locations names url r i good here stays (same none) = by_reference r.reference refl
+further_there : (rs : List Record) (kept : List Bool) (answers : ℕ → Answer) (names listed : List (List ℕ)) (headers : List Header) (url : Option (List ℕ)) (r : Record) (i : ℕ) → HasGoodNames rs → slice_get rs i ≡ Some r → is_kept rs kept i ≡ true
+    → IsUrl rs kept answers i url → further_names (filter (is_kept_name rs kept) names) (with_url url (record r { names = listed; headers = headers })).reference ≡ filter (is_kept_name rs kept) (further_names names r.reference)
+further_there rs kept answers names listed headers url r i good here stays (same none) = by_reference r.reference refl
   where
     by_reference : (o : Option (List ℕ)) → r.reference ≡ o → further_names (filter (is_kept_name rs kept) names) o ≡ filter (is_kept_name rs kept) (further_names names o)
     by_reference None e = refl
@@ -166,47 +167,47 @@ further_there rs kept locations names url r i good here stays (same none) = by_r
           | inr leaves ↦ absurd (none p (record { stays = stays; refers = referred_by rs i r id here e ∙ is; leaves = leaves }))
         ] in
         further_kept (is_kept_name rs kept) names id passes
-further_there rs kept locations names url r i good here stays (moved text moves) = by_reference r.reference refl
+further_there rs kept answers names listed headers url r i good here stays (moved text moves) = by_reference r.reference refl
   where
     by_reference : (o : Option (List ℕ)) → r.reference ≡ o → further_names (filter (is_kept_name rs kept) names) None ≡ filter (is_kept_name rs kept) (further_names names o)
     by_reference None e = refl
     by_reference (Some id) e = further_left (is_kept_name rs kept) names id (one_kept rs kept id moves.position (sym (referred_by rs i r id here e) ∙ moves.leaves.refers) ∙ moves.leaves.leaves)
 
 -- the names that a request in the rest needs
-needed_there : (rs : List Record) (kept : List Bool) (locations : ℕ → Option (List ℕ)) (urls : List (Option (List ℕ))) (m : ℕ) → HasGoodNames rs → HasUrls rs kept locations urls → m < length (rest_records rs kept urls)
-    → needed_names (rest_records rs kept urls) m ≡ filter (is_kept_name rs kept) (needed_names rs (source rs kept m))
-needed_there rs kept locations urls m good are less =
-    let rest = rest_records rs kept urls in
+needed_there : (rs : List Record) (kept : List Bool) (answers : ℕ → Answer) (changes : List Change) (m : ℕ) → HasGoodNames rs → HasChanges rs kept answers changes → m < length (rest_records rs kept changes)
+    → needed_names (rest_records rs kept changes) m ≡ filter (is_kept_name rs kept) (needed_names rs (source rs kept m))
+needed_there rs kept answers changes m good are less =
+    let rest = rest_records rs kept changes in
     let i = source rs kept m in
     let test = is_kept_name rs kept in
-    let (y, got) = there_is rs kept urls m less in
-    let from : IsFrom rs kept urls m y = is_from rs kept urls m y got in
-    let refers : reference_at rest m ≡ (rest_record rs kept (text_at urls i) from.request).reference = ap (option_and_then (λ (q : Record). q.reference)) got ∙ ap (λ (q : Record). q.reference) from.made in
+    let (y, got) = there_is rs kept changes m less in
+    let from : IsFrom rs kept changes m y = is_from rs kept changes m y got in
+    let refers : reference_at rest m ≡ (rest_record rs kept (change_at changes i) from.request).reference = ap (option_and_then (λ (q : Record). q.reference)) got ∙ ap (λ (q : Record). q.reference) from.made in
     let was : reference_at rs i ≡ from.request.reference = ap (option_and_then (λ (q : Record). q.reference)) from.is in
     let within : i < length rs = slice_get_within rs i from.request from.is in
     let further : further_names (filter test (names_at rs i)) (reference_at rest m) ≡ filter test (further_names (names_at rs i) (reference_at rs i)) =
-    ap (further_names (filter test (names_at rs i))) refers ∙ further_there rs kept locations (names_at rs i) (text_at urls i) from.request i good from.is from.stays (are.each i within) ∙ ap (λ o. filter test (further_names (names_at rs i) o)) (sym was) in
-    ap (λ (ns : List (List ℕ)). ns ++ further_names ns (reference_at rest m)) (names_to rs kept urls m less)
+    ap (further_names (filter test (names_at rs i))) refers ∙ further_there rs kept answers (names_at rs i) _ _ (change_at changes i).url from.request i good from.is from.stays (are.each i within).url ∙ ap (λ o. filter test (further_names (names_at rs i) o)) (sym was) in
+    ap (λ (ns : List (List ℕ)). ns ++ further_names ns (reference_at rest m)) (names_to rs kept changes m less)
     ∙ ap (λ (ns : List (List ℕ)). filter test (names_at rs i) ++ ns) further
     ∙ sym (filter-append test (names_at rs i) (further_names (names_at rs i) (reference_at rs i)))
 
 -- what a request of the rest needs
-pub part_needs : (rs : List Record) (kept : List Bool) (locations : ℕ → Option (List ℕ)) (urls : List (Option (List ℕ))) → HasGoodNames rs → HasStayingUrls rs kept urls → HasUrls rs kept locations urls → (m : ℕ) → m < length (rest_records rs kept urls)
-    → AllZip (IsSameNeed (rest_records rs kept urls) rs (source rs kept)) (needs_at (rest_records rs kept urls) m) (filter (λ need. marked kept (unit_needed (unit_at rs) need)) (needs_at rs (source rs kept m)))
-part_needs rs kept locations urls good staying are m less =
-    let rest = rest_records rs kept urls in
-    subst (λ (ns : List (List ℕ)). AllZip (IsSameNeed rest rs (source rs kept)) (filter_map (need_of rest) ns) (filter (λ need. marked kept (unit_needed (unit_at rs) need)) (needs_at rs (source rs kept m)))) (sym (needed_there rs kept locations urls m good are less))
-    (needs_zip rs kept urls (rest_good rs kept urls good staying) (needed_names rs (source rs kept m)))
+pub part_needs : (rs : List Record) (kept : List Bool) (answers : ℕ → Answer) (changes : List Change) → HasGoodNames rs → HasStayingUrls rs kept changes → HasChanges rs kept answers changes → (m : ℕ) → m < length (rest_records rs kept changes)
+    → AllZip (IsSameNeed (rest_records rs kept changes) rs (source rs kept)) (needs_at (rest_records rs kept changes) m) (filter (λ need. marked kept (unit_needed (unit_at rs) need)) (needs_at rs (source rs kept m)))
+part_needs rs kept answers changes good staying are m less =
+    let rest = rest_records rs kept changes in
+    subst (λ (ns : List (List ℕ)). AllZip (IsSameNeed rest rs (source rs kept)) (filter_map (need_of rest) ns) (filter (λ need. marked kept (unit_needed (unit_at rs) need)) (needs_at rs (source rs kept m)))) (sym (needed_there rs kept answers changes m good are less))
+    (needs_zip rs kept changes (rest_good rs kept changes good staying) (needed_names rs (source rs kept m)))
 
 -- the plan of the rest
-pub is_part : (rs : List Record) (kept : List Bool) (locations : ℕ → Option (List ℕ)) (urls : List (Option (List ℕ))) → HasGoodNames rs → HasStayingUrls rs kept urls → HasUrls rs kept locations urls → IsPartOfPlan rs kept (rest_records rs kept urls)
-is_part rs kept locations urls good staying are = record {
+pub is_part : (rs : List Record) (kept : List Bool) (answers : ℕ → Answer) (changes : List Change) → HasGoodNames rs → HasStayingUrls rs kept changes → HasChanges rs kept answers changes → IsPartOfPlan rs kept (rest_records rs kept changes)
+is_part rs kept answers changes good staying are = record {
   source = source rs kept;
-  in_order = λ m n less within. in_order rs kept urls m n less within;
+  in_order = λ m n less within. in_order rs kept changes m n less within;
   all = λ i within. (
-    (λ stays. kept_at rs kept urls i within stays),
-    (λ found. let there = there_is rs kept urls found.0 found.1 in ap (is_kept rs kept) (sym found.2) ∙ (is_from rs kept urls found.0 there.0 there.1).stays),
+    (λ stays. kept_at rs kept changes i within stays),
+    (λ found. let there = there_is rs kept changes found.0 found.1 in ap (is_kept rs kept) (sym found.2) ∙ (is_from rs kept changes found.0 there.0 there.1).stays),
   );
-  units = same_units rs kept urls;
-  needs = part_needs rs kept locations urls good staying are;
+  units = same_units rs kept changes;
+  needs = part_needs rs kept answers changes good staying are;
 }

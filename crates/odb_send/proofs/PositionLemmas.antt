@@ -7,8 +7,7 @@ use Rattle.odb_doc.specs.batch.Records.{Record}
 use Rattle.odb_doc.proofs.ElementLemmas.{Contains-head, Contains-tail, Contains-cases}
 use Rattle.odb_check.specs.Positions.{id_at, group_at, names_at, reference_at}
 use Rattle.odb_check.proofs.AnyLemmas.{Contains-none}
-use Rattle.odb_reply.specs.BodyTexts.{text_at}
-use Rattle.odb_send.specs.Rests.{is_kept, is_kept_name, rest_record, rest_records}
+use Rattle.odb_send.specs.Rests.{Change, change_at, is_kept, is_kept_name, rest_record, rest_records, with_url}
 use Rattle.odb_send.proofs.SelectLemmas.{place, Comes, comes, place_order, selected}
 
 -- ---- elements that pass a test
@@ -40,21 +39,33 @@ filter-to {X} test (y ∷ xs) x inside passes = by_first (λ more. filter-to tes
 
 -- ---- a request of the rest
 
-id_kept : (rs : List Record) (kept : List Bool) (url : Option (List ℕ)) (r : Record) → (rest_record rs kept url r).id ≡ r.id
-id_kept rs kept None r = refl
-id_kept rs kept (Some url) r = refl
+id_moved : (url : Option (List ℕ)) (r : Record) → (with_url url r).id ≡ r.id
+id_moved None r = refl
+id_moved (Some url) r = refl
 
-group_kept : (rs : List Record) (kept : List Bool) (url : Option (List ℕ)) (r : Record) → (rest_record rs kept url r).group ≡ r.group
-group_kept rs kept None r = refl
-group_kept rs kept (Some url) r = refl
+group_moved : (url : Option (List ℕ)) (r : Record) → (with_url url r).group ≡ r.group
+group_moved None r = refl
+group_moved (Some url) r = refl
 
-names_kept : (rs : List Record) (kept : List Bool) (url : Option (List ℕ)) (r : Record) → (rest_record rs kept url r).names ≡ filter (is_kept_name rs kept) r.names
-names_kept rs kept None r = refl
-names_kept rs kept (Some url) r = refl
+names_moved : (url : Option (List ℕ)) (r : Record) → (with_url url r).names ≡ r.names
+names_moved None r = refl
+names_moved (Some url) r = refl
 
-reference_kept : (rs : List Record) (kept : List Bool) (url : Option (List ℕ)) (r : Record) (id : List ℕ) → (rest_record rs kept url r).reference ≡ Some id → (url ≡ None) × (r.reference ≡ Some id)
-reference_kept rs kept None r id is = (refl, is)
-reference_kept rs kept (Some url) r id is = absurd (cc (is))
+reference_moved : (url : Option (List ℕ)) (r : Record) (id : List ℕ) → (with_url url r).reference ≡ Some id → (url ≡ None) × (r.reference ≡ Some id)
+reference_moved None r id is = (refl, is)
+reference_moved (Some url) r id is = absurd (cc (is))
+
+id_kept : (rs : List Record) (kept : List Bool) (change : Change) (r : Record) → (rest_record rs kept change r).id ≡ r.id
+id_kept rs kept change r = id_moved change.url _
+
+group_kept : (rs : List Record) (kept : List Bool) (change : Change) (r : Record) → (rest_record rs kept change r).group ≡ r.group
+group_kept rs kept change r = group_moved change.url _
+
+names_kept : (rs : List Record) (kept : List Bool) (change : Change) (r : Record) → (rest_record rs kept change r).names ≡ filter (is_kept_name rs kept) r.names
+names_kept rs kept change r = names_moved change.url _
+
+reference_kept : (rs : List Record) (kept : List Bool) (change : Change) (r : Record) (id : List ℕ) → (rest_record rs kept change r).reference ≡ Some id → (change.url ≡ None) × (r.reference ≡ Some id)
+reference_kept rs kept change r id is = reference_moved change.url _ id is
 
 -- ---- where it comes from
 
@@ -63,19 +74,19 @@ abbrev pub source : List Record → List Bool → ℕ → ℕ
 source rs kept k = place (is_kept rs kept) 0 rs k
 
 -- the request at k in the rest
-pub record IsFrom (rs : List Record) (kept : List Bool) (urls : List (Option (List ℕ))) (k : ℕ) (y : Record) : Type 0 where
-  pub within : k < length (rest_records rs kept urls)
+pub record IsFrom (rs : List Record) (kept : List Bool) (changes : List Change) (k : ℕ) (y : Record) : Type 0 where
+  pub within : k < length (rest_records rs kept changes)
   pub request : Record
   pub is : slice_get rs (source rs kept k) ≡ Some request
-  pub made : y ≡ rest_record rs kept (text_at urls (source rs kept k)) request
+  pub made : y ≡ rest_record rs kept (change_at changes (source rs kept k)) request
   pub stays : is_kept rs kept (source rs kept k) ≡ true
 
-pub is_from : (rs : List Record) (kept : List Bool) (urls : List (Option (List ℕ))) (k : ℕ) (y : Record) → slice_get (rest_records rs kept urls) k ≡ Some y → IsFrom rs kept urls k y
-is_from rs kept urls k y here =
-    let from : Comes (is_kept rs kept) (λ i r. rest_record rs kept (text_at urls i) r) 0 rs (source rs kept k) y = comes (is_kept rs kept) (λ i r. rest_record rs kept (text_at urls i) r) 0 rs k y here in
+pub is_from : (rs : List Record) (kept : List Bool) (changes : List Change) (k : ℕ) (y : Record) → slice_get (rest_records rs kept changes) k ≡ Some y → IsFrom rs kept changes k y
+is_from rs kept changes k y here =
+    let from : Comes (is_kept rs kept) (λ i r. rest_record rs kept (change_at changes i) r) 0 rs (source rs kept k) y = comes (is_kept rs kept) (λ i r. rest_record rs kept (change_at changes i) r) 0 rs k y here in
     let same : source rs kept k ≡ from.offset = omega (arith, from.at_is) in
     record {
-      within = slice_get_within (rest_records rs kept urls) k y here;
+      within = slice_get_within (rest_records rs kept changes) k y here;
       request = from.element;
       is = ap (slice_get rs) same ∙ from.is;
       made = from.made;
@@ -83,36 +94,36 @@ is_from rs kept urls k y here =
     }
 
 -- a position of the rest has a request
-pub there_is : (rs : List Record) (kept : List Bool) (urls : List (Option (List ℕ))) (k : ℕ) → k < length (rest_records rs kept urls) → (y : Record) × (slice_get (rest_records rs kept urls) k ≡ Some y)
-there_is rs kept urls k within = elim ((slice_get_cases (rest_records rs kept urls) k).1) [
+pub there_is : (rs : List Record) (kept : List Bool) (changes : List Change) (k : ℕ) → k < length (rest_records rs kept changes) → (y : Record) × (slice_get (rest_records rs kept changes) k ≡ Some y)
+there_is rs kept changes k within = elim ((slice_get_cases (rest_records rs kept changes) k).1) [
   | inl (y, _, got, _) ↦ (y, got)
   | inr (past, _) ↦ absurd (omega (arith, within, past))
 ]
 
 -- a request that is kept has a position in the rest
-pub kept_at : (rs : List Record) (kept : List Bool) (urls : List (Option (List ℕ))) (j : ℕ) → j < length rs → is_kept rs kept j ≡ true → (k : ℕ) × (k < length (rest_records rs kept urls)) × (source rs kept k ≡ j)
-kept_at rs kept urls j within stays =
+pub kept_at : (rs : List Record) (kept : List Bool) (changes : List Change) (j : ℕ) → j < length rs → is_kept rs kept j ≡ true → (k : ℕ) × (k < length (rest_records rs kept changes)) × (source rs kept k ≡ j)
+kept_at rs kept changes j within stays =
     let same : j ≡ 0 + j = omega arith in
-    let found = selected (is_kept rs kept) (λ i r. rest_record rs kept (text_at urls i) r) 0 rs j within (subst (λ i. is_kept rs kept i ≡ true) same stays) in
+    let found = selected (is_kept rs kept) (λ i r. rest_record rs kept (change_at changes i) r) 0 rs j within (subst (λ i. is_kept rs kept i ≡ true) same stays) in
     (found.0, found.1, found.2 ∙ sym same)
 
 -- the rest has the order of the batch
-pub in_order : (rs : List Record) (kept : List Bool) (urls : List (Option (List ℕ))) (k m : ℕ) → k < m → m < length (rest_records rs kept urls) → source rs kept k < source rs kept m
-in_order rs kept urls k m less within = place_order (is_kept rs kept) (λ i r. rest_record rs kept (text_at urls i) r) 0 rs k m less within
+pub in_order : (rs : List Record) (kept : List Bool) (changes : List Change) (k m : ℕ) → k < m → m < length (rest_records rs kept changes) → source rs kept k < source rs kept m
+in_order rs kept changes k m less within = place_order (is_kept rs kept) (λ i r. rest_record rs kept (change_at changes i) r) 0 rs k m less within
 
-pub in_order_or_same : (rs : List Record) (kept : List Bool) (urls : List (Option (List ℕ))) (k m : ℕ) → k ≤ m → m < length (rest_records rs kept urls) → source rs kept k ≤ source rs kept m
-in_order_or_same rs kept urls k m upto within = elim (cases_order k m) [
+pub in_order_or_same : (rs : List Record) (kept : List Bool) (changes : List Change) (k m : ℕ) → k ≤ m → m < length (rest_records rs kept changes) → source rs kept k ≤ source rs kept m
+in_order_or_same rs kept changes k m upto within = elim (cases_order k m) [
   | inl same ↦ let e : source rs kept k ≡ source rs kept m = ap (source rs kept) same in omega (arith, e)
-  | inr (inl less) ↦ omega (arith, in_order rs kept urls k m less within)
+  | inr (inl less) ↦ omega (arith, in_order rs kept changes k m less within)
   | inr (inr more) ↦ absurd (omega (arith, more, upto))
 ]
 
 -- the batch has the order of the rest
-pub order_back : (rs : List Record) (kept : List Bool) (urls : List (Option (List ℕ))) (k m : ℕ) → k < length (rest_records rs kept urls) → source rs kept k < source rs kept m → k < m
-order_back rs kept urls k m within less = elim (cases_order k m) [
+pub order_back : (rs : List Record) (kept : List Bool) (changes : List Change) (k m : ℕ) → k < length (rest_records rs kept changes) → source rs kept k < source rs kept m → k < m
+order_back rs kept changes k m within less = elim (cases_order k m) [
   | inl same ↦ let e : source rs kept k ≡ source rs kept m = ap (source rs kept) same in absurd (omega (arith, e, less))
   | inr (inl before) ↦ before
-  | inr (inr after) ↦ absurd (omega (arith, in_order rs kept urls m k after within, less))
+  | inr (inr after) ↦ absurd (omega (arith, in_order rs kept changes m k after within, less))
 ]
 
 -- ---- what a position of the rest has
@@ -127,82 +138,82 @@ some_from f None y is = absurd (cc (is))
 some_from f (Some x) y is = (x, refl, is)
 
 -- the identifier at a position of the rest
-pub record HasText (rs : List Record) (kept : List Bool) (urls : List (Option (List ℕ))) (what : List Record → ℕ → Option (List ℕ)) (k : ℕ) (text : List ℕ) : Type 0 where
-  pub within : k < length (rest_records rs kept urls)
+pub record HasText (rs : List Record) (kept : List Bool) (changes : List Change) (what : List Record → ℕ → Option (List ℕ)) (k : ℕ) (text : List ℕ) : Type 0 where
+  pub within : k < length (rest_records rs kept changes)
   pub was : what rs (source rs kept k) ≡ Some text
   pub stays : is_kept rs kept (source rs kept k) ≡ true
 
-pub id_from : (rs : List Record) (kept : List Bool) (urls : List (Option (List ℕ))) (k : ℕ) (id : List ℕ) → id_at (rest_records rs kept urls) k ≡ Some id → HasText rs kept urls id_at k id
-id_from rs kept urls k id here =
-    let (y, got, is) = some_of (λ (r : Record). r.id) (slice_get (rest_records rs kept urls) k) id here in
-    let from = is_from rs kept urls k y got in
+pub id_from : (rs : List Record) (kept : List Bool) (changes : List Change) (k : ℕ) (id : List ℕ) → id_at (rest_records rs kept changes) k ≡ Some id → HasText rs kept changes id_at k id
+id_from rs kept changes k id here =
+    let (y, got, is) = some_of (λ (r : Record). r.id) (slice_get (rest_records rs kept changes) k) id here in
+    let from = is_from rs kept changes k y got in
     record {
       within = from.within;
-      was = ap (option_map (λ (r : Record). r.id)) from.is ∙ ap Some (sym (id_kept rs kept (text_at urls (source rs kept k)) from.request) ∙ ap (λ (r : Record). r.id) (sym from.made) ∙ is);
+      was = ap (option_map (λ (r : Record). r.id)) from.is ∙ ap Some (sym (id_kept rs kept (change_at changes (source rs kept k)) from.request) ∙ ap (λ (r : Record). r.id) (sym from.made) ∙ is);
       stays = from.stays;
     }
 
-pub group_from : (rs : List Record) (kept : List Bool) (urls : List (Option (List ℕ))) (k : ℕ) (group : List ℕ) → group_at (rest_records rs kept urls) k ≡ Some group → HasText rs kept urls group_at k group
-group_from rs kept urls k group here =
-    let (y, got, is) = some_from (λ (r : Record). r.group) (slice_get (rest_records rs kept urls) k) group here in
-    let from = is_from rs kept urls k y got in
+pub group_from : (rs : List Record) (kept : List Bool) (changes : List Change) (k : ℕ) (group : List ℕ) → group_at (rest_records rs kept changes) k ≡ Some group → HasText rs kept changes group_at k group
+group_from rs kept changes k group here =
+    let (y, got, is) = some_from (λ (r : Record). r.group) (slice_get (rest_records rs kept changes) k) group here in
+    let from = is_from rs kept changes k y got in
     record {
       within = from.within;
-      was = ap (option_and_then (λ (r : Record). r.group)) from.is ∙ (sym (group_kept rs kept (text_at urls (source rs kept k)) from.request) ∙ ap (λ (r : Record). r.group) (sym from.made) ∙ is);
+      was = ap (option_and_then (λ (r : Record). r.group)) from.is ∙ (sym (group_kept rs kept (change_at changes (source rs kept k)) from.request) ∙ ap (λ (r : Record). r.group) (sym from.made) ∙ is);
       stays = from.stays;
     }
 
 -- what a request in the batch has, the rest has too
-pub id_to : (rs : List Record) (kept : List Bool) (urls : List (Option (List ℕ))) (k : ℕ) → k < length (rest_records rs kept urls) → id_at (rest_records rs kept urls) k ≡ id_at rs (source rs kept k)
-id_to rs kept urls k within =
-    let (y, got) = there_is rs kept urls k within in
-    let from = is_from rs kept urls k y got in
-    ap (option_map (λ (r : Record). r.id)) got ∙ ap Some (ap (λ (r : Record). r.id) from.made ∙ id_kept rs kept (text_at urls (source rs kept k)) from.request) ∙ sym (ap (option_map (λ (r : Record). r.id)) from.is)
+pub id_to : (rs : List Record) (kept : List Bool) (changes : List Change) (k : ℕ) → k < length (rest_records rs kept changes) → id_at (rest_records rs kept changes) k ≡ id_at rs (source rs kept k)
+id_to rs kept changes k within =
+    let (y, got) = there_is rs kept changes k within in
+    let from = is_from rs kept changes k y got in
+    ap (option_map (λ (r : Record). r.id)) got ∙ ap Some (ap (λ (r : Record). r.id) from.made ∙ id_kept rs kept (change_at changes (source rs kept k)) from.request) ∙ sym (ap (option_map (λ (r : Record). r.id)) from.is)
 
-pub group_to : (rs : List Record) (kept : List Bool) (urls : List (Option (List ℕ))) (k : ℕ) → k < length (rest_records rs kept urls) → group_at (rest_records rs kept urls) k ≡ group_at rs (source rs kept k)
-group_to rs kept urls k within =
-    let (y, got) = there_is rs kept urls k within in
-    let from = is_from rs kept urls k y got in
-    ap (option_and_then (λ (r : Record). r.group)) got ∙ (ap (λ (r : Record). r.group) from.made ∙ group_kept rs kept (text_at urls (source rs kept k)) from.request) ∙ sym (ap (option_and_then (λ (r : Record). r.group)) from.is)
+pub group_to : (rs : List Record) (kept : List Bool) (changes : List Change) (k : ℕ) → k < length (rest_records rs kept changes) → group_at (rest_records rs kept changes) k ≡ group_at rs (source rs kept k)
+group_to rs kept changes k within =
+    let (y, got) = there_is rs kept changes k within in
+    let from = is_from rs kept changes k y got in
+    ap (option_and_then (λ (r : Record). r.group)) got ∙ (ap (λ (r : Record). r.group) from.made ∙ group_kept rs kept (change_at changes (source rs kept k)) from.request) ∙ sym (ap (option_and_then (λ (r : Record). r.group)) from.is)
 
-pub names_to : (rs : List Record) (kept : List Bool) (urls : List (Option (List ℕ))) (k : ℕ) → k < length (rest_records rs kept urls) → names_at (rest_records rs kept urls) k ≡ filter (is_kept_name rs kept) (names_at rs (source rs kept k))
-names_to rs kept urls k within =
-    let (y, got) = there_is rs kept urls k within in
-    let from = is_from rs kept urls k y got in
+pub names_to : (rs : List Record) (kept : List Bool) (changes : List Change) (k : ℕ) → k < length (rest_records rs kept changes) → names_at (rest_records rs kept changes) k ≡ filter (is_kept_name rs kept) (names_at rs (source rs kept k))
+names_to rs kept changes k within =
+    let (y, got) = there_is rs kept changes k within in
+    let from = is_from rs kept changes k y got in
     let names : Option Record → List (List ℕ) = λ o. unwrap_or (option_map (λ (r : Record). r.names) o) [] in
-    ap names got ∙ (ap (λ (r : Record). r.names) from.made ∙ names_kept rs kept (text_at urls (source rs kept k)) from.request) ∙ sym (ap (λ o. filter (is_kept_name rs kept) (names o)) from.is)
+    ap names got ∙ (ap (λ (r : Record). r.names) from.made ∙ names_kept rs kept (change_at changes (source rs kept k)) from.request) ∙ sym (ap (λ o. filter (is_kept_name rs kept) (names o)) from.is)
 
 -- a name of a request in the rest
-pub record HasName (rs : List Record) (kept : List Bool) (urls : List (Option (List ℕ))) (k : ℕ) (name : List ℕ) : Type 0 where
-  pub within : k < length (rest_records rs kept urls)
+pub record HasName (rs : List Record) (kept : List Bool) (changes : List Change) (k : ℕ) (name : List ℕ) : Type 0 where
+  pub within : k < length (rest_records rs kept changes)
   pub was : Contains (names_at rs (source rs kept k)) name
   pub is_kept : is_kept_name rs kept name ≡ true
 
 pub names_within : (rs : List Record) (i : ℕ) (name : List ℕ) → Contains (names_at rs i) name → i < length rs
 names_within rs i name inside = grind (arith, slice_get_cases rs i, Contains-none)
 
-pub name_from : (rs : List Record) (kept : List Bool) (urls : List (Option (List ℕ))) (k : ℕ) (name : List ℕ) → Contains (names_at (rest_records rs kept urls) k) name → HasName rs kept urls k name
-name_from rs kept urls k name inside =
-    let within = names_within (rest_records rs kept urls) k name inside in
-    let found = filter-from (is_kept_name rs kept) (names_at rs (source rs kept k)) name (subst (λ xs. Contains xs name) (names_to rs kept urls k within) inside) in
+pub name_from : (rs : List Record) (kept : List Bool) (changes : List Change) (k : ℕ) (name : List ℕ) → Contains (names_at (rest_records rs kept changes) k) name → HasName rs kept changes k name
+name_from rs kept changes k name inside =
+    let within = names_within (rest_records rs kept changes) k name inside in
+    let found = filter-from (is_kept_name rs kept) (names_at rs (source rs kept k)) name (subst (λ xs. Contains xs name) (names_to rs kept changes k within) inside) in
     record { within = within; was = found.0; is_kept = found.1 }
 
-pub name_to : (rs : List Record) (kept : List Bool) (urls : List (Option (List ℕ))) (k : ℕ) (name : List ℕ) → k < length (rest_records rs kept urls) → Contains (names_at rs (source rs kept k)) name → is_kept_name rs kept name ≡ true
-    → Contains (names_at (rest_records rs kept urls) k) name
-name_to rs kept urls k name within inside stays = subst (λ xs. Contains xs name) (sym (names_to rs kept urls k within)) (filter-to (is_kept_name rs kept) (names_at rs (source rs kept k)) name inside stays)
+pub name_to : (rs : List Record) (kept : List Bool) (changes : List Change) (k : ℕ) (name : List ℕ) → k < length (rest_records rs kept changes) → Contains (names_at rs (source rs kept k)) name → is_kept_name rs kept name ≡ true
+    → Contains (names_at (rest_records rs kept changes) k) name
+name_to rs kept changes k name within inside stays = subst (λ xs. Contains xs name) (sym (names_to rs kept changes k within)) (filter-to (is_kept_name rs kept) (names_at rs (source rs kept k)) name inside stays)
 
 -- the reference of a request in the rest
-pub record HasReference (rs : List Record) (kept : List Bool) (urls : List (Option (List ℕ))) (k : ℕ) (id : List ℕ) : Type 0 where
-  pub within : k < length (rest_records rs kept urls)
+pub record HasReference (rs : List Record) (kept : List Bool) (changes : List Change) (k : ℕ) (id : List ℕ) : Type 0 where
+  pub within : k < length (rest_records rs kept changes)
   pub was : reference_at rs (source rs kept k) ≡ Some id
   pub stays : is_kept rs kept (source rs kept k) ≡ true
-  pub same : text_at urls (source rs kept k) ≡ None
+  pub same : (change_at changes (source rs kept k)).url ≡ None
 
-pub reference_from : (rs : List Record) (kept : List Bool) (urls : List (Option (List ℕ))) (k : ℕ) (id : List ℕ) → reference_at (rest_records rs kept urls) k ≡ Some id → HasReference rs kept urls k id
-reference_from rs kept urls k id here =
-    let (y, got, is) = some_from (λ (r : Record). r.reference) (slice_get (rest_records rs kept urls) k) id here in
-    let from = is_from rs kept urls k y got in
-    let both = reference_kept rs kept (text_at urls (source rs kept k)) from.request id (ap (λ (r : Record). r.reference) (sym from.made) ∙ is) in
+pub reference_from : (rs : List Record) (kept : List Bool) (changes : List Change) (k : ℕ) (id : List ℕ) → reference_at (rest_records rs kept changes) k ≡ Some id → HasReference rs kept changes k id
+reference_from rs kept changes k id here =
+    let (y, got, is) = some_from (λ (r : Record). r.reference) (slice_get (rest_records rs kept changes) k) id here in
+    let from = is_from rs kept changes k y got in
+    let both = reference_kept rs kept (change_at changes (source rs kept k)) from.request id (ap (λ (r : Record). r.reference) (sym from.made) ∙ is) in
     record {
       within = from.within;
       was = ap (option_and_then (λ (r : Record). r.reference)) from.is ∙ both.1;

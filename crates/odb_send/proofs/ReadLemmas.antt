@@ -23,7 +23,8 @@ use Rattle.odb_doc.specs.Texts.{member_part, request_end}
 use Rattle.odb_reply.proofs.SpliceLemmas.{AreObjectTexts, BeginsArray, EndsObject, IsName, IsObjectText, IsPart, IsPiece, Tree, body-name, document-read, group-name, headers-name, id-name, last-member, member-before, member-then, no-objects, no-part, object-text, one-object-more, piece-text, piece-value, some-part, value-part, with-tree-depth, with_tree}
 use Rattle.odb_reply.specs.BodyTexts.{text_at}
 use Rattle.odb_send.specs.declared.rest.Rest.{Rest}
-use Rattle.odb_send.specs.Rests.{is_kept, kept, records_in, rest_record, select, urls}
+use Rattle.odb_send.specs.Rests.{Change, change_at, changes, is_kept, kept, records_in, rest_record, select, with_url}
+use Rattle.odb_send.proofs.HeaderLemmas.{in-order}
 use Rattle.odb_send.specs.Texts.{IsTextOf, bodies_in, body_part, joined, request_text, text_of, text_of_request}
 use Rattle.odb_send.specs.Parts.{IsBatchIn}
 use Rattle.odb_spans.specs.Spans.{HasBodyAt, bytes_of}
@@ -185,9 +186,12 @@ are-given document (d ∷ ds) (q ∷ rs) (span ∷ spans) says has zero r is =
     subst (λ s. IsGiven s (option_map (bytes_of document) span)) same (body-there document d q span says.0 has.0, says.0.headers.ordered)
 are-given document (d ∷ ds) (q ∷ rs) (span ∷ spans) says has (suc k) r is = are-given document ds rs spans says.1 has.1 k r is
 
-of-rest : (rs : List Record) (units : List Bool) (url : Option (List ℕ)) (r : Record) (text : Option (List ℕ)) → IsGiven r text → IsObjectText (request_text (rest_record rs units url r) text) (request_value (rest_record rs units url r))
-of-rest rs units None r text is = of-request (rest_record rs units None r) text is.0 is.1
-of-rest rs units (Some url) r text is = of-request (rest_record rs units (Some url) r) text is.0 is.1
+of-moved : (url : Option (List ℕ)) (r : Record) (text : Option (List ℕ)) → IsGiven r text → IsObjectText (request_text (with_url url r) text) (request_value (with_url url r))
+of-moved None r text is = of-request (with_url None r) text is.0 is.1
+of-moved (Some url) r text is = of-request (with_url (Some url) r) text is.0 is.1
+
+of-rest : (rs : List Record) (units : List Bool) (change : Change) (r : Record) (text : Option (List ℕ)) → IsGiven r text → IsObjectText (request_text (rest_record rs units change r) text) (request_value (rest_record rs units change r))
+of-rest rs units change r text is = of-moved change.url _ text (is.0, in-order change r.headers is.1)
 
 -- ---- the whole text
 
@@ -201,12 +205,12 @@ whole-read : (rs : List Record) (rest : Rest) (bodies : List (Option (List ℕ))
 unfolding text_of serde_json_on_literals
 whole-read rs rest bodies tail none given =
     let units = kept rest in
-    let text = text_of_request rs units (urls rest) bodies in
-    let made : ℕ → Record → Record = λ i r. rest_record rs units (text_at (urls rest) i) r in
+    let text = text_of_request rs units (changes rest) bodies in
+    let made : ℕ → Record → Record = λ i r. rest_record rs units (change_at (changes rest) i) r in
     let all = joined false (select (is_kept rs units) text 0 rs) in
     let each : AreTextsOf text made 0 rs = λ k r is.
     let here : k ≡ 0 + k = omega arith in
-    subst (λ i. IsObjectText (text i r) (request_value (made i r))) here (of-rest rs units (text_at (urls rest) k) r (text_at bodies k) (given k r is)) in
+    subst (λ i. IsObjectText (text i r) (request_value (made i r))) here (of-rest rs units (change_at (changes rest) k) r (text_at bodies k) (given k r is)) in
     let are = are-requests (is_kept rs units) text made 0 rs each false in
     ap (λ l. read ((codes "{\"requests\":[" ++ l) ++ tail)) (sym (append_assoc all (codes "]") (codes "}")))
     ∙ document-read (codes "{\"requests\":[") (codes "requests") (all ++ codes "]") tail _ begun none are

@@ -25,7 +25,8 @@ use Rattle.odb_reply.specs.ResponseDocuments.{Entry}
 use Rattle.odb_reply.proofs.IdLemmas.{one_position}
 use Rattle.odb_reply.proofs.SliceLemmas.{map_some}
 use Rattle.odb_send.specs.Laws.{IsSameNeed, with_rest}
-use Rattle.odb_send.specs.Rests.{HasUrls, is_kept, rest_records}
+use Rattle.odb_send.specs.Answers.{Answer}
+use Rattle.odb_send.specs.Rests.{Change, HasChanges, is_kept, rest_records}
 use Rattle.odb_send.specs.Units.{AreMarksOf, IsDone, IsInRest, marked}
 use Rattle.odb_send.proofs.LawLemmas.{need_known, responds, rest_may_be_sent, succeeded, urls_stay}
 use Rattle.odb_send.proofs.NameLemmas.{HasStayingUrls, rest_good}
@@ -146,10 +147,10 @@ one-response rs es i e f fits one two =
 
 -- ---- the responses with those to the rest
 
-module _ (rs : List Record) (es : List Entry) (places statuses : List ℕ) (kept : List Bool) (urls : List (Option (List ℕ))) (locations : ℕ → Option (List ℕ)) (others : List Entry) (good : HasGoodNames rs) (fits : Fits rs es) (table : IsTableOf rs es places statuses)
-    (units : AreMarksOf rs (IsInRest rs statuses) kept) (moved : HasUrls rs kept locations urls) (fits_rest : Fits (rest_records rs kept urls) others) where
+module _ (rs : List Record) (es : List Entry) (places statuses : List ℕ) (kept : List Bool) (changes : List Change) (recorded : ℕ → Answer) (others : List Entry) (good : HasGoodNames rs) (fits : Fits rs es) (table : IsTableOf rs es places statuses)
+    (units : AreMarksOf rs (IsInRest rs statuses) kept) (moved : HasChanges rs kept recorded changes) (fits_rest : Fits (rest_records rs kept changes) others) where
   abbrev ys : List Record
-  ys = rest_records rs kept urls
+  ys = rest_records rs kept changes
 
   abbrev stays : Entry → Bool
   stays e = not (is_answered others e.id)
@@ -157,11 +158,11 @@ module _ (rs : List Record) (es : List Entry) (places statuses : List ℕ) (kept
   abbrev all : List Entry
   all = with_rest es others
 
-  staying : HasStayingUrls rs kept urls
-  staying = urls_stay rs kept locations urls moved
+  staying : HasStayingUrls rs kept changes
+  staying = urls_stay rs kept recorded changes moved
 
   good_rest : HasGoodNames ys
-  good_rest = rest_good rs kept urls good staying
+  good_rest = rest_good rs kept changes good staying
 
   once : IsOnce rs
   once = one_position rs (has_positions rs good)
@@ -171,15 +172,15 @@ module _ (rs : List Record) (es : List Entry) (places statuses : List ℕ) (kept
   of-rest i e has named =
       let found = place-of others e has in
       let known = fits_rest.known found.0 e.id (ap (option_map (λ (x : Entry). x.id)) found.1) in
-      let from = id_from rs kept urls known.0 e.id known.1 in
+      let from = id_from rs kept changes known.0 e.id known.1 in
       let same = once (source rs kept known.0) i e.id from.was named in
       (known.0, from.within, same, ap (is_kept rs kept) (sym same) ∙ from.stays)
 
   -- a request in the rest is answered there
   answered : (i : ℕ) (id : List ℕ) → id_at rs i ≡ Some id → is_kept rs kept i ≡ true → is_answered others id ≡ true
   answered i id named is =
-      let there = kept_at rs kept urls i (id_within rs i id named) is in
-      let one = fits_rest.one there.0 id (id_to rs kept urls there.0 there.1 ∙ ap (id_at rs) there.2 ∙ named) in
+      let there = kept_at rs kept changes i (id_within rs i id named) is in
+      let one = fits_rest.one there.0 id (id_to rs kept changes there.0 there.1 ∙ ap (id_at rs) there.2 ∙ named) in
       let found = map_some (λ (e : Entry). e.id) (slice_get others one.0) id one.1.has in
       any-to (λ (e : Entry). bytes_eq id e.id) others found.0 (at-place others one.0 found.0 found.1) ((bytes_eq-Decides id found.0.id).1 (sym found.2))
 
@@ -205,7 +206,7 @@ module _ (rs : List Record) (es : List Entry) (places statuses : List ℕ) (kept
     | inr second ↦
         let there = of-rest i e second responds.id in
         let found = place-of others e second in
-        inr (there.0, there.1, there.2, there.3, record { place = found.0; given = found.1; id = id_to rs kept urls there.0 there.1 ∙ ap (id_at rs) there.2 ∙ responds.id })
+        inr (there.0, there.1, there.2, there.3, record { place = found.0; given = found.1; id = id_to rs kept changes there.0 there.1 ∙ ap (id_at rs) there.2 ∙ responds.id })
   ]
 
   -- what succeeds and is not in the rest still does
@@ -221,7 +222,7 @@ module _ (rs : List Record) (es : List Entry) (places statuses : List ℕ) (kept
     | inl before ↦ absurd (true≢false (sym is ∙ before.0))
     | inr there ↦
         let found = there.4 in
-        success e (record { place = found.place; given = found.given; id = id_to rs kept urls m within ∙ ap (id_at rs) same ∙ responds.id })
+        success e (record { place = found.place; given = found.given; id = id_to rs kept changes m within ∙ ap (id_at rs) same ∙ responds.id })
   ]
 
   unmarked : (u : ℕ) → u < unit_count rs → IsDone rs statuses u → marked kept u ≡ false
@@ -286,7 +287,7 @@ module _ (rs : List Record) (es : List Entry) (places statuses : List ℕ) (kept
   now-satisfied m (Group v) (One r) within inside same is satisfied = absurd same
   now-satisfied m (Group v) (Group u) within inside same is satisfied = λ r unit e responds.
       let here : is_kept rs kept r ≡ true = ap (marked kept) unit ∙ is in
-      let there = kept_at rs kept urls r (id_within rs r e.id responds.id) here in
+      let there = kept_at rs kept changes r (id_within rs r e.id responds.id) here in
       let member : unit_at ys there.0 ≡ v = (same there.0 there.1).1 (ap (unit_at rs) there.2 ∙ unit) in
       now-succeeds there.0 r there.1 there.2 here (satisfied there.0 member) e responds
 
@@ -301,7 +302,7 @@ module _ (rs : List Record) (es : List Entry) (places statuses : List ℕ) (kept
   new-rests : (m i : ℕ) (e : Entry) (need : Need) → m < length ys → source rs kept m ≡ i → is_kept rs kept i ≡ true → i < length rs → Responds ys others m e → is_success e.status ≡ true → Contains (needs_at rs i) need → IsSatisfied rs all need
   new-rests m i e need within same is inside_rs answers success inside = elim (cases_Bool (marked kept (unit_needed (unit_at rs) need))) [
     | inl there ↦
-        let needs = part_needs rs kept locations urls good staying moved m within in
+        let needs = part_needs rs kept recorded changes good staying moved m within in
         let listed : Contains (filter (λ d. marked kept (unit_needed (unit_at rs) d)) (needs_at rs (source rs kept m))) need = filter-to (λ d. marked kept (unit_needed (unit_at rs) d)) (needs_at rs (source rs kept m)) need (subst (λ k. Contains (needs_at rs k) need) (sym same) inside) there in
         let back = zip-back (IsSameNeed ys rs (source rs kept)) (needs_at ys m) (filter (λ d. marked kept (unit_needed (unit_at rs) d)) (needs_at rs (source rs kept m))) need needs listed in
         now-satisfied m back.0 need within back.1 back.2 there (fits_rest.rests_on_successes m e back.0 answers success back.1)
@@ -318,8 +319,8 @@ module _ (rs : List Record) (es : List Entry) (places statuses : List ℕ) (kept
   resent = record {
     one = λ i id named. elim (cases_Bool (is_kept rs kept i)) [
       | inl is ↦
-          let there = kept_at rs kept urls i (id_within rs i id named) is in
-          let one = fits_rest.one there.0 id (id_to rs kept urls there.0 there.1 ∙ ap (id_at rs) there.2 ∙ named) in
+          let there = kept_at rs kept changes i (id_within rs i id named) is in
+          let one = fits_rest.one there.0 id (id_to rs kept changes there.0 there.1 ∙ ap (id_at rs) there.2 ∙ named) in
           let none : HasNone (filter stays es) id = has-none (filter stays es) id (λ e has same. true≢false (sym (filter-from stays es e has).1 ∙ ap not (ap (is_answered others) same ∙ answered i id named is))) in
           after-none (filter stays es) others id none one
       | inr out ↦
@@ -333,12 +334,12 @@ module _ (rs : List Record) (es : List Entry) (places statuses : List ℕ) (kept
           | inr second ↦
               let there = place-of others found.0 second in
               let known = fits_rest.known there.0 id (ap (option_map (λ (e : Entry). e.id)) there.1 ∙ ap Some found.2) in
-              let from = id_from rs kept urls known.0 id known.1 in
+              let from = id_from rs kept changes known.0 id known.1 in
               (source rs kept known.0, from.was)
         ];
     groups = λ i e answers. elim (by-origin i e answers) [
       | inl before ↦ fits.groups i e before.1
-      | inr there ↦ fits_rest.groups there.0 e there.4 ∙ group_to rs kept urls there.0 there.1 ∙ ap (group_at rs) there.2
+      | inr there ↦ fits_rest.groups there.0 e there.4 ∙ group_to rs kept changes there.0 there.1 ∙ ap (group_at rs) there.2
     ];
     rests_on_successes = λ i e need answers success inside. elim (by-origin i e answers) [
       | inl before ↦ old-rests i e need before.0 before.1 success inside

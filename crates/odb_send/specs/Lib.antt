@@ -3,7 +3,7 @@ pub mod Parts
 pub mod ResponseParts
 pub mod Repeats
 pub mod Units
-pub mod Locations
+pub mod Answers
 pub mod Rests
 pub mod NextPart
 pub mod Faults

@@ -6,11 +6,11 @@ use Rattle.odb_check.specs.PlanGraph.{unit_needed}
 use Rattle.odb_check.specs.declared.need.Need.{Need}
 use Rattle.odb_check.specs.Needs.{needs_at}
 use Rattle.odb_check.specs.Units.{unit_at, unit_count}
-use Rattle.odb_send.specs.Faults.{RestFault, LacksLocation}
+use Rattle.odb_send.specs.Answers.{Answer}
+use Rattle.odb_send.specs.Faults.{Breaks, LacksLocation, LacksTag, RestFault}
 use Rattle.odb_doc.specs.declared.rule_fault.RuleFault.TheVariants as faults
-use Rattle.odb_send.specs.declared.fault.RestRule.TheVariants.{NoLocation}
-use Rattle.odb_reply.specs.BodyTexts.{text_at}
-use Rattle.odb_send.specs.Rests.{HasUrls, IsUrl, is_kept, kept, select, urls}
+use Rattle.odb_send.specs.declared.fault.RestRule.TheVariants.{NoETag, NoLocation}
+use Rattle.odb_send.specs.Rests.{Change, HasChanges, IsChange, change_at, changes, is_kept, kept, select}
 use Rattle.odb_send.specs.Texts.{joined, text_of_request}
 use Rattle.odb_spans.specs.Spans.{bytes_of}
 use Rattle.odb_spans.specs.declared.span.Span.{Span}
@@ -30,15 +30,27 @@ pub record AreKept (done left : List Bool) (n : ℕ) (units : List Bool) : Type 
   pub count : length units ≡ n
   pub each : (u : ℕ) → u < n → marked units u ≡ (not (marked done u) && not (marked left u))
 
--- the fault is that the URL at i lacks a Location. Out of memory says nothing.
-abbrev pub IsLacking : List Record → List Bool → (ℕ → Option (List ℕ)) → ℕ → RestFault → Type 0
-IsLacking rs kept locations i (faults.Broken at NoLocation) = (at ≡ i) × LacksLocation rs kept locations i
-IsLacking rs kept locations i faults.OutOfMemory = Unit {0}
+-- the fault is that the request at i breaks a rule. Out of memory says nothing.
+abbrev pub IsBroken : List Record → List Bool → (ℕ → Answer) → ℕ → RestFault → Type 0
+IsBroken rs kept answers i (faults.Broken at rule) = (at ≡ i) × Breaks rule rs kept answers i
+IsBroken rs kept answers i faults.OutOfMemory = Unit {0}
 
--- the first n requests have the URLs that they get in the rest
-pub record AreUrls (rs : List Record) (kept : List Bool) (locations : ℕ → Option (List ℕ)) (n : ℕ) (urls : List (Option (List ℕ))) : Type 0 where
-  pub count : length urls ≡ n
-  pub each : (i : ℕ) → i < n → IsUrl rs kept locations i (text_at urls i)
+-- the fault is that the URL at i lacks a Location
+abbrev pub IsLacking : List Record → List Bool → (ℕ → Answer) → ℕ → RestFault → Type 0
+IsLacking rs kept answers i (faults.Broken at NoLocation) = (at ≡ i) × LacksLocation rs kept answers i
+IsLacking rs kept answers i (faults.Broken at NoETag) = ⊥
+IsLacking rs kept answers i faults.OutOfMemory = Unit {0}
+
+-- the fault is that this header at i lacks an ETag
+abbrev pub IsLackingTag : List Record → List Bool → (ℕ → Answer) → List ℕ → ℕ → RestFault → Type 0
+IsLackingTag rs kept answers name i (faults.Broken at NoLocation) = ⊥
+IsLackingTag rs kept answers name i (faults.Broken at NoETag) = (at ≡ i) × LacksTag rs kept answers name i
+IsLackingTag rs kept answers name i faults.OutOfMemory = Unit {0}
+
+-- the first n requests change as they do in the rest
+pub record AreChanges (rs : List Record) (kept : List Bool) (answers : ℕ → Answer) (n : ℕ) (changes : List Change) : Type 0 where
+  pub count : length changes ≡ n
+  pub each : (i : ℕ) → i < n → IsChange rs kept answers i (change_at changes i)
 
 -- the span is one of the document, and its bytes are a text
 pub record IsTextIn (document : List ℕ) (span : Span) : Type 0 where
@@ -56,8 +68,8 @@ url_in None r = r.url
 url_in (Some url) r = url
 
 -- the text of the requests from a position on, with a comma first if something stands before
-unfoldable pub texts_left : List Record → List Bool → List (Option (List ℕ)) → List (Option (List ℕ)) → Bool → ℕ → List ℕ
-texts_left rs units moved bodies later i = joined later (select (is_kept rs units) (text_of_request rs units moved bodies) i (drop i rs))
+unfoldable pub texts_left : List Record → List Bool → List Change → List (Option (List ℕ)) → Bool → ℕ → List ℕ
+texts_left rs units changes bodies later i = joined later (select (is_kept rs units) (text_of_request rs units changes bodies) i (drop i rs))
 
 -- the first n units of a part, which has room for so many requests more
 pub record AreFirst (rs : List Record) (done left : List Bool) (limit n room : ℕ) (units : List Bool) : Type 0 where
@@ -72,7 +84,7 @@ waits_at rs done left units i = not (marked done (unit_at rs i)) && (not (marked
 abbrev pub marked_before : List Bool → ℕ → ℕ → Bool
 marked_before units end u = nat_lt u end && marked units u
 
--- the part has those of the units that fit up to one that lacks a Location, and the URLs of their requests
-pub record IsCutPart (rs : List Record) (fitting : List Bool) (locations : ℕ → Option (List ℕ)) (part : Rest) : Type 0 where
-  pub cut : IsCut rs fitting locations (kept part)
-  pub urls_are : HasUrls rs (kept part) locations (urls part)
+-- the part has those of the units that fit up to one that lacks a Location or an ETag, and the changes of their requests
+pub record IsCutPart (rs : List Record) (fitting : List Bool) (answers : ℕ → Answer) (part : Rest) : Type 0 where
+  pub cut : IsCut rs fitting answers (kept part)
+  pub changes_are : HasChanges rs (kept part) answers (changes part)

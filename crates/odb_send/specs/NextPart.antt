@@ -1,7 +1,7 @@
 -- The next part of a batch: requests that may be sent together as a batch of their own, in the order of the batch (OData JSON
 -- Format 4.01, sections 19.1 and 19.4). `done` marks the units whose requests have all succeeded, `left` those that are not
 -- sent yet and may be sent.
-use Rattle.std.specs.Prelude.{◌≡◌, ◌⊎◌, ◌+◌, ◌<◌, ◌≤◌, ◌==◌, ℕ, Bool, true, false, List, [], ◌∷◌, length, Contains, Option, slice_index_or, if◌then◌else◌}
+use Rattle.std.specs.Prelude.{◌≡◌, ◌⊎◌, ◌+◌, ◌<◌, ◌≤◌, ◌==◌, ℕ, Bool, true, false, List, [], ◌∷◌, length, Contains, slice_index_or, if◌then◌else◌}
 use Rattle.odb_doc.specs.Statuses.{is_success}
 use Rattle.odb_doc.specs.batch.Records.{Record}
 use Rattle.odb_doc.specs.declared.rule_fault.RuleFault.TheVariants as faults
@@ -13,9 +13,10 @@ use Rattle.odb_check.specs.Units.{unit_at, unit_count}
 use Rattle.odb_sched.specs.declared.states.RequestState.{RequestState}
 use Rattle.odb_sched.specs.declared.states.RequestState.TheVariants.{Waiting, Ready, Running, Reported, Skipped}
 use Rattle.odb_send.specs.declared.rest.Rest.{Rest}
-use Rattle.odb_send.specs.declared.fault.RestRule.TheVariants.{NoLocation}
-use Rattle.odb_send.specs.Faults.{LacksLocation, RestFault}
-use Rattle.odb_send.specs.Rests.{HasUrls, is_kept, kept, urls}
+use Rattle.odb_send.specs.declared.fault.RestRule.{RestRule}
+use Rattle.odb_send.specs.Answers.{Answer}
+use Rattle.odb_send.specs.Faults.{Breaks, Lacks, RestFault}
+use Rattle.odb_send.specs.Rests.{HasChanges, changes, is_kept, kept}
 use Rattle.odb_send.specs.Units.{AreMarksOf, IsBarred, IsWhole, marked}
 
 -- A unit has to wait, unless it is done, if it is not left, or needs something of a unit that has to wait.
@@ -48,39 +49,39 @@ pub record AreFitting (rs : List Record) (done left : List Bool) (limit : ℕ) (
 abbrev pub HasSome : List Record → List Bool → Type 0
 HasSome rs part = (i : ℕ) × (i < length rs) × (is_kept rs part i ≡ true)
 
--- a request of the unit, which is one of those that fit, lacks a Location
-abbrev pub HasLack : List Record → List Bool → (ℕ → Option (List ℕ)) → ℕ → Type 0
-HasLack rs fitting locations u = (i : ℕ) × (i < length rs) × (unit_at rs i ≡ u) × LacksLocation rs fitting locations i
+-- a request of the unit, which is one of those that fit, lacks a Location or an ETag
+abbrev pub HasLack : List Record → List Bool → (ℕ → Answer) → ℕ → Type 0
+HasLack rs fitting answers u = (i : ℕ) × (i < length rs) × (unit_at rs i ≡ u) × Lacks rs fitting answers i
 
--- The part has the units that fit, from the first up to one that lacks a Location; the first of all lacks none.
-pub record IsCut (rs : List Record) (fitting : List Bool) (locations : ℕ → Option (List ℕ)) (part : List Bool) : Type 0 where
+-- The part has the units that fit, from the first up to one that lacks a Location or an ETag; the first of all lacks none.
+pub record IsCut (rs : List Record) (fitting : List Bool) (answers : ℕ → Answer) (part : List Bool) : Type 0 where
   pub end : ℕ
   pub units : AreMarksOf rs (λ u. (u < end) × (marked fitting u ≡ true)) part
-  pub placed : (u : ℕ) → u < end → ¬ HasLack rs fitting locations u
-  pub next : (end ≡ unit_count rs) ⊎ (HasSome rs part × HasLack rs fitting locations end)
+  pub placed : (u : ℕ) → u < end → ¬ HasLack rs fitting answers u
+  pub next : (end ≡ unit_count rs) ⊎ (HasSome rs part × HasLack rs fitting answers end)
 
--- The next part has the units that may be sent, from the first up to one that does not fit any more or lacks a Location.
-pub record IsNextPart (rs : List Record) (done left : List Bool) (limit : ℕ) (locations : ℕ → Option (List ℕ)) (part : List Bool) : Type 0 where
+-- The next part has the units that may be sent, from the first up to one that does not fit any more, or lacks a Location or an ETag.
+pub record IsNextPart (rs : List Record) (done left : List Bool) (limit : ℕ) (answers : ℕ → Answer) (part : List Bool) : Type 0 where
   pub fitting : List Bool
   pub fits : AreFitting rs done left limit fitting
-  pub cut : IsCut rs fitting locations part
+  pub cut : IsCut rs fitting answers part
 
 -- the part, with the URLs that its requests get by these Locations
-pub record IsPartOf (rs : List Record) (done left : List Bool) (limit : ℕ) (locations : ℕ → Option (List ℕ)) (part : Rest) : Type 0 where
-  pub units : IsNextPart rs done left limit locations (kept part)
-  pub urls_are : HasUrls rs (kept part) locations (urls part)
+pub record IsPartOf (rs : List Record) (done left : List Bool) (limit : ℕ) (answers : ℕ → Answer) (part : Rest) : Type 0 where
+  pub units : IsNextPart rs done left limit answers (kept part)
+  pub changes_are : HasChanges rs (kept part) answers (changes part)
 
--- the request is the first of all that fit that lacks a Location, and no unit that fits comes before its own
-pub record LacksFirst (rs : List Record) (fitting : List Bool) (locations : ℕ → Option (List ℕ)) (at : ℕ) : Type 0 where
-  pub lacks : LacksLocation rs fitting locations at
-  pub least : (i : ℕ) → i < at → ¬ LacksLocation rs fitting locations i
+-- the request is the first of all that fit that breaks a rule, and no unit that fits comes before its own
+pub record BreaksFirst (rule : RestRule) (rs : List Record) (fitting : List Bool) (answers : ℕ → Answer) (at : ℕ) : Type 0 where
+  pub breaks : Breaks rule rs fitting answers at
+  pub least : (i : ℕ) → i < at → ¬ Lacks rs fitting answers i
   pub begins : (u : ℕ) → u < unit_at rs at → marked fitting u ≡ false
 
--- The fault, by which there is no part, is at the first request that lacks a Location, of the first unit that fits. Out of memory
--- says nothing.
-abbrev pub RefusesPart : RestFault → List Record → List Bool → (ℕ → Option (List ℕ)) → Type 0
-RefusesPart (faults.Broken at NoLocation) rs fitting locations = LacksFirst rs fitting locations at
-RefusesPart faults.OutOfMemory rs fitting locations = Unit {0}
+-- The fault, by which there is no part, is at the first request that lacks a Location or an ETag, of the first unit that fits. Out
+-- of memory says nothing.
+abbrev pub RefusesPart : RestFault → List Record → List Bool → (ℕ → Answer) → Type 0
+RefusesPart (faults.Broken at rule) rs fitting answers = BreaksFirst rule rs fitting answers at
+RefusesPart faults.OutOfMemory rs fitting answers = Unit {0}
 
 -- ---- by what has become of each request of a run
 
@@ -108,11 +109,11 @@ pub record HasProgress (rs : List Record) (states : List RequestState) (done lef
   pub starting : AreMarksOf rs (IsWhole rs (λ i. may_start (state_at states i))) left
 
 -- the next part of a run in which this has become of each request
-pub record IsPartAfter (rs : List Record) (states : List RequestState) (limit : ℕ) (locations : ℕ → Option (List ℕ)) (part : Rest) : Type 0 where
+pub record IsPartAfter (rs : List Record) (states : List RequestState) (limit : ℕ) (answers : ℕ → Answer) (part : Rest) : Type 0 where
   pub done : List Bool
   pub left : List Bool
   pub progress : HasProgress rs states done left
-  pub part_is : IsPartOf rs done left limit locations part
+  pub part_is : IsPartOf rs done left limit answers part
 
 -- ---- what holds of every part
 

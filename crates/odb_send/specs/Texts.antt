@@ -10,7 +10,7 @@ use Rattle.odb_doc.specs.canonical.Canonical.{headers_value, names_value}
 use Rattle.odb_doc.specs.Texts.{member_part, request_end}
 use Rattle.odb_reply.specs.BodyTexts.{text_at}
 use Rattle.odb_send.specs.declared.rest.Rest.{Rest}
-use Rattle.odb_send.specs.Rests.{is_kept, kept, rest_record, select, urls}
+use Rattle.odb_send.specs.Rests.{Change, change_at, changes, is_kept, kept, rest_record, select}
 use Rattle.odb_spans.specs.declared.span.Span.{Span}
 use Rattle.odb_spans.specs.Spans.{EachSpan, HasBodyAt, IsPlaceOfBody, bytes_of}
 
@@ -25,8 +25,8 @@ request_text r body =
     codes "{" ++ (member_part (codes "\"atomicityGroup\":") (option_map string r.group) ++ (body_part body ++ (member_part (codes "\"dependsOn\":") (names_value r.names) ++ (member_part (codes "\"headers\":") (headers_value r.headers) ++ request_end r.id r.method r.url))))
 
 -- the request at a position as the rest has it
-abbrev pub text_of_request : List Record → List Bool → List (Option (List ℕ)) → List (Option (List ℕ)) → ℕ → Record → List ℕ
-text_of_request rs units moved bodies i r = request_text (rest_record rs units (text_at moved i) r) (text_at bodies i)
+abbrev pub text_of_request : List Record → List Bool → List Change → List (Option (List ℕ)) → ℕ → Record → List ℕ
+text_of_request rs units changes bodies i r = request_text (rest_record rs units (change_at changes i) r) (text_at bodies i)
 
 -- the texts with commas between them, and one first if something stands before
 abbrev pub joined : Bool → List (List ℕ) → List ℕ
@@ -35,7 +35,7 @@ joined later (text ∷ texts) = comma_if later ++ (text ++ joined true texts)
 
 -- the text of the rest, by the bodies as they were written
 unfoldable pub text_of : List Record → Rest → List (Option (List ℕ)) → List ℕ
-text_of rs rest bodies = codes "{\"requests\":[" ++ (joined false (select (is_kept rs (kept rest)) (text_of_request rs (kept rest) (urls rest) bodies) 0 rs) ++ codes "]}")
+text_of rs rest bodies = codes "{\"requests\":[" ++ (joined false (select (is_kept rs (kept rest)) (text_of_request rs (kept rest) (changes rest) bodies) 0 rs) ++ codes "]}")
 
 -- the bytes of the spans
 abbrev pub bodies_in : List ℕ → List (Option Span) → List (Option (List ℕ))

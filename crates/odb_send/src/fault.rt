@@ -12,6 +12,10 @@ pub enum RestRule {
     /// that one which makes a URL for the rest.
     #[error("no `Location` is recorded for the request that its URL refers to")]
     NoLocation,
+    /// F91: the request is in the rest, its `If-Match` or `If-None-Match` is `$` and the id of an earlier request that is
+    /// not, and no ETag is recorded for that one.
+    #[error("no `ETag` is recorded for the request that its condition refers to")]
+    NoETag,
 }
 
 /// Why the rest of a batch cannot be made: the request at a position breaks a rule.
@@ -23,6 +27,7 @@ impl Rule for RestRule {
     fn refusal(self, at: usize) -> Refusal {
         match self {
             RestRule::NoLocation => Refusal::new(("F90", "NoLocation"), Place::Request(at)),
+            RestRule::NoETag => Refusal::new(("F91", "NoETag"), Place::Request(at)),
         }
     }
 }

@@ -16,6 +16,7 @@ ghost use Rattle.odb_reply.specs.Fits.{Fits, IsTableOf};
 ghost use Rattle.odb_reply.specs.ResponseDocuments.{Entry};
 ghost use Rattle.odb_sched.specs.declared.states.RequestState.{RequestState};
 ghost use Rattle.odb_send.specs.declared.rest.Rest.{Rest};
+ghost use Rattle.odb_send.specs.Answers.{Answer};
 ghost use Rattle.odb_send.specs.Faults.{RefusesRest, RestFault, rest_row};
 ghost use Rattle.odb_send.specs.Laws.{HasSucceeded, IsPartOfPlan, MayBeSent, with_rest};
 ghost use Rattle.odb_send.specs.NextPart.{HasNoLonger, HasSome, IsFresh, IsNextPart, IsPartAfter, IsPartOf, MayGo, NeedsMet};
@@ -29,18 +30,18 @@ ghost use Rattle.odb_send.specs.Parts.{IsBatchIn};
 /// in the rest. A unit in the rest needs nothing that is left out. If all requests of the batch have succeeded, the
 /// rest has no request.
 pub fn every_rest()
-    ensures accepted { (batch : List Record) (statuses : List ℕ) (locations : ℕ → Option (List ℕ))
-        (rest : Rest) → HasGoodNames batch → IsRestOf batch statuses locations rest
+    ensures accepted { (batch : List Record) (statuses : List ℕ) (answers : ℕ → Answer)
+        (rest : Rest) → HasGoodNames batch → IsRestOf batch statuses answers rest
         → HasGoodNames (records_in batch rest) }
-    ensures plan { (batch : List Record) (statuses : List ℕ) (locations : ℕ → Option (List ℕ))
-        (rest : Rest) → HasGoodNames batch → IsRestOf batch statuses locations rest
+    ensures plan { (batch : List Record) (statuses : List ℕ) (answers : ℕ → Answer)
+        (rest : Rest) → HasGoodNames batch → IsRestOf batch statuses answers rest
         → IsPartOfPlan batch (kept rest) (records_in batch rest) }
-    ensures nothing { (batch : List Record) (statuses : List ℕ) (locations : ℕ → Option (List ℕ))
-        (rest : Rest) → IsRestOf batch statuses locations rest → HasSucceeded batch statuses
+    ensures nothing { (batch : List Record) (statuses : List ℕ) (answers : ℕ → Answer)
+        (rest : Rest) → IsRestOf batch statuses answers rest → HasSucceeded batch statuses
         → records_in batch rest ≡ [] }
     ensures may_be_sent { (batch : List Record) (statuses : List ℕ)
-        (locations : ℕ → Option (List ℕ)) (rest : Rest) → HasGoodNames batch
-        → IsRestOf batch statuses locations rest
+        (answers : ℕ → Answer) (rest : Rest) → HasGoodNames batch
+        → IsRestOf batch statuses answers rest
         → (u : ℕ) → IsInRest batch statuses u → MayBeSent batch statuses u }
 {}
 
@@ -60,8 +61,8 @@ pub fn every_unit()
 /// section 19.5).
 pub fn every_resending()
     ensures { (batch : List Record) (responses others : List Entry) (places statuses : List ℕ)
-        (locations : ℕ → Option (List ℕ)) (rest : Rest) → HasGoodNames batch → Fits batch responses
-        → IsTableOf batch responses places statuses → IsRestOf batch statuses locations rest
+        (answers : ℕ → Answer) (rest : Rest) → HasGoodNames batch → Fits batch responses
+        → IsTableOf batch responses places statuses → IsRestOf batch statuses answers rest
         → Fits (records_in batch rest) others → Fits batch (with_rest responses others) }
 {}
 
@@ -79,8 +80,8 @@ pub fn every_text()
         → IsBatchIn document d batch → IsTextOf document d batch rest text
         → read (text ++ codes "\n") ≡ Some (canonical_value (records_in batch rest)) }
     ensures document { (document : List ℕ) (d : Data) (batch : List Record) (statuses : List ℕ)
-        (locations : ℕ → Option (List ℕ)) (rest : Rest) (text : List ℕ)
-        → IsBatchIn document d batch → IsWellShaped d → IsRestOf batch statuses locations rest
+        (answers : ℕ → Answer) (rest : Rest) (text : List ℕ)
+        → IsBatchIn document d batch → IsWellShaped d → IsRestOf batch statuses answers rest
         → IsTextOf document d batch rest text → IsDocumentOf text (records_in batch rest) }
 {
     odb_names::laws::one_reading();
@@ -89,15 +90,15 @@ pub fn every_text()
 /// A rest and its text are determined, the text by the bytes of the batch's document too: so are the faults by which there is none.
 pub fn one_rest()
     ensures text { (document : List ℕ) (d : Data) (batch : List Record) (statuses : List ℕ)
-        (locations : ℕ → Option (List ℕ)) (rest other : Rest) (text different : List ℕ) → IsJson document d
-        → IsRestOf batch statuses locations rest → IsRestOf batch statuses locations other
+        (answers : ℕ → Answer) (rest other : Rest) (text different : List ℕ) → IsJson document d
+        → IsRestOf batch statuses answers rest → IsRestOf batch statuses answers other
         → IsTextOf document d batch rest text → IsTextOf document d batch other different → text ≡ different }
-    ensures fault { (batch : List Record) (units : List Bool) (locations : ℕ → Option (List ℕ))
+    ensures fault { (batch : List Record) (units : List Bool) (answers : ℕ → Answer)
         (fault other : RestFault) → IsSome (rest_row fault) → IsSome (rest_row other)
-        → RefusesRest fault batch units locations → RefusesRest other batch units locations → fault ≡ other }
-    ensures none { (batch : List Record) (statuses : List ℕ) (locations : ℕ → Option (List ℕ)) (rest : Rest)
-        (fault : RestFault) → IsSome (rest_row fault) → RefusesRest fault batch (kept rest) locations
-        → ¬ IsRestOf batch statuses locations rest }
+        → RefusesRest fault batch units answers → RefusesRest other batch units answers → fault ≡ other }
+    ensures none { (batch : List Record) (statuses : List ℕ) (answers : ℕ → Answer) (rest : Rest)
+        (fault : RestFault) → IsSome (rest_row fault) → RefusesRest fault batch (kept rest) answers
+        → ¬ IsRestOf batch statuses answers rest }
 {
     odb_spans::laws::one_place();
 }
@@ -111,36 +112,36 @@ pub fn one_rest()
 /// requests, and its text is a document of them. The rest of a batch is the part of all that is in it.
 pub fn every_part()
     ensures one { (batch : List Record) (states : List RequestState) (limit : ℕ)
-        (locations : ℕ → Option (List ℕ)) (part other : Rest) → IsPartAfter batch states limit locations part
-        → IsPartAfter batch states limit locations other → kept part ≡ kept other }
+        (answers : ℕ → Answer) (part other : Rest) → IsPartAfter batch states limit answers part
+        → IsPartAfter batch states limit answers other → kept part ≡ kept other }
     ensures fresh { (batch : List Record) (states : List RequestState) (limit : ℕ)
-        (locations : ℕ → Option (List ℕ)) (part : Rest) → IsPartAfter batch states limit locations part
+        (answers : ℕ → Answer) (part : Rest) → IsPartAfter batch states limit answers part
         → IsFresh batch states (kept part) }
     ensures needs { (batch : List Record) (states : List RequestState) (limit : ℕ)
-        (locations : ℕ → Option (List ℕ)) (part : Rest) → HasGoodNames batch
-        → IsPartAfter batch states limit locations part → NeedsMet batch states (kept part) }
+        (answers : ℕ → Answer) (part : Rest) → HasGoodNames batch
+        → IsPartAfter batch states limit answers part → NeedsMet batch states (kept part) }
     ensures limit { (batch : List Record) (states : List RequestState) (limit : ℕ)
-        (locations : ℕ → Option (List ℕ)) (part : Rest) → IsPartAfter batch states limit locations part
+        (answers : ℕ → Answer) (part : Rest) → IsPartAfter batch states limit answers part
         → length (records_in batch part) ≤ limit }
     ensures some { (batch : List Record) (done left : List Bool) (limit : ℕ)
-        (locations : ℕ → Option (List ℕ)) (part : List Bool)
-        → IsNextPart batch done left limit locations part → HasNoLonger batch limit
+        (answers : ℕ → Answer) (part : List Bool)
+        → IsNextPart batch done left limit answers part → HasNoLonger batch limit
         → (u : ℕ) → MayGo batch done left u → HasSome batch part }
     ensures accepted { (batch : List Record) (states : List RequestState) (limit : ℕ)
-        (locations : ℕ → Option (List ℕ)) (part : Rest) → HasGoodNames batch
-        → IsPartAfter batch states limit locations part → HasGoodNames (records_in batch part) }
+        (answers : ℕ → Answer) (part : Rest) → HasGoodNames batch
+        → IsPartAfter batch states limit answers part → HasGoodNames (records_in batch part) }
     ensures plan { (batch : List Record) (states : List RequestState) (limit : ℕ)
-        (locations : ℕ → Option (List ℕ)) (part : Rest) → HasGoodNames batch
-        → IsPartAfter batch states limit locations part
+        (answers : ℕ → Answer) (part : Rest) → HasGoodNames batch
+        → IsPartAfter batch states limit answers part
         → IsPartOfPlan batch (kept part) (records_in batch part) }
     ensures document { (document : List ℕ) (d : Data) (batch : List Record) (states : List RequestState)
-        (limit : ℕ) (locations : ℕ → Option (List ℕ)) (part : Rest) (text : List ℕ)
-        → IsBatchIn document d batch → IsWellShaped d → IsPartAfter batch states limit locations part
+        (limit : ℕ) (answers : ℕ → Answer) (part : Rest) (text : List ℕ)
+        → IsBatchIn document d batch → IsWellShaped d → IsPartAfter batch states limit answers part
         → IsTextOf document d batch part text → IsDocumentOf text (records_in batch part) }
-    ensures rest { (batch : List Record) (statuses : List ℕ) (locations : ℕ → Option (List ℕ))
+    ensures rest { (batch : List Record) (statuses : List ℕ) (answers : ℕ → Answer)
         (done : List Bool) (rest : Rest) → HasGoodNames batch
-        → AreMarksOf batch (IsDone batch statuses) done → IsRestOf batch statuses locations rest
-        → IsPartOf batch done (kept rest) (length batch) locations rest }
+        → AreMarksOf batch (IsDone batch statuses) done → IsRestOf batch statuses answers rest
+        → IsPartOf batch done (kept rest) (length batch) answers rest }
 {
     odb_names::laws::one_reading();
 }

@@ -12,9 +12,11 @@
 //! is in [`laws`].
 #![tactic(auto)]
 
+mod answers;
+mod changes;
 mod fault;
+mod headers;
 pub mod laws;
-mod locations;
 mod names;
 mod next_part;
 mod parts;
@@ -28,8 +30,8 @@ mod text;
 mod units;
 mod urls;
 
+pub use answers::Recorded;
 pub use fault::{RestFault, RestRule};
-pub use locations::location_in;
 pub use next_part::{fits_limit, part_of, positions_of};
 pub use parts::RequestParts;
 pub use requests::{Requests, requests_of};

@@ -6,18 +6,17 @@ ghost use Rattle.odb_check.specs.Firsts.{list_below};
 ghost use Rattle.odb_check.specs.Plans.{plan_records};
 ghost use Rattle.odb_check.specs.Units as all;
 ghost use Rattle.odb_doc.specs.declared.rule_fault.RuleFault.TheVariants as faults;
-ghost use Rattle.odb_reply.specs.BodyTexts.{text_at};
-ghost use Rattle.odb_send.specs.declared.fault.RestRule.TheVariants.{NoLocation};
+ghost use Rattle.odb_send.specs.Answers.{answers_in};
 ghost use Rattle.odb_send.specs.Faults.{RefusesRest};
-ghost use Rattle.odb_send.specs.Locations.{texts_of};
 ghost use Rattle.odb_send.specs.Marks.{IsCutPart, marked_before, waits_at};
 ghost use Rattle.odb_send.specs.NextPart as parts;
 ghost use Rattle.odb_send.specs.Rests.{kept};
 ghost use Rattle.odb_send.specs.Units.{AreMarksOf};
 
+use crate::answers::Recorded;
 use crate::fault::{RestFault, RestRule};
 use crate::progress::{starting_units, succeeded_units};
-use crate::rest::{Rest, urls_of};
+use crate::rest::{Rest, changes_of};
 use crate::units::needs_marked;
 use crate::urls::is_kept;
 use odb_check::Plan;
@@ -117,60 +116,57 @@ fn has_unit(units: &[bool]) -> bool
     units.iter().any(|mark| *mark)
 }
 
-/// Returns the part of the units that fit before that of request `at`, the first that lacks a Location; F90 if there are none.
+/// Returns the part of the units that fit before that of request `at`, the first that breaks a rule; that fault if there are
+/// none.
 fn part_before(
     alloc: Global,
     plan: &Plan<'_>,
     fitting: &[bool],
-    locations: &[Option<&str>],
+    answers: &[Recorded<'_>],
     at: usize,
+    rule: RestRule,
 ) -> Result<Rest, RestFault>
     requires count { length fitting.now ≡ all.unit_count (plan_records plan.now) }
-    requires locations { length locations.now ≡ length (plan_records plan.now) }
-    requires lacks { RefusesRest (faults.Broken at NoLocation) (plan_records plan.now) fitting.now
-        (text_at (texts_of locations.now)) }
+    requires answers { length answers.now ≡ length (plan_records plan.now) }
+    requires breaks { RefusesRest (faults.Broken at rule) (plan_records plan.now) fitting.now
+        (answers_in answers.now) }
     ensures part { IfOk result (IsCutPart (plan_records plan.now) fitting.now
-        (text_at (texts_of locations.now))) }
+        (answers_in answers.now)) }
     ensures least { IfErr result (λ fault. parts.RefusesPart fault (plan_records plan.now) fitting.now
-        (text_at (texts_of locations.now))) }
+        (answers_in answers.now)) }
 {
     odb_check::laws::every_plan(plan);
     let kept = units_before(alloc, fitting, plan.unit_of(at as u32) as usize)?;
     if !has_unit(&kept) {
-        return Err(RestFault::Broken {
-            at,
-            rule: RestRule::NoLocation,
-        });
+        return Err(RestFault::Broken { at, rule });
     }
-    let urls = urls_of(alloc, plan, &kept, locations)?;
-    Ok(Rest { kept, urls })
+    let changes = changes_of(alloc, plan, &kept, answers)?;
+    Ok(Rest { kept, changes })
 }
 
-/// Returns the part of the units that fit, up to the first that lacks a Location; F90 if that is the first of all.
+/// Returns the part of the units that fit, up to the first that lacks a Location or an ETag; F90 or F91 if that is the first
+/// of all.
 fn placed_part(
     alloc: Global,
     plan: &Plan<'_>,
     fitting: Vec<bool>,
-    locations: &[Option<&str>],
+    answers: &[Recorded<'_>],
 ) -> Result<Rest, RestFault>
     requires count { length fitting.items ≡ all.unit_count (plan_records plan.now) }
-    requires locations { length locations.now ≡ length (plan_records plan.now) }
+    requires answers { length answers.now ≡ length (plan_records plan.now) }
     ensures part { IfOk result (IsCutPart (plan_records plan.now) fitting.items
-        (text_at (texts_of locations.now))) }
+        (answers_in answers.now)) }
     ensures least { IfErr result (λ fault. parts.RefusesPart fault (plan_records plan.now) fitting.items
-        (text_at (texts_of locations.now))) }
+        (answers_in answers.now)) }
 {
-    match urls_of(alloc, plan, &fitting, locations) {
-        Ok(urls) => Ok(Rest {
+    match changes_of(alloc, plan, &fitting, answers) {
+        Ok(changes) => Ok(Rest {
             kept: fitting,
-            urls,
+            changes,
         }),
-        Err(
-            RestFault::Broken {
-                at,
-                rule: RestRule::NoLocation,
-            },
-        ) => part_before(alloc, plan, &fitting, locations, at),
+        Err(RestFault::Broken { at, rule }) => part_before(
+            alloc, plan, &fitting, answers, at, rule,
+        ),
         Err(RestFault::OutOfMemory) => Err(RestFault::OutOfMemory),
     }
 }
@@ -182,61 +178,65 @@ fn part_by(
     done: &[bool],
     left: &[bool],
     limit: u32,
-    locations: &[Option<&str>],
+    answers: &[Recorded<'_>],
 ) -> Result<Rest, RestFault>
     requires done { length done.now ≡ all.unit_count (plan_records plan.now) }
     requires left { length left.now ≡ all.unit_count (plan_records plan.now) }
-    requires locations { length locations.now ≡ length (plan_records plan.now) }
+    requires answers { length answers.now ≡ length (plan_records plan.now) }
     ensures part { IfOk result (parts.IsPartOf (plan_records plan.now) done.now left.now limit
-        (text_at (texts_of locations.now))) }
+        (answers_in answers.now)) }
     ensures least { IfErr result (λ fault. (fitting : List Bool)
         → parts.AreFitting (plan_records plan.now) done.now left.now limit fitting
-        → parts.RefusesPart fault (plan_records plan.now) fitting (text_at (texts_of locations.now))) }
+        → parts.RefusesPart fault (plan_records plan.now) fitting (answers_in answers.now)) }
 {
     let fitting = fitting_units(alloc, plan, done, left, limit)?;
-    placed_part(alloc, plan, fitting, locations)
+    placed_part(alloc, plan, fitting, answers)
 }
 
 /// Returns the next part of a batch on its way: requests that may be sent together as a batch of their own (OData JSON
 /// Format 4.01, sections 19.1 and 19.4), `limit` of them at most. [`crate::rest_text`] makes their text.
 ///
-/// `states` has what has become of each request, as [`odb_sched::OwnedRun::state`] returns it, and `locations` the
-/// Location of each, if it is known. A unit is an atomicity group or a request without one. It is done if all its
+/// `states` has what has become of each request, as [`odb_sched::OwnedRun::state`] returns it, and `answers` the Location and
+/// the ETag of each that has succeeded, if they are known. A unit is an atomicity group or a request without one. It is done if all its
 /// requests have succeeded, and left if each of them may still start. It has to wait if it is neither, or if one of its
 /// requests needs something of a unit that has to wait. The part has the units that are left and need not wait, in the
-/// order of the batch, up to the first that does not fit any more or lacks a Location. So what its requests need is done,
-/// or in the part.
+/// order of the batch, up to the first that does not fit any more, or lacks a Location or an ETag. So what its requests need is
+/// done, or in the part.
 ///
 /// A URL that refers to a request that is not in the part becomes the Location of that request, and what follows the
 /// first segment of the URL. A unit lacks a Location if one of its requests has such a URL, and no Location makes a URL of
 /// it that refers to no request and names no batch.
 ///
-/// Takes O(requests + dependencies) and the length of the URLs that change. Allocates marks of units and requests, and
-/// these URLs.
+/// An `If-Match` or `If-None-Match` that is `$` and the id of an earlier request that is not in the part becomes the ETag of that
+/// request (section 19.3). A unit lacks an ETag if one of its requests has such a header, and no ETag is known.
+///
+/// Takes O(requests + dependencies) and the length of the URLs and conditions that change. Allocates marks of units and
+/// requests, and these texts.
 ///
 /// # Errors
 ///
-/// F90 if the first unit that may be sent lacks a Location, at its first request that does. `OutOfMemory` if an allocation
-/// fails.
+/// If the first unit that may be sent lacks a Location or an ETag, at its first request that does: F90 for a Location, else F91.
+/// `OutOfMemory` if an allocation fails.
 pub fn part_of(
     alloc: Global,
     plan: &Plan<'_>,
     states: &[RequestState],
     limit: u32,
-    locations: &[Option<&str>],
+    answers: &[Recorded<'_>],
 ) -> Result<Rest, RestFault>
     requires states { length states.now ≡ length (plan_records plan.now) }
-    requires locations { length locations.now ≡ length (plan_records plan.now) }
+    requires answers { length answers.now ≡ length (plan_records plan.now) }
     ensures part { IfOk result (parts.IsPartAfter (plan_records plan.now) states.now limit
-        (text_at (texts_of locations.now))) }
+        (answers_in answers.now)) }
     ensures least { IfErr result (λ fault. (done left fitting : List Bool)
         → parts.HasProgress (plan_records plan.now) states.now done left
         → parts.AreFitting (plan_records plan.now) done left limit fitting
-        → parts.RefusesPart fault (plan_records plan.now) fitting (text_at (texts_of locations.now))) }
+        → parts.RefusesPart fault (plan_records plan.now) fitting
+        (answers_in answers.now)) }
 {
     let done = succeeded_units(alloc, plan, states)?;
     let left = starting_units(alloc, plan, states)?;
-    part_by(alloc, plan, &done, &left, limit, locations)
+    part_by(alloc, plan, &done, &left, limit, answers)
 }
 
 /// Returns whether no unit has more requests than a part may have: then each fits into one.

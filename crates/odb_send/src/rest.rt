@@ -1,32 +1,31 @@
 //! The rest of a batch.
 
-ghost use Rattle.std.specs.Prelude.{◌≡◌, ◌<◌, ℕ, List, Bool, length, IsSome, IfOk, IfErr};
+ghost use Rattle.std.specs.Prelude.{◌≡◌, ◌<◌, ℕ, List, Bool, length, map, IsSome, IfOk, IfErr};
 ghost use Rattle.serde_json.specs.View.{view};
 ghost use Rattle.odb_check.specs.Plans.{plan_records};
 ghost use Rattle.odb_check.specs.Units as all;
 ghost use Rattle.odb_reply.specs.Fits as fits;
-ghost use Rattle.odb_reply.specs.BodyTexts.{text_at};
 ghost use Rattle.odb_send.specs.Faults.{RefusesRest, rest_row};
-ghost use Rattle.odb_send.specs.Locations.{recorded, texts_of};
-ghost use Rattle.odb_send.specs.Marks.{AreUrls};
-ghost use Rattle.odb_send.specs.Rests as rests;
-ghost use Rattle.odb_send.specs.Rests.{IsRestOf, url_texts};
+ghost use Rattle.odb_send.specs.Answers.{answers_in, recorded};
+ghost use Rattle.odb_send.specs.Marks.{AreChanges};
+ghost use Rattle.odb_send.specs.Rests.{IsRestOf, change_of};
 ghost use Rattle.odb_send.specs.Units.{AreMarksOf, IsInRest};
 
+use crate::answers::{Recorded, answers_of};
+use crate::changes::{Change, change_of};
 use crate::fault::RestFault;
-use crate::locations::locations_of;
 use crate::units::kept_units;
-use crate::urls::{is_kept, url_of};
+use crate::urls::is_kept;
 use odb_check::Plan;
 use odb_reply::Table;
 use serde_json::Value;
 use std::alloc::Global;
 
-/// What of a batch may be sent again, as a batch of its own: which units, and the URLs that change.
+/// What of a batch may be sent again, as a batch of its own: which units, and what changes of their requests.
 #[derive(Drop)]
 pub struct Rest {
     pub(crate) kept: Vec<bool>,
-    pub(crate) urls: Vec<Option<String>>,
+    pub(crate) changes: Vec<Change>,
 }
 
 impl Rest {
@@ -42,24 +41,24 @@ impl Rest {
     }
 }
 
-/// Returns the URL that each request gets in the rest, or the first F90.
-pub(crate) fn urls_of(
+/// Returns what changes of each request in the rest, or the first F90 or F91.
+pub(crate) fn changes_of(
     alloc: Global,
     plan: &Plan<'_>,
     kept: &[bool],
-    locations: &[Option<&str>],
-) -> Result<Vec<Option<String>>, RestFault>
+    answers: &[Recorded<'_>],
+) -> Result<Vec<Change>, RestFault>
     requires count { length kept.now ≡ all.unit_count (plan_records plan.now) }
-    requires locations { length locations.now ≡ length (plan_records plan.now) }
-    ensures urls { IfOk result (λ found. AreUrls (plan_records plan.now) kept.now
-        (text_at (texts_of locations.now)) (length (plan_records plan.now)) (url_texts found.items)) }
+    requires answers { length answers.now ≡ length (plan_records plan.now) }
+    ensures changes { IfOk result (λ found. AreChanges (plan_records plan.now) kept.now
+        (answers_in answers.now) (length (plan_records plan.now)) (map change_of found.items)) }
     ensures first { IfErr result (λ fault. RefusesRest fault (plan_records plan.now) kept.now
-        (text_at (texts_of locations.now))) }
+        (answers_in answers.now)) }
 {
     let mut found = Vec::with_capacity(alloc, plan.len() as usize)?;
     for i in 0..plan.len() {
-        let url = url_of(alloc, plan, kept, locations, i)?;
-        found.push(url)?;
+        let change = change_of(alloc, plan, kept, answers, i)?;
+        found.push(change)?;
     }
     Ok(found)
 }
@@ -73,14 +72,17 @@ pub(crate) fn urls_of(
 /// left out if one of its requests may not be sent again, or needs something of a unit that is left out.
 ///
 /// A URL that refers to a request that is not in the rest becomes the `Location` that was recorded for that
-/// request, and what follows the first segment of the URL.
+/// request, and what follows the first segment of the URL (section 19.2). An `If-Match` or `If-None-Match` that is `$` and
+/// the id of an earlier request that is not in the rest becomes the `ETag` that was recorded for that request, if it has
+/// succeeded (section 19.3).
 ///
-/// Allocates the marks of the units and the URLs that change. Takes O(n) for documents of n bytes.
+/// Allocates the marks of the units, and the URLs and conditions that change. Takes O(n) for documents of n bytes.
 ///
 /// # Errors
 ///
-/// F90 at the first request of the rest whose URL refers to a request that is not in the rest, if no Location
-/// makes a URL of it that refers to no request and names no batch. `OutOfMemory` if an allocation fails.
+/// At the first request of the rest that has no such text: F90 if its URL refers to a request that is not in the rest, and
+/// no Location makes a URL of it that refers to no request and names no batch; else F91 if a condition refers to a
+/// request for which no ETag was recorded. `OutOfMemory` if an allocation fails.
 pub fn rest_of(
     alloc: Global,
     plan: &Plan<'_>,
@@ -90,17 +92,17 @@ pub fn rest_of(
     requires places { length (fits.places table.now) ≡ length (plan_records plan.now) }
     requires statuses { length (fits.statuses table.now) ≡ length (plan_records plan.now) }
     ensures rest { IfOk result (IsRestOf (plan_records plan.now) (fits.statuses table.now)
-        (recorded (view responses.now) (fits.places table.now))) }
+        (recorded (view responses.now) (fits.places table.now) (fits.statuses table.now))) }
     ensures least { IfErr result (λ fault. (units : List Bool) → AreMarksOf (plan_records plan.now)
         (IsInRest (plan_records plan.now) (fits.statuses table.now)) units
         → RefusesRest fault (plan_records plan.now) units
-        (recorded (view responses.now) (fits.places table.now))) }
+        (recorded (view responses.now) (fits.places table.now) (fits.statuses table.now))) }
     ensures marks { IfErr result (λ fault. IsSome (rest_row fault) → (units : List Bool)
         × AreMarksOf (plan_records plan.now)
         (IsInRest (plan_records plan.now) (fits.statuses table.now)) units) }
 {
     let kept = kept_units(alloc, plan, table)?;
-    let locations = locations_of(alloc, plan, table, responses)?;
-    let urls = urls_of(alloc, plan, &kept, &locations)?;
-    Ok(Rest { kept, urls })
+    let answers = answers_of(alloc, plan, table, responses)?;
+    let changes = changes_of(alloc, plan, &kept, &answers)?;
+    Ok(Rest { kept, changes })
 }

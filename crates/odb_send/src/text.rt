@@ -6,13 +6,14 @@ ghost use Rattle.serde_json.specs.Written.{comma_if};
 ghost use Rattle.odb_check.specs.Plans.{plan_records};
 ghost use Rattle.odb_check.specs.Units as all;
 ghost use Rattle.odb_doc.specs.batch.Records.{Record, record_of};
-ghost use Rattle.odb_reply.specs.BodyTexts.{text_at};
 ghost use Rattle.odb_send.specs.Marks.{AreTexts, IsTextIn, texts_left, url_in};
 ghost use Rattle.odb_send.specs.Rests as rests;
 ghost use Rattle.odb_send.specs.Texts as texts;
 ghost use Rattle.odb_send.specs.Parts.{IsBatchIn};
 ghost use Rattle.odb_spans.specs.Spans.{bytes_of};
 
+use crate::changes::Change;
+use crate::headers::push_headers;
 use crate::names::push_kept_names;
 use crate::rest::Rest;
 use crate::urls::is_kept;
@@ -39,12 +40,11 @@ fn push_body(text: &mut String, document: &[u8], body: Option<Span>) -> Result<(
     text.push_str(",")
 }
 
-/// Returns the URL of request `i` in the rest.
-fn url_in<'a>(rest: &'a Rest, request: &'a Request<'_>, i: u32) -> &'a str
-    requires { i < length (rests.urls rest.now) }
-    ensures { result.now ≡ url_in (text_at (rests.urls rest.now) i) (record_of request.now) }
+/// Returns the URL of a request in the rest.
+fn url_in<'a>(change: &'a Change, request: &'a Request<'_>) -> &'a str
+    ensures { result.now ≡ url_in (rests.change_of change.now).url (record_of request.now) }
 {
-    match &rest.urls[i as usize] {
+    match &change.url {
         Some(url) => url.as_str(),
         None => request.url,
     }
@@ -63,25 +63,26 @@ fn push_request(
 ) -> Result<(), AllocError>
     requires request { i < length (plan_records plan.now) }
     requires count { length (rests.kept rest.now) ≡ all.unit_count (plan_records plan.now) }
-    requires urls { length (rests.urls rest.now) ≡ length (plan_records plan.now) }
+    requires changes { length (rests.changes rest.now) ≡ length (plan_records plan.now) }
     requires body { IfSome body (IsTextIn document.now) }
     ensures { OnOk result ((r : Record) → slice_get (plan_records plan.now) i ≡ Some r
         → string_bytes text.new ≡ string_bytes text.old ++ (comma_if later
         ++ texts.request_text (rests.rest_record (plan_records plan.now) (rests.kept rest.now)
-        (text_at (rests.urls rest.now) i) r) (option_map (bytes_of document.now) body))) }
+        (rests.change_at (rests.changes rest.now) i) r) (option_map (bytes_of document.now) body))) }
 {
     let request = plan.request(i);
+    let change = &rest.changes[i as usize];
     push_open(text, later)?;
     push_group(alloc, text, request.group)?;
     push_body(text, document, body)?;
     push_kept_names(alloc, text, plan, &rest.kept, i)?;
-    request.push_headers_member(alloc, text)?;
+    push_headers(alloc, text, request, change)?;
     push_request_end(
         alloc,
         text,
         request.id,
         request.method,
-        url_in(rest, request, i),
+        url_in(change, request),
     )
 }
 
@@ -95,11 +96,11 @@ fn push_requests(
     bodies: &[Option<Span>],
 ) -> Result<(), AllocError>
     requires count { length (rests.kept rest.now) ≡ all.unit_count (plan_records plan.now) }
-    requires urls { length (rests.urls rest.now) ≡ length (plan_records plan.now) }
+    requires changes { length (rests.changes rest.now) ≡ length (plan_records plan.now) }
     requires bodies { length bodies.now ≡ length (plan_records plan.now) }
     requires texts { AreTexts document.now bodies.now }
     ensures { OnOk result (string_bytes text.new ≡ string_bytes text.old
-        ++ texts_left (plan_records plan.now) (rests.kept rest.now) (rests.urls rest.now)
+        ++ texts_left (plan_records plan.now) (rests.kept rest.now) (rests.changes rest.now)
         (texts.bodies_in document.now bodies.now) false 0) }
 {
     let mut later = false;
@@ -142,7 +143,7 @@ pub fn rest_text(
 ) -> Result<String, AllocError>
     requires document { (d : Data) × IsBatchIn document.now d (plan_records plan.now) }
     requires count { length (rests.kept rest.now) ≡ all.unit_count (plan_records plan.now) }
-    requires urls { length (rests.urls rest.now) ≡ length (plan_records plan.now) }
+    requires changes { length (rests.changes rest.now) ≡ length (plan_records plan.now) }
     ensures { IfOk result (λ text. (d : Data) → IsBatchIn document.now d (plan_records plan.now)
         → texts.IsTextOf document.now d (plan_records plan.now) rest.now (string_bytes text)) }
 {

@@ -1,8 +1,7 @@
 //! The URLs of requests whose URL refers to a request that is not in the rest.
 
 ghost use Rattle.std.specs.Prelude.{◌≡◌, ◌≢◌, ◌<◌, ◌↔◌, ℕ, [], length, Err, IsTrue, IfOk, IfErr, MatchOption, None, option_map, string_bytes};
-ghost use Rattle.odb_reply.specs.BodyTexts.{text_at};
-ghost use Rattle.odb_send.specs.Locations.{texts_of};
+ghost use Rattle.odb_send.specs.Answers.{answers_in};
 ghost use Rattle.odb_send.specs.Marks.{IsLacking};
 ghost use Rattle.odb_doc.specs.declared.rule_fault.RuleFault.TheVariants as faults;
 ghost use Rattle.odb_send.specs.declared.fault.RestRule.TheVariants.{NoLocation};
@@ -10,6 +9,7 @@ ghost use Rattle.odb_check.specs.Plans.{plan_records};
 ghost use Rattle.odb_check.specs.Units as all;
 ghost use Rattle.odb_send.specs.Rests as rests;
 
+use crate::answers::Recorded;
 use crate::fault::{RestFault, RestRule};
 use odb_check::Plan;
 use odb_names::{Front, after_first_segment, front, is_nested_batch};
@@ -80,23 +80,23 @@ pub(crate) fn url_of(
     alloc: Global,
     plan: &Plan<'_>,
     kept: &[bool],
-    locations: &[Option<&str>],
+    answers: &[Recorded<'_>],
     i: u32,
 ) -> Result<Option<String>, RestFault>
     requires request { i < length (plan_records plan.now) }
     requires count { length kept.now ≡ all.unit_count (plan_records plan.now) }
-    requires locations { length locations.now ≡ length (plan_records plan.now) }
+    requires answers { length answers.now ≡ length (plan_records plan.now) }
     ensures url { IfOk result (λ url. rests.IsUrl (plan_records plan.now) kept.now
-        (text_at (texts_of locations.now)) i (option_map string_bytes url)) }
+        (answers_in answers.now) i (option_map string_bytes url)) }
     ensures lacks { IfErr result (IsLacking (plan_records plan.now) kept.now
-        (text_at (texts_of locations.now)) i) }
+        (answers_in answers.now) i) }
     ensures missing { (p : ℕ) → rests.Leaves (plan_records plan.now) kept.now i p
-        → text_at (texts_of locations.now) p ≡ None → result ≡ Err (faults.Broken i NoLocation) }
+        → (answers_in answers.now p).location ≡ None → result ≡ Err (faults.Broken i NoLocation) }
 {
     let Some(p) = left_position(plan, kept, i) else {
         return Ok(None);
     };
-    let Some(location) = locations[p as usize] else {
+    let Some(location) = answers[p as usize].location else {
         return Err(RestFault::Broken {
             at: i as usize,
             rule: RestRule::NoLocation,

@@ -9,7 +9,7 @@ use std::alloc::Global;
 use std::rt::HostRuntime;
 use std::test::Fail;
 
-/// A batch, the responses to it, and its rest; no rest if no Location makes a URL.
+/// A batch, the responses to it, and its rest; no rest if a request of it lacks a Location or an ETag.
 type Row = (&'static str, &'static str, Option<&'static str>);
 
 const ROWS: &[Row] = &[
@@ -45,6 +45,36 @@ const ROWS: &[Row] = &[
         Some(
             r#"{"requests":[{"atomicityGroup":"g","body":{},"id":"a","method":"post","url":"A"},{"atomicityGroup":"g","dependsOn":["a"],"id":"b","method":"delete","url":"$a"},{"dependsOn":["g"],"id":"c","method":"get","url":"C"}]}"#,
         ),
+    ),
+    // A condition that refers to what was done gets its ETag. One that refers within the rest stays, as other values do.
+    (
+        r#"{"requests":[{"id":"a","method":"post","url":"A"},
+            {"id":"b","method":"patch","url":"B","dependsOn":["a"],"headers":{"If-Match":"$a","If-None-Match":"$x","X-A":"$a"}},
+            {"id":"c","method":"get","url":"$b","dependsOn":["b"],"headers":{"if-none-match":"$b"}}]}"#,
+        r#"{"responses":[{"id":"a","status":200,"headers":{"Etag":"W/\"1\"","etag":"2"}},{"id":"b","status":503},{"id":"c","status":424}]}"#,
+        Some(
+            r#"{"requests":[{"headers":{"if-match":"W/\"1\"","if-none-match":"$x","x-a":"$a"},"id":"b","method":"patch","url":"B"},{"dependsOn":["b"],"headers":{"if-none-match":"$b"},"id":"c","method":"get","url":"$b"}]}"#,
+        ),
+    ),
+    // One that refers to a later request stays.
+    (
+        r#"{"requests":[{"id":"b","method":"get","url":"B","headers":{"if-match":"$a"}},{"id":"a","method":"get","url":"A"}]}"#,
+        r#"{"responses":[{"id":"a","status":200,"headers":{"ETag":"1"}},{"id":"b","status":503}]}"#,
+        Some(
+            r#"{"requests":[{"headers":{"if-match":"$a"},"id":"b","method":"get","url":"B"}]}"#,
+        ),
+    ),
+    // What has failed has no ETag.
+    (
+        r#"{"requests":[{"id":"a","method":"get","url":"A"},{"id":"b","method":"get","url":"B","headers":{"if-match":"$a"}}]}"#,
+        r#"{"responses":[{"id":"a","status":404,"headers":{"ETag":"1"}},{"id":"b","status":503}]}"#,
+        None,
+    ),
+    // No ETag is recorded.
+    (
+        r#"{"requests":[{"id":"a","method":"get","url":"A"},{"id":"b","method":"get","url":"B","dependsOn":["a"],"headers":{"if-match":"$a"}}]}"#,
+        r#"{"responses":[{"id":"a","status":200,"headers":{"ETag":1}},{"id":"b","status":503}]}"#,
+        None,
     ),
     // No Location is recorded, or it makes no URL.
     (

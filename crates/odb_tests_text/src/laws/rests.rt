@@ -12,7 +12,7 @@ ghost use Rattle.odb_doc.specs.canonical.CanonicalLaws.{IsDocumentOf};
 ghost use Rattle.odb_reply.specs.Fits.{Fits, IsTableOf, places, statuses};
 ghost use Rattle.odb_reply.specs.ResponseDocuments.{entries};
 ghost use Rattle.odb_send.specs.Laws.{MayBeSent};
-ghost use Rattle.odb_send.specs.Locations.{recorded};
+ghost use Rattle.odb_send.specs.Answers.{recorded};
 ghost use Rattle.odb_send.specs.Rests.{IsRestOf};
 ghost use Rattle.odb_send.specs.Parts.{IsBatchIn};
 
@@ -21,7 +21,7 @@ use odb_doc::{Batch, DocFault, parse};
 use odb_reply::{Responses, Table};
 use odb_sched::RequestState;
 use odb_send::laws::{every_part, every_rest, every_text, every_unit};
-use odb_send::{Rest, part_of, rest_of, rest_text};
+use odb_send::{Recorded, Rest, part_of, rest_of, rest_text};
 use serde_json::Value;
 use std::alloc::Global;
 
@@ -38,7 +38,7 @@ fn is_sent(
     requires fits { Fits (plan_records plan.now) (entries responses.now) }
     requires table { IsTableOf (plan_records plan.now) (entries responses.now) (places table.now) (statuses table.now) }
     requires rest { IsRestOf (plan_records plan.now) (statuses table.now)
-        (recorded (view value.now) (places table.now)) rest.now }
+        (recorded (view value.now) (places table.now) (statuses table.now)) rest.now }
     ensures { IsTrue result ↔ MayBeSent (plan_records plan.now) (statuses table.now) (unit_at (plan_records plan.now) i) }
 {
     odb_check::laws::every_plan(plan);
@@ -126,18 +126,18 @@ fn refuses_part(
     plan: &Plan<'_>,
     states: &[RequestState],
     limit: u32,
-    locations: &[Option<&str>],
+    answers: &[Recorded<'_>],
 ) -> bool
     requires document { IsBatchIn document.now (view value.now) (plan_records plan.now) }
     requires shaped { IsWellShaped (view value.now) }
     requires states { length states.now ≡ length (plan_records plan.now) }
-    requires locations { length locations.now ≡ length (plan_records plan.now) }
+    requires answers { length answers.now ≡ length (plan_records plan.now) }
     ensures { result ≡ false }
 {
     odb_check::laws::every_plan(plan);
     every_part();
     let _value = value;
-    let Ok(part) = part_of(alloc, plan, states, limit, locations) else {
+    let Ok(part) = part_of(alloc, plan, states, limit, answers) else {
         return false;
     };
     let Ok(text) = rest_text(alloc, document, plan, &part) else {

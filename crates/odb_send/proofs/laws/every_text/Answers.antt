@@ -12,4 +12,4 @@ returns-clause-line c = rest-line
 pub returns-clause-document : goal.returns-clause-document
 returns-clause-document c =
     let texts : AreOneReading = record { front = c.one_reading.ensures.front; method = c.one_reading.ensures.method } in
-    λ document d rs statuses locations rest text batch shaped is has. text-document texts document d rs locations rest text batch shaped is.urls_are has
+    λ document d rs statuses answers rest text batch shaped is has. text-document texts document d rs answers rest text batch shaped is.changes_are has

@@ -2,7 +2,7 @@ use Rattle.std.proofs.Common.{◌≡◌, ◌∙◌, ◌++◌, ℕ, List, [], fal
 use Rattle.odb_check.specs.Plans.{plan_records}
 use Rattle.odb_doc.specs.batch.Shapes.{elements}
 use Rattle.odb_send.specs.Marks.{AreTexts, texts_left}
-use Rattle.odb_send.specs.Rests.{kept, urls}
+use Rattle.odb_send.specs.Rests.{kept, changes}
 use Rattle.odb_send.specs.Texts.{bodies_in}
 use Rattle.odb_send.proofs.TextLemmas.{as_many, bodies_texts, text_of-all}
 use Rattle.odb_send.proofs.text.rest_text.Goals as goal
@@ -35,5 +35,5 @@ returns c = λ d batch.
       spans = spans;
       bodies = c.in_ok-bodies.ensures.bodies d batch.json;
       places = c.in_ok-bodies.ensures.places d batch.json;
-      is = joined _ _ _ _ (codes "{\"requests\":[") (texts_left rs (kept rest) (urls rest) (bodies_in document spans) false 0) (codes "]}") c.new-text.ensures.bytes c.in_ok-push_str.ensures.bytes requests c.in_ok-push_str-2.ensures.bytes ∙ sym (text_of-all rs rest (bodies_in document spans));
+      is = joined _ _ _ _ (codes "{\"requests\":[") (texts_left rs (kept rest) (changes rest) (bodies_in document spans) false 0) (codes "]}") c.new-text.ensures.bytes c.in_ok-push_str.ensures.bytes requests c.in_ok-push_str-2.ensures.bytes ∙ sym (text_of-all rs rest (bodies_in document spans));
     }
