@@ -35,7 +35,7 @@ use Rattle.odb_send.proofs.MarkLemmas.{marked-kept, marked-set, not_marked}
 use Rattle.odb_send.proofs.PartLawLemmas.{fresh, needs_met_after, some_go}
 use Rattle.odb_engine.specs.declared.live.parts.Part.{Part}
 use Rattle.odb_engine.specs.Live.{Live}
-use Rattle.odb_engine.specs.LiveParts.{HasWholeUnits, IsIdle, IsPart, RestsOnPart, location, marks_after, seen, seen_at, states_of}
+use Rattle.odb_engine.specs.LiveParts.{HasWholeUnits, IsIdle, IsPart, RestsOnPart, answer, marks_after, seen, seen_at, states_of}
 
 -- one request more is marked
 pub marks-more : (out : List Bool) (positions : List ℕ) (i : ℕ) → marks_after out (positions ++ i ∷ []) ≡ set (marks_after out positions) i true
@@ -164,7 +164,7 @@ module _ (rs : List Record) (run : State) (out : List Bool) (count : size run �
     pub part-fresh : (i : ℕ) → Contains part.positions.items i → marked out i ≡ false
     part-fresh i has =
         let (within, stays) = in-rest i has in
-        let starts = fresh rs (states_of run out) limit (location run) is.rest is.part_is i within stays in
+        let starts = fresh rs (states_of run out) limit (answer run) is.rest is.part_is i within stays in
         seen-start (marked out i) (request_state run i) (ap may_start (sym (state-is i within)) ∙ starts)
 
     -- what it needs is in it, or has succeeded
@@ -172,7 +172,7 @@ module _ (rs : List Record) (run : State) (out : List Bool) (count : size run �
     part-needs good i need has inside r below unit =
         let (within, stays) = in-rest i has in
         let there : r < length rs = omega (arith, below, count) in
-        elim (needs_met_after rs (states_of run out) limit (location run) is.rest good is.part_is i need within stays inside) [
+        elim (needs_met_after rs (states_of run out) limit (answer run) is.rest good is.part_is i need within stays inside) [
           | inl kept_unit ↦ inl (in-part r there (ap (marked (kept is.rest)) unit ∙ kept_unit))
           | inr whole ↦ inr (phase-success (phase_at run r) _ _ (seen-success (marked out r) (request_state run r) (ap has_succeeded (sym (state-is r there)) ∙ whole r there unit)))
         ]
@@ -183,7 +183,7 @@ module _ (rs : List Record) (run : State) (out : List Bool) (count : size run �
 
     -- where a unit may go, it has a request
     pub part-some : HasNoLonger rs limit → (u : ℕ) → MayGo rs is.part_is.done is.part_is.left u → (i : ℕ) × Contains part.positions.items i
-    part-some short u goes = let (i, within, stays) = some_go rs is.part_is.done is.part_is.left limit (location run) (kept is.rest) is.part_is.part_is.units short u goes in (i, in-part i within stays)
+    part-some short u goes = let (i, within, stays) = some_go rs is.part_is.done is.part_is.left limit (answer run) (kept is.rest) is.part_is.part_is.units short u goes in (i, in-part i within stays)
 
 -- ---- a run that goes on
 

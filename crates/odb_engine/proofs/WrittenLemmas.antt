@@ -26,6 +26,7 @@ use Rattle.odb_reply.specs.StatusFaults.{IsPossibleBy, status_at}
 use Rattle.odb_reply.specs.declared.strictness.Strictness.{Strictness}
 use Rattle.odb_reply.specs.declared.strictness.Strictness.TheVariants.{Requests, Units}
 use Rattle.odb_reply.proofs.SliceLemmas.{map_some}
+use Rattle.odb_send.specs.Answers.{Answer}
 use Rattle.odb_send.specs.Parts.{IsBatchIn}
 use Rattle.odb_send.specs.Rests.{IsRestOf, records_in}
 use Rattle.odb_send.specs.Texts.{IsTextOf}
@@ -144,11 +145,11 @@ matched law by strict mode bytes text allows accepted may form =
 
 -- the laws of odb_send on the names and the text of a rest
 pub record AreRestLaws : Type 0 where
-  pub accepted : (batch : List Record) (statuses : List ℕ) (locations : ℕ → Option (List ℕ)) (rest : Rest) → HasGoodNames batch → IsRestOf batch statuses locations rest → HasGoodNames (records_in batch rest)
+  pub accepted : (batch : List Record) (statuses : List ℕ) (answers : ℕ → Answer) (rest : Rest) → HasGoodNames batch → IsRestOf batch statuses answers rest → HasGoodNames (records_in batch rest)
   pub value : (document : List ℕ) (d : Data) (batch : List Record) (rest : Rest) (text : List ℕ) → IsBatchIn document d batch → IsTextOf document d batch rest text → read text ≡ Some (canonical_value (records_in batch rest))
   pub line : (document : List ℕ) (d : Data) (batch : List Record) (rest : Rest) (text : List ℕ) → IsBatchIn document d batch → IsTextOf document d batch rest text → read (text ++ codes "\n") ≡ Some (canonical_value (records_in batch rest))
-  pub document : (document : List ℕ) (d : Data) (batch : List Record) (statuses : List ℕ) (locations : ℕ → Option (List ℕ)) (rest : Rest) (text : List ℕ) → IsBatchIn document d batch → IsWellShaped d
-      → IsRestOf batch statuses locations rest → IsTextOf document d batch rest text → IsDocumentOf text (records_in batch rest)
+  pub document : (document : List ℕ) (d : Data) (batch : List Record) (statuses : List ℕ) (answers : ℕ → Answer) (rest : Rest) (text : List ℕ) → IsBatchIn document d batch → IsWellShaped d
+      → IsRestOf batch statuses answers rest → IsTextOf document d batch rest text → IsDocumentOf text (records_in batch rest)
 
 module _ (law : AreRestLaws) (bytes : List ℕ) (d : Data) (batch : List Record) (document : IsBatchIn bytes d batch) (shaped : IsWellShaped d) (good : HasGoodNames batch) (text : List ℕ) (may : MayBeDocument text) where
   of-rest : (value : Data) (at statuses : List ℕ) (form : Form) → WritesRest bytes batch value at statuses form Done text → Accepts text (λ _. Unit {0})

@@ -1,9 +1,11 @@
 -- The next part of a live run, as a batch of its own, and the marks of the requests that are in a part (OData JSON Format 4.01,
 -- sections 19.1 and 19.4).
-use Rattle.std.specs.Prelude.{◌≡◌, ◌⊎◌, ◌<◌, ℕ, List, [], ◌∷◌, Bool, true, false, Option, Some, None, All, Contains, length, option_and_then, slice_set, string_bytes}
+use Rattle.std.specs.Prelude.{◌≡◌, ◌⊎◌, ◌<◌, ℕ, List, [], ◌∷◌, Bool, true, false, Option, Some, None, All, Contains, length, option_map, slice_set, string_bytes, unwrap_or, if◌then◌else◌}
 use Rattle.serde_json.specs.Data.{Data}
 use Rattle.odb_doc.specs.batch.Records.{Record}
 use Rattle.odb_doc.specs.Refusals.{Printed}
+use Rattle.odb_doc.specs.Statuses.{is_success}
+use Rattle.odb_doc.specs.declared.recorded.outcome.Outcome.{Outcome}
 use Rattle.odb_check.specs.Firsts.{list_below}
 use Rattle.odb_check.specs.Needs.{needs_at}
 use Rattle.odb_check.specs.PlanGraph.{unit_needed}
@@ -19,7 +21,7 @@ use Rattle.odb_sched.specs.run.Steps.{unit_failed}
 use Rattle.odb_sched.specs.run.Units.{IsOver, has_begun}
 use Rattle.odb_send.specs.Faults.{RestFault, rest_row}
 use Rattle.odb_send.specs.declared.rest.Rest.{Rest}
-use Rattle.odb_send.specs.Locations.{location_in}
+use Rattle.odb_send.specs.Answers.{Answer, headers_answer, nothing}
 use Rattle.odb_send.specs.NextPart as parts
 use Rattle.odb_send.specs.NextPart.{AreFitting, HasNoLonger, HasProgress, IsPartAfter, may_start, positions_in}
 use Rattle.odb_send.specs.Parts.{IsBatchIn}
@@ -46,20 +48,24 @@ seen_at run out i = seen (marked out i) (request_state run i)
 abbrev pub states_of : State → List Bool → List RequestState
 states_of run out = list_below (size run) (seen_at run out)
 
--- the Location that a request has reported
-abbrev pub location : State → ℕ → Option (List ℕ)
-location run i = option_and_then (λ outcome. location_in outcome.headers) (reported run i)
+-- the Location and the ETag in an outcome, if it is that of a success
+abbrev pub answer_in : Outcome → Answer
+answer_in outcome = if is_success outcome.status then headers_answer outcome.headers else nothing
+
+-- what a request has reported of them
+abbrev pub answer : State → ℕ → Answer
+answer run i = unwrap_or (option_map answer_in (reported run i)) nothing
 
 -- this is the next part of the run: a text of these requests
 pub record IsPart (document : List ℕ) (batch : List Record) (run : State) (out : List Bool) (limit : ℕ) (part : Part) : Type 0 where
   pub rest : Rest
-  pub part_is : IsPartAfter batch (states_of run out) limit (location run) rest
+  pub part_is : IsPartAfter batch (states_of run out) limit (answer run) rest
   pub text_is : (d : Data) → IsBatchIn document d batch → IsTextOf document d batch rest (string_bytes part.text)
   pub positions_are : part.positions.items ≡ positions_in batch (kept rest)
 
--- the fault is at the first request that lacks a Location, of the first unit that may be sent
-abbrev pub LacksLocations : List Record → State → List Bool → ℕ → RestFault → Type 0
-LacksLocations batch run out limit fault = (done left fitting : List Bool) → HasProgress batch (states_of run out) done left → AreFitting batch done left limit fitting → parts.RefusesPart fault batch fitting (location run)
+-- the fault is at the first request that lacks a Location or an ETag, of the first unit that may be sent
+abbrev pub LacksHeaders : List Record → State → List Bool → ℕ → RestFault → Type 0
+LacksHeaders batch run out limit fault = (done left fitting : List Bool) → HasProgress batch (states_of run out) done left → AreFitting batch done left limit fitting → parts.RefusesPart fault batch fitting (answer run)
 
 -- it is the batch of the run, and each of its units fits into a part
 abbrev pub MayBeParted : Live → List Record → ℕ → Type 0
@@ -70,11 +76,11 @@ abbrev pub IsFoundPart : Live → List ℕ → List Record → ℕ → Option Pa
 IsFoundPart live document batch limit None = ¬ MayBeParted live batch limit
 IsFoundPart live document batch limit (Some part) = MayBeParted live batch limit × IsPart document batch live.run live.out limit part × All (λ i. i < size live.run) part.positions.items
 
--- a request of the first unit that may be sent lacks a Location
+-- a request of the first unit that may be sent lacks a Location or an ETag
 pub record RefusesPart (live : Live) (batch : List Record) (limit : ℕ) (refusal : Printed) : Type 0 where
   pub fault : RestFault
   pub may : MayBeParted live batch limit
-  pub lacks : LacksLocations batch live.run live.out limit fault
+  pub lacks : LacksHeaders batch live.run live.out limit fault
   pub is : rest_row fault ≡ Some refusal
 
 -- the bytes are the batch of the run, each of whose units fits into a part, and this is the next
@@ -85,10 +91,10 @@ IsPartIn live document limit part = Accepts document (λ batch. MayBeParted live
 abbrev pub HasNoParts : Live → List ℕ → ℕ → Type 0
 HasNoParts live document limit = Accepts document (λ batch. ¬ MayBeParted live batch limit)
 
--- why there is no part: the least fault of the batch, or a request that lacks a Location, of the first unit that may be sent
+-- why there is no part: the least fault of the batch, or a request that lacks a Location or an ETag, of the first unit that may be sent
 pub data IsLeastOfPart (live : Live) (document : List ℕ) (limit : ℕ) (refusal : Printed) : Type 0 where
   OfBatch : IsLeast document refusal → IsLeastOfPart live document limit refusal
-  OfLocation : (fault : RestFault) → Accepts document (λ batch. MayBeParted live batch limit × LacksLocations batch live.run live.out limit fault) → rest_row fault ≡ Some refusal → IsLeastOfPart live document limit refusal
+  OfHeaders : (fault : RestFault) → Accepts document (λ batch. MayBeParted live batch limit × LacksHeaders batch live.run live.out limit fault) → rest_row fault ≡ Some refusal → IsLeastOfPart live document limit refusal
 
 -- ---- the requests that are in a part
 

@@ -1,11 +1,11 @@
 //! The parts of a live run: what of its batch may be sent together next.
 
-ghost use Rattle.std.specs.Prelude.{◌≡◌, ◌≢◌, ◌<◌, All, Err, IfOk, IfErr, IfSome, None, length, option_map};
+ghost use Rattle.std.specs.Prelude.{◌≡◌, ◌≢◌, ◌<◌, All, Err, IfOk, IfErr, IfSome, None, length, map};
 ghost use Rattle.serde_json.specs.Data.{Data};
 ghost use Rattle.odb_check.specs.Firsts.{list_below};
 ghost use Rattle.odb_check.specs.Plans.{plan_records};
 ghost use Rattle.odb_sched.specs.run.State.{size};
-ghost use Rattle.odb_send.specs.Locations.{texts_of};
+ghost use Rattle.odb_send.specs.Answers.{answer_of};
 ghost use Rattle.odb_send.specs.NextPart.{HasNoLonger};
 ghost use Rattle.odb_send.specs.Parts.{IsBatchIn};
 ghost use Rattle.odb_engine.specs.declared.halt.Halt.TheVariants as halts;
@@ -16,8 +16,9 @@ use crate::halt::Halt;
 use crate::live::LiveRun;
 use crate::planned::{OfPlan, made_of};
 use odb_check::{Plan, Seed};
+use odb_doc::status::is_success;
 use odb_sched::{OwnedRun, RequestState};
-use odb_send::{RestFault, fits_limit, location_in, part_of, positions_of, rest_text};
+use odb_send::{Recorded, RestFault, fits_limit, part_of, positions_of, rest_text};
 use std::alloc::{AllocError, Global};
 
 /// A part of the batch of a live run: requests that may be sent together.
@@ -57,22 +58,25 @@ fn states_of(alloc: Global, run: &OwnedRun, out: &[bool]) -> Result<Vec<RequestS
     Ok(found)
 }
 
-/// Returns the Location that a request has reported, if there is one.
-fn location_at(run: &OwnedRun, i: u32) -> Option<&str>
+/// Returns the Location and the ETag that a request has reported, if it has succeeded.
+fn answer_at(run: &OwnedRun, i: u32) -> Recorded<'_>
     requires { i < size run.now }
-    ensures { option_map (λ text. text.now) result ≡ parts.location run.now i }
+    ensures { answer_of result ≡ parts.answer run.now i }
 {
-    location_in(&run.reported(i)?.headers)
+    match run.reported(i) {
+        Some(outcome) if is_success(outcome.status) => Recorded::of(&outcome.headers),
+        _ => Recorded::NOTHING,
+    }
 }
 
-/// Returns the Locations that the requests have reported.
-fn locations_of(alloc: Global, run: &OwnedRun) -> Result<Vec<Option<&str>>, AllocError>
-    ensures { IfOk result (λ found. texts_of found.items
-        ≡ list_below (size run.now) (parts.location run.now)) }
+/// Returns the Locations and the ETags that the requests have reported which have succeeded.
+fn answers_of(alloc: Global, run: &OwnedRun) -> Result<Vec<Recorded<'_>>, AllocError>
+    ensures { IfOk result (λ found. map answer_of found.items
+        ≡ list_below (size run.now) (parts.answer run.now)) }
 {
     let mut found = Vec::with_capacity(alloc, run.len() as usize)?;
     for i in 0..run.len() {
-        found.push(location_at(run, i))?;
+        found.push(answer_at(run, i))?;
     }
     Ok(found)
 }
@@ -91,11 +95,11 @@ fn part_in(
     requires out { length out.now ≡ size run.now }
     ensures part { IfOk result (parts.IsPart document.now (plan_records plan.now) run.now out.now limit) }
     ensures within { IfOk result (λ part. All (λ i. i < size run.now) part.positions.items) }
-    ensures least { IfErr result (parts.LacksLocations (plan_records plan.now) run.now out.now limit) }
+    ensures least { IfErr result (parts.LacksHeaders (plan_records plan.now) run.now out.now limit) }
 {
     let states = states_of(alloc, run, out)?;
-    let locations = locations_of(alloc, run)?;
-    let part = part_of(alloc, plan, &states, limit, &locations)?;
+    let answers = answers_of(alloc, run)?;
+    let part = part_of(alloc, plan, &states, limit, &answers)?;
     let text = rest_text(alloc, document, plan, &part)?;
     let positions = positions_of(alloc, plan, &part)?;
     Ok(Part { text, positions })
@@ -163,8 +167,8 @@ impl LiveRun {
 
     /// Returns the next part of the run as the text of a batch of its own: requests that may be sent together, `limit`
     /// of them at most ([`odb_send::part_of`]). None of them is in a part that was given before ([`LiveRun::give`]), and what
-    /// they need is in this one or has succeeded. It ends before the first unit that lacks a Location. `None` if `batch` has not the ids and the groups of the run's batch, or if
-    /// one of its groups has more than `limit` requests.
+    /// they need is in this one or has succeeded. It ends before the first unit that lacks a Location or an ETag. `None` if
+    /// `batch` has not the ids and the groups of the run's batch, or if one of its groups has more than `limit` requests.
     ///
     /// The run stays as it is. A part without requests means that nothing may be sent now. What holds of every part is in
     /// [`crate::laws::parts`].
@@ -173,9 +177,10 @@ impl LiveRun {
     ///
     /// # Errors
     ///
-    /// `Refused` by the first fault of the batch; or by F90 if the first unit that may be sent lacks a Location, at its first request
-    /// whose URL refers to one that has reported no Location of use: report this request, and the next part is that of what
-    /// is left. `OutOfMemory` if an allocation fails. Never `Read`.
+    /// `Refused` by the first fault of the batch; or if the first unit that may be sent lacks a Location or an ETag, at its first
+    /// request that does: by F90 if its URL refers to one that has reported no Location of use, else by F91 since a condition
+    /// refers to one that has not succeeded, or has reported no ETag. Report this request, and the next part is that of what is
+    /// left. `OutOfMemory` if an allocation fails. Never `Read`.
     pub fn part(
         &self,
         alloc: Global,

@@ -6,7 +6,7 @@ use Rattle.odb_doc.specs.Refusals.{Printed}
 use Rattle.odb_engine.specs.Halts.{Halted}
 use Rattle.odb_engine.specs.Live.{Live}
 use Rattle.odb_engine.specs.LiveParts.{HasNoParts, IsFoundPart, IsLeastOfPart, IsPartIn, RefusesPart}
-use Rattle.odb_engine.specs.LiveParts.IsLeastOfPart.{OfBatch, OfLocation}
+use Rattle.odb_engine.specs.LiveParts.IsLeastOfPart.{OfBatch, OfHeaders}
 use Rattle.odb_engine.specs.Planned.{AcceptsAs, IsLeastOfMaking}
 use Rattle.odb_engine.specs.declared.live.parts.Part.{Part}
 use Rattle.odb_engine.proofs.EngineLemmas.{Halted-weaker}
@@ -35,7 +35,7 @@ module _ (live : Live) (document : List ℕ) (limit : ℕ) where
   least-part refusal (inl least) = OfBatch least
   least-part refusal (inr x) =
       let of = x.holds.holds.1 in
-      OfLocation of.fault (record { value = x.value; document = x.document; holds = record { batch = x.holds.batch; shaped = x.holds.shaped; is_batch = x.holds.is_batch; holds = (x.holds.holds.0, (of.may, of.lacks)) } }) of.is
+      OfHeaders of.fault (record { value = x.value; document = x.document; holds = record { batch = x.holds.batch; shaped = x.holds.shaped; is_batch = x.holds.is_batch; holds = (x.holds.holds.0, (of.may, of.lacks)) } }) of.is
 
 pub returns-clause-part : goal.returns-clause-part
 returns-clause-part c = IfOk-weaker c.made_of.result _ _ (found-part c.args.self.now c.args.batch.now c.args.limit) c.made_of.ensures.made

@@ -8,7 +8,7 @@ use Rattle.odb_reply.specs.Responses.{LabelValue, label_of, labels_of}
 use Rattle.odb_engine.specs.Halts.{Halted}
 use Rattle.odb_engine.specs.Live.{Live}
 use Rattle.odb_engine.specs.LiveRuns.{live_of}
-use Rattle.odb_engine.specs.LiveParts.{IsFoundPart, IsPart, LacksLocations, MayBeParted, RefusesPart}
+use Rattle.odb_engine.specs.LiveParts.{IsFoundPart, IsPart, LacksHeaders, MayBeParted, RefusesPart}
 use Rattle.odb_engine.proofs.EngineLemmas.{at-exit, halted-by}
 use Rattle.odb_engine.proofs.live.LiveRun.part_on.Goals as goal
 
@@ -37,7 +37,7 @@ returns-in_err-part-clause-least c =
     let fault = c.in_err-part.field-0.0 in
     let labels : live.labels ≡ labels_of rs = c.are_of.ensures.0 c.if-not-are_of.false in
     let fits : HasNoLonger rs limit = c.fits_limit.ensures.0 c.if-not-fits_limit.false in
-    let least : LacksLocations rs live.run live.out limit fault = subst (λ (out : List Bool). LacksLocations rs live.run out limit fault) c.deref.ensures.value c.in_err-part.ensures.least in
+    let least : LacksHeaders rs live.run live.out limit fault = subst (λ (out : List Bool). LacksHeaders rs live.run out limit fault) c.deref.ensures.value c.in_err-part.ensures.least in
     at-exit (λ r. IfErr r (Halted (RefusesPart c.args.self.now rs limit))) _ _ c.from_residual.ensures.1
     (halted-by _ _ (λ refusal row. subst (λ (live : Live). RefusesPart live rs limit refusal) c.self.view_is (record { fault = fault; may = (labels, fits); lacks = least; is = row })))
 
