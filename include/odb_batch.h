@@ -165,9 +165,11 @@ uint32_t odb_match_with(const uint8_t *batch, size_t batch_size, const uint8_t *
  * JSON Format 4.01, sections 19.1 and 19.4). The result is this text, with each body as the bytes of the document, and a
  * newline; it is the same in each form. A request may be sent again if it was answered 424, 429 or 503; or 408, 502 or 504,
  * and it is a GET, a PUT or a DELETE. A group is in the rest as a whole, and what a request of the rest depends on was
- * answered 2xx or is in the rest. A URL that refers to a request that was answered 2xx gets its Location.
+ * answered 2xx or is in the rest. A URL that refers to a request that was answered 2xx gets its Location, and an If-Match or
+ * If-None-Match that is `$` and the id of an earlier request which is not in the rest gets its ETag.
  * `mode` and `form` are those of `odb_match_with`, and responses that do not fit the batch are refused as there; else, if a
- * Location is missing or can be in no URL, the batch is refused by F90. Returns what `odb_match_with` does. */
+ * Location is missing or can be in no URL, the batch is refused by F90, and if an ETag is missing by F91. Returns what
+ * `odb_match_with` does. */
 uint32_t odb_rest(const uint8_t *batch, size_t batch_size, const uint8_t *responses, size_t responses_size,
                   uint32_t mode, uint32_t form,
                   uint8_t *text, size_t text_size, size_t *text_length, uint64_t seed);
@@ -398,7 +400,8 @@ uint32_t odb_run_start_unit(odb_live_run *run, uint32_t position);
 /* Gives the next part of a run as the text of a batch of its own, which the check accepts, and the positions of its requests:
  * requests that may be sent together, `limit` of them at most, none of which was in a part before. What they need is in the part
  * or has succeeded: dependencies on what has succeeded are left out, and `$id` in a URL is replaced by the Location that this request
- * has reported. It ends before the first unit with a request that refers to one that has reported no Location of use.
+ * has reported, and in an If-Match or If-None-Match by the ETag, if it comes earlier in the batch and is not in the part. It ends before
+ * the first unit with a request that refers to one that has reported no Location of use, or no ETag.
  * Each body is the bytes of `batch`, which is the document of the run. `*count` is set to the number of positions; it is
  * 0 if nothing may be sent now. A run that is not finished gives a part with a request, or has one that is not reported yet, or such a
  * unit is the first that may begin.
@@ -406,8 +409,8 @@ uint32_t odb_run_start_unit(odb_live_run *run, uint32_t position);
  * or start its units one after another by `odb_run_start_unit`, and report their requests. Otherwise the run and `positions` are as
  * they were: returns ODB_SMALL_BUFFER if one of the buffers has too little room, and `*text_length` and `*count` say how much is needed. Else `*count`
  * is 0, and it returns ODB_WRONG_OPTION if `batch` has not the ids and groups of the run's batch, or if one of its groups has more
- * than `limit` requests; what `odb_check_as` does if the batch is refused, or by F90 at the first such request of the first unit that may
- * begin: start this unit by `odb_run_start_unit`, report its requests, and ask again; or ODB_OUT_OF_MEMORY. A handle as above. Takes O(n log n) time for n bytes of the document. */
+ * than `limit` requests; what `odb_check_as` does if the batch is refused, or by F90 or F91 at the first such request of the first unit that
+ * may begin: start this unit by `odb_run_start_unit`, report its requests, and ask again; or ODB_OUT_OF_MEMORY. A handle as above. Takes O(n log n) time for n bytes of the document. */
 uint32_t odb_run_part(odb_live_run *run, const uint8_t *batch, size_t batch_size, uint32_t limit,
                       uint8_t *text, size_t text_size, size_t *text_length,
                       uint32_t *positions, size_t positions_size, size_t *count, uint64_t seed);

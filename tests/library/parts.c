@@ -293,6 +293,28 @@ static void try_lacking(void)
     odb_run_close(run);
 }
 
+#define TAGGED(needs, tag) "{" needs "\"headers\":{\"if-match\":\"" tag "\"},\"id\":\"c\",\"method\":\"get\",\"url\":\"C\"}"
+#define TAGS BATCH(POST("a", "A") "," GET("b", "B") "," TAGGED("\"dependsOn\":[\"a\"],", "$a") "," GET("d", "D"))
+
+/* A condition gets the ETag of a request that is not in the part; which ends before a unit that lacks it. */
+static void try_tags(void)
+{
+    static const struct row row = {"tags", TAGS, MOST, ODB_CONTINUE, {{NULL}}, {0}};
+    static const struct part tagged = {BATCH(GET("b", "B") "," TAGGED("", "7") "," GET("d", "D")), "123", {200, 200, 200}, NULL};
+    static const struct part first = {BATCH(GET("b", "B")), "1", {200}, NULL};
+    static const char etag[] = "{\"ETag\":\"7\"}";
+    odb_live_run run = opened(TAGS, ODB_CONTINUE);
+    count("tags", 0, odb_run_start_unit(&run, 0) == ODB_DONE && odb_run_report(&run, 0, 201, (const uint8_t *)etag, strlen(etag), NULL, 0) == ODB_DONE);
+    count("tags", 1, part_is(&run, &row, &tagged));
+    odb_run_close(run);
+    run = opened(TAGS, ODB_CONTINUE);
+    count("tags", 2, odb_run_start_unit(&run, 0) == ODB_DONE && odb_run_report(&run, 0, 201, NULL, 0, NULL, 0) == ODB_DONE);
+    count("tags", 3, part_is(&run, &row, &first));
+    report_each(&run, &first);
+    count("tags", 4, is_refused(&run, TAGS, MOST, ODB_REFUSED, "fault F91 NoETag /requests/2\n"));
+    odb_run_close(run);
+}
+
 static void try_refused_parts(void)
 {
     odb_live_run run = opened(GROUP, ODB_CONTINUE);
@@ -477,6 +499,7 @@ int main(void)
     try_rooms();
     try_refused_parts();
     try_lacking();
+    try_tags();
     try_bodies();
     try_takes();
     try_unfit_answers();

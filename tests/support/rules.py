@@ -31,6 +31,7 @@ NAMES = dict(
     F70="BadResponses", F71="UnknownResponse", F72="ResponseTwice", F73="ResponseMissing",
     F74="GroupDiffers", F75="UnsoundSuccess", F76="NotFinal", F77="PartialGroup", F78="NotStarted", F80="NoOutcome",
     F90="NoLocation",
+    F91="NoETag",
     S1="AlreadyStarted", S2="Stopped", S3="UnitFailed", S4="Waiting", S5="WidthReached",
     P1="NotRunning", P2="BadStatus",
 )

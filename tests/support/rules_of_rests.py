@@ -48,11 +48,11 @@ def kept(batch, statuses):
     return [i for i in range(len(batch)) if i not in out and not is_done[i]]
 
 
-def location(response):
-    """The Location that a response records, or None: of two names that differ in case the first in byte order counts."""
+def recorded(response, header):
+    """The Location or the ETag that a response records, or None: of two names that differ in case the first in byte order counts."""
     headers = response.get("headers")
-    names = sorted(headers, key=str.encode) if isinstance(headers, dict) else []
-    found = [headers[name] for name in names if fold(name) == "location"]
+    names = sorted(headers, key=str.encode) if isinstance(headers, dict) and is_success(response.get("status", 0)) else []
+    found = [headers[name] for name in names if fold(name) == header]
     return found[0] if found and isinstance(found[0], str) else None
 
 
@@ -62,19 +62,32 @@ def moved_url(request, location):
     return url if url is not None and rules.front(url)[0] == "plain" and not rules.is_nested_batch(url) else None
 
 
-def urls(batch, positions, responses):
-    """The URL of each request in the rest, or F90."""
+def headers_of(batch, i, positions, answers):
+    """The headers of a request in the rest: a condition that refers to an earlier request, which is not in it, has its ETag, or None."""
+    headers = dict(batch[i].headers)
+    for name in ("if-match", "if-none-match"):
+        value = headers.get(name, "")
+        at = rules.position(batch, value[1:]) if value.startswith("$") else None
+        if at is not None and at < i and at not in positions:
+            headers[name] = recorded(answers.get(value[1:], {}), "etag")
+    return headers
+
+
+def changes(batch, positions, responses):
+    """The URL and the headers of each request in the rest, or F90 or F91."""
     answers = {it["id"]: it for it in responses}
     found = {}
     for i in positions:
         request, at = batch[i], rules.position(batch, batch[i].reference)
         stays = at is None or at in positions
-        found[i] = request.url if stays else moved_url(request, location(answers.get(request.reference, {})))
-        first_fault({"F90": found[i] is None}, f"/requests/{i}")
+        url = request.url if stays else moved_url(request, recorded(answers.get(request.reference, {}), "location"))
+        headers = headers_of(batch, i, positions, answers)
+        first_fault({"F90": url is None, "F91": None in headers.values()}, f"/requests/{i}")
+        found[i] = url, headers
     return found
 
 
-def request_text(batch, data, i, positions, url, body):
+def request_text(batch, data, i, positions, url, headers, body):
     """A request in the rest: in canonical form, but its body as the document has it."""
     request = batch[i]
     names = [it for it in request.names if set(rules.needed_positions(batch, it)) <= set(positions)]
@@ -82,7 +95,7 @@ def request_text(batch, data, i, positions, url, body):
         "atomicityGroup": request.group and json_text(request.group),
         "body": body and data[body["offset"] : body["offset"] + body["length"]].decode(),
         "dependsOn": json_text(names) if names else None,
-        "headers": json_text(request.headers) if request.headers else None,
+        "headers": json_text(headers) if headers else None,
         "id": json_text(request.id),
         "method": json_text(request.method),
         "url": json_text(url),
@@ -93,6 +106,6 @@ def request_text(batch, data, i, positions, url, body):
 def rest_text(batch, data, responses, statuses):
     """The rest of the batch in a document, by the responses of a service and the status of each request."""
     positions = kept(batch, statuses)
-    moved, bodies = urls(batch, positions, responses), list(bodies_of(data))
-    texts = [request_text(batch, data, i, positions, moved[i], bodies[i]) for i in positions]
+    changed, bodies = changes(batch, positions, responses), list(bodies_of(data))
+    texts = [request_text(batch, data, i, positions, *changed[i], bodies[i]) for i in positions]
     return '{"requests":[' + ",".join(texts) + "]}\n"

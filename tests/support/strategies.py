@@ -229,8 +229,9 @@ def responses(draw, requests):
 # What answers a request that may be sent again, and what does not; the headers of a response with a Location, or without.
 AGAIN = of(424, 429, 503, 408, 502, 504, 404)
 LOCATIONS = of(
-    {}, {"Location": "/made/Books(1)"}, {"location": "Loans('2')?x=1"}, {"LOCATION": "$a", "Etag": "1"}, {"Location": "$batch"},
-    {"Location": 7}, {"Location": "First", "location": "second"}, [],
+    {}, {"Location": "/made/Books(1)", "ETag": "\"1\""}, {"location": "Loans('2')?x=1", "etag": "", "ETAG": "W/\"2\""},
+    {"Location": "Loans('2')"}, {"LOCATION": "$a", "Etag": "1"}, {"Location": "$batch"}, {"Location": 7},
+    {"Location": "First", "location": "second", "ETag": 7}, [],
 ).map(copy.deepcopy)  # fmt: skip
 
 

@@ -2,7 +2,7 @@
 //! The explanations of all faults, and of the causes by which an event may not come.
 
 /// The explanations in the order of their codes. The first line of each has the code, the name and the places of its fault.
-pub const FAULTS: [&str; 59] = [
+pub const FAULTS: [&str; 60] = [
     r#"F01 TooLong batch outcomes responses events
 The document has more than 16,777,216 bytes. It is read into memory as a whole, so there is a limit;
 the rest of the input is not read. Split the batch, or give large bodies a request outside of it.
@@ -295,6 +295,12 @@ The request may be sent again, but its URL refers to one that is not sent again,
 one records no Location that could take the place of the reference. Send the request by itself.
 refused: for the URL $1/Lines, the response {"id":"1","status":201}
 accepted: the response {"id":"1","status":201,"headers":{"Location":"Orders(7)"}}"#,
+    r#"F91 NoETag /requests/N
+The request may be sent again, but its If-Match or If-None-Match refers to an earlier one that is not sent
+again, and that one has failed, or its response records no ETag (OData JSON Format 4.01, section 19.3). Send
+the request by itself.
+refused: for the header "If-Match":"$1", the response {"id":"1","status":200}
+accepted: the response {"id":"1","status":200,"headers":{"ETag":"W/\"7\""}}"#,
     r#"S1 AlreadyStarted /events/N
 The request was started before, and a request is sent once. Look for the event that was recorded twice.
 refused: {"events":[{"start":"1"},{"start":"1"}]}

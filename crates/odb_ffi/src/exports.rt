@@ -133,7 +133,7 @@ pub extern "C" fn odb_match_with(
 /// be sent again, as a batch of its own (OData JSON Format 4.01, sections 19.1 and 19.4). It is the same in each form.
 ///
 /// `mode` is that of [`odb_match_with`]. Responses that do not fit the batch are refused as there; else the fault is
-/// F90.
+/// F90 or F91.
 #[unsafe(no_mangle)]
 pub extern "C" fn odb_rest(
     alloc: Global,

@@ -31,8 +31,8 @@ use odb_sched::laws::{every_live_run, every_possible_live};
 /// answer has the status, the headers and the bytes of the body with which it was reported. So `match` accepts the
 /// response that [`crate::run_exports::odb_run_response`] writes, unless it is too long, also as strict by units (`matched`).
 ///
-/// A run that is not finished, and on which nothing is on its way, gives a part with a request, unless its first unit lacks a Location
-/// (`gives`).
+/// A run that is not finished, and on which nothing is on its way, gives a part with a request, unless its first unit lacks a Location or
+/// an ETag (`gives`).
 ///
 /// Calls may be taken apart and put together (`joined`): a call of [`crate::part_exports::odb_run_take`] is the starts and the reports
 /// that its clause names.

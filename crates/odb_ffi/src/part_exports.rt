@@ -9,14 +9,14 @@ use std::alloc::Global;
 
 /// Gives the next part of a run as the text of a batch of its own, and the positions of its requests: requests that may be sent
 /// together, `limit` of them at most, none of which was in a part before. What they need is in the part or has succeeded:
-/// dependencies on what has succeeded are left out, and references to it replaced by the Location that it has reported. The part ends
-/// before the first unit with a request that refers to one that has reported no Location of use. Each body is the bytes of the
-/// document. `batch` is the document of the run.
+/// dependencies on what has succeeded are left out, and references to it replaced by the Location and the ETag that it has reported.
+/// The part ends before the first unit with a request that refers to one that has reported no Location of use, or no ETag. Each
+/// body is the bytes of the document. `batch` is the document of the run.
 ///
 /// Returns 0, and `text` and `positions` begin with them, and the requests are sent for the run; `count` is their number, which is 0
 /// if nothing may be sent now. Otherwise the run and `positions` are as they were: returns 5 if one of the two has too little room,
-/// and `text_length` and `count` say how much is needed. Else `count` is 0: it returns 1 if the batch is refused, or by F90 if the
-/// first unit that may begin has such a request, at the first, and `text` begins with the line of the fault; 5 if the line is
+/// and `text_length` and `count` say how much is needed. Else `count` is 0: it returns 1 if the batch is refused, or by F90 or F91
+/// if the first unit that may begin has such a request, at the first, and `text` begins with the line of the fault; 5 if the line is
 /// longer than `text`; 2 if the batch has not the ids and groups of the run's, or a group has more than `limit` requests; and 4 if
 /// an allocation fails.
 #[unsafe(no_mangle)]
