@@ -186,11 +186,11 @@ export function match(batch: Document, responses: Document, options?: MatchOptio
  * A unit, a group or a request without one, is done if all of its requests were answered 2xx. It is in the rest if it is not
  * done, each of its requests may be sent again, and each unit that it depends on is done or in the rest. A request may be sent
  * again if it was answered 2xx, 424, 429 or 503; or 408, 502 or 504, if it is a GET, a PUT or a DELETE. Dependencies on what is
- * done are dropped, and a URL that refers to it gets its `Location`. A body is the bytes of the document; headers stay as they
- * are, also an `If-Match` that refers to a request.
+ * done are dropped, and a URL that refers to it gets its `Location`. An `If-Match` or `If-None-Match` that is `$` and the id of an
+ * earlier request, which is not in the rest, gets its `ETag`. A body is the bytes of the document.
  *
  * Throws a {@link Fault} also if what a URL refers to was answered without a `Location` that the URL of a request may have
- * (F90), and a `RangeError` for a mode that is none of its values.
+ * (F90), or what a condition refers to without an `ETag` (F91), and a `RangeError` for a mode that is none of its values.
  */
 export function rest(batch: Document, responses: Document, options?: RestOptions): Bytes
 
@@ -393,10 +393,10 @@ export class Run {
    * Returns the next part of the batch, or null if nothing may be sent now: at most `limit` requests (10,000) that may be sent
    * together as a batch of their own. None of them was in a part before, and what they depend on is in this part or has
    * succeeded. A group is whole. Dependencies on what has succeeded are left out, and `$a` in a URL is replaced by the Location
-   * that was reported for `a`; the part ends before the first unit for which there is none. Once a part is answered, pass it to `take`;
-   * or start its units by `startUnit`, in the order of the batch, and report their requests. Throws a {@link Fault} if the batch is
-   * refused, or F90 for a request of the first unit that may begin: it refers to one for which no Location was reported that its URL
-   * may have; start and report this unit, and ask again. Throws a `RangeError` if a group has more requests than the limit, or if it is
+   * that was reported for `a`, in `If-Match` and `If-None-Match` by the ETag; the part ends before the first unit for which there is
+   * none. Once a part is answered, pass it to `take`; or start its units by `startUnit`, in the order of the batch, and report their
+   * requests. Throws a {@link Fault} if the batch is refused, or for a request of the first unit that may begin, which refers to one for
+   * which no Location was reported that its URL may have (F90), or no ETag (F91); start and report this unit, and ask again. Throws a `RangeError` if a group has more requests than the limit, or if it is
    * another batch than that of the run.
    */
   part(batch: Document, limit?: number): Part | null

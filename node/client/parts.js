@@ -2,9 +2,8 @@
 
 // A batch that is sent in parts, which the library makes.
 
-const { match, plan, rest } = require('../calls/commands.js')
+const { match } = require('../calls/commands.js')
 const { MAX_REQUESTS } = require('../calls/options.js')
-const { requests } = require('../calls/requests.js')
 const { openListed } = require('../calls/run.js')
 const { bodyBytes, documentBytes } = require('../documents/bytes.js')
 const { readResponses } = require('../documents/responses.js')
@@ -13,12 +12,9 @@ const { Refusal, badGateway, toRefusal } = require('../errors/refusals.js')
 const { isSuccess } = require('../http/messages.js')
 const { skipMark } = require('../http/bodies.js')
 const { References } = require('../http/references.js')
-const { replaceHeaders } = require('./rest.js')
 
 // What a request is answered that was not sent, or left out by a service that stops.
 const SKIPPED = { status: 424, headers: {}, body: Buffer.alloc(0) }
-// What is recorded of a request that is left out of a part: neither it nor what depends on it is left then.
-const SETTLED = 400
 // The library reads a batch for each part of it. One with more requests is cut into longer parts first, each a batch of its own.
 const MANY = 1000
 
@@ -42,6 +38,11 @@ function requireLimit(limit, units) {
   }
 }
 
+/** Why a request is not sent whose URL refers to what has none that it may have. */
+function noLocation({ id, reference }) {
+  return new Refusal(424, 'NoLocation', `${reference} was answered without a URL that ${id} may have`, { target: reference })
+}
+
 class Parts {
   /** The document of the batch. */
   document
@@ -59,10 +60,9 @@ class Parts {
   #unitOf
   #units = new Map()
   #references
-  // The part that is out, as the run gave it and as it is sent, and what those of its requests are answered that cannot be sent.
+  // The part that is out, as the run gave it and as it is sent.
   #given
   #part
-  #refused
   #isStopped = false
 
   /** Throws a Fault for a batch that is refused, and a RangeError for a limit that cannot be kept. */
@@ -114,88 +114,66 @@ class Parts {
       this.#given = part
       // In one part the batch is sent as it is.
       this.#part = part.ids.length < this.answers.size ? part : { document: this.document, ids: part.ids }
-      if (this.#replaceTags()) return true
-      this.#settle(new Map())
+      return true
     }
     return false
   }
 
-  /** What the library gives as the next part; undefined if its first unit refers to what has no URL that it may have. */
+  /** What the library gives as the next part; undefined if its first unit refers to what has no URL that it may have, or no ETag. */
   #nextPart() {
     try {
       return this.#run.part(this.document, this.#most)
     } catch (error) {
       if (!(error instanceof Fault)) throw error
-      this.#refuseFrom(Number(error.place.split('/').at(-1)))
+      this.#refuseFrom(Number(error.place.split('/').at(-1)), error.code)
       return undefined
     }
   }
 
   /**
-   * Answers the unit of the request at a position, which refers to what has no URL that it may have; in mode continue also the units
-   * after it that refer to what has no URL at all, and may begin.
+   * Answers the unit of the request at a position, which refers to what has no URL that it may have, or no ETag; in mode continue also
+   * the units after it that refer to what was answered without one, and may begin.
    */
-  #refuseFrom(position) {
+  #refuseFrom(position, code) {
     const [first, ...others] = this.#requests.slice(position)
-    const lacks = (id) => isSuccess(this.answers.get(id)) && this.#recorded(id).headers.location === undefined
-    const alike = this.#mode === 'stop' ? [] : others.filter(({ reference }) => reference !== null && lacks(reference))
-    for (const { id, reference } of [first, ...alike]) {
-      const message = `${reference} was answered without a URL that ${id} may have`
-      const { answer } = new Refusal(424, 'NoLocation', message, { target: reference })
-      try {
-        this.#run.startUnit(id)
-      } catch (error) {
-        if (error instanceof Refused) continue
-        throw error
-      }
-      for (const member of this.#unitWith(id)) {
-        this.answers.set(member, onWire(answer))
-        this.#run.report(member, SKIPPED.status)
-      }
+    const pending = new Set([...this.answers.keys()].filter((id) => !isSuccess(this.answers.get(id))))
+    const tagless = code === 'F90' ? undefined : (this.#refusalOf(first, pending) ?? this.#refusalOf(first, new Set(this.#unitWith(first.id))))
+    const alike = this.#mode === 'stop' ? [] : others.map((request) => [request.id, this.#refusalOf(request, pending)])
+    for (const [id, refusal] of [[first.id, tagless ?? noLocation(first)], ...alike]) {
+      if (refusal !== undefined) this.#refuse(id, refusal)
     }
+  }
+
+  /** Answers the unit of a request that cannot be sent, if it may begin. */
+  #refuse(id, { answer }) {
+    try {
+      this.#run.startUnit(id)
+    } catch (error) {
+      if (error instanceof Refused) return
+      throw error
+    }
+    for (const member of this.#unitWith(id)) {
+      this.answers.set(member, onWire(answer))
+      this.#run.report(member, SKIPPED.status)
+    }
+  }
+
+  /** Why a request cannot be sent: it refers to what was answered without a URL or an ETag, and is not pending; else undefined. */
+  #refusalOf(request, pending) {
+    const { id, reference } = request
+    if (reference !== null && !pending.has(reference) && this.#recorded(reference).headers.location === undefined) return noLocation(request)
+    try {
+      this.#references.headers(id, pending)
+    } catch (error) {
+      if (error instanceof Refusal) return error
+      throw error
+    }
+    return undefined
   }
 
   /** The ids of the unit of a request. */
   #unitWith(id) {
     return this.#units.get(this.#unitOf.get(id))
-  }
-
-  /**
-   * Puts ETags in place of references to requests that the part does not have, and leaves out of it what refers to one that is not
-   * there. Returns whether something of it is left.
-   */
-  #replaceTags() {
-    let { document, ids } = this.#part
-    this.#refused = new Map()
-    for (;;) {
-      const { headers, refused } = this.#findTags(ids)
-      if (refused.size === 0) {
-        this.#part = { document: headers.size > 0 ? replaceHeaders(requests(document), (request) => headers.get(request.id) ?? request.headers) : document, ids: this.#part.ids }
-        return ids.length > 0
-      }
-      for (const [id, answer] of refused) this.#refused.set(id, answer)
-      // In mode stop nothing is sent that comes after it.
-      const end = this.#mode === 'stop' ? ids.findIndex((id) => refused.has(id)) : ids.length
-      const responses = ids.map((id, at) => {
-        return { id, status: refused.has(id) || at >= end ? SETTLED : SKIPPED.status, atomicityGroup: this.#groupOf(id) }
-      })
-      document = rest(document, { responses })
-      ids = plan(document).map(({ id }) => id)
-    }
-  }
-
-  /** The headers of the requests with these ids that refer to ETags of others, and what those are answered that refer to none. */
-  #findTags(ids) {
-    const [inside, headers, refused] = [new Set(ids), new Map(), new Map()]
-    for (const id of ids.filter((request) => this.#references.hasTags(request))) {
-      try {
-        headers.set(id, this.#references.headers(id, inside))
-      } catch (error) {
-        if (!(error instanceof Refusal)) throw error
-        for (const member of this.#unitWith(id)) refused.set(member, onWire(error.answer))
-      }
-    }
-    return { headers, refused }
   }
 
   /** The group of a request, or null. */
@@ -239,7 +217,7 @@ class Parts {
   #settle(found) {
     const { ids } = this.#part
     for (const id of ids) {
-      const answer = this.#refused.get(id) ?? found.get(id) ?? SKIPPED
+      const answer = found.get(id) ?? SKIPPED
       this.answers.set(id, answer)
       if (isSuccess(answer) && this.#references.referred.has(id)) this.#references.keep(id, answer.headers, answer.body)
     }

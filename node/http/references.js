@@ -106,11 +106,6 @@ class References {
     return found
   }
 
-  /** Whether the headers of a request refer to ETags. */
-  hasTags(id) {
-    return this.#tagged(this.of(id).headers).length > 0
-  }
-
   /** What returns the URL of a request that others refer to. It is kept, so that a long chain of them needs no deep stack. */
   #urlOf(id) {
     if (!this.#urls.has(id)) this.#urls.set(id, outcomeOf(() => this.#makeUrl(id)))

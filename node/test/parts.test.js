@@ -40,6 +40,19 @@ describe('parts of a live run', () => {
     throws(() => run.part(ORDER), { code: 'ERR_ODB_CLOSED' })
   })
 
+  it('have the ETags of earlier ones, and end before what lacks one', () => {
+    const headers = { 'If-Match': '$o', 'If-None-Match': '$n' }
+    const batch = { requests: [...ORDER.requests.slice(0, 1), { id: 'n', method: 'patch', url: 'N', dependsOn: ['o'], headers }] }
+    for (const reported of [{ ETag: '7' }, {}]) {
+      const run = new Run(batch)
+      run.start('o')
+      run.report('o', 201, reported)
+      if (reported.ETag) deepStrictEqual(JSON.parse(run.part(batch).document).requests[0].headers, { 'if-match': '7', 'if-none-match': '$n' })
+      else throws(() => run.part(batch), { code: 'F91', place: '/requests/1' })
+      run.close()
+    }
+  })
+
   it('end before what lacks a Location', () => {
     const batch = { requests: [...ORDER.requests.slice(0, 1), { id: 'a', method: 'get', url: 'A' }, ...ORDER.requests.slice(1)] }
     const run = new Run(batch)

@@ -12,18 +12,23 @@ const { Service } = require('./scripted.js')
 const BATCH =
   '{"requests":[{"id":"a","method":"post","url":"A"},' +
   '{"id":"b","dependsOn":["a"],"method":"put","url":"$a/B","headers":{"If-Match":"$a"},"body":1.50}]}'
-const LEFT = '{"requests":[{"body":1.50,"headers":{"if-match":"$a"},"id":"b","method":"put","url":"A(1)/B"}]}'
+const LEFT = '{"requests":[{"body":1.50,"headers":{"if-match":"7"},"id":"b","method":"put","url":"A(1)/B"}]}'
 
 /** A response document with these statuses, and headers of the first. */
 function responses(statuses, headers) {
   return { responses: Object.entries(statuses).map(([id, status], at) => ({ id, status, headers: at === 0 ? headers : undefined })) }
 }
 
-test('replaces a reference by the Location that was answered', () => {
-  assert.equal(rest(BATCH, responses({ a: 201, b: 503 }, { Age: 7, LOCATION: 'A(1)', location: 'A(2)' })).toString(), LEFT)
+test('replaces references by the Location and the ETag that were answered', () => {
+  const made = { Age: 7, ETAG: '7', LOCATION: 'A(1)', location: 'A(2)' }
+  assert.equal(rest(BATCH, responses({ a: 201, b: 503 }, made)).toString(), LEFT)
   for (const headers of [undefined, {}, { Location: 7 }, { Location: '$b' }]) {
     const fault = { name: 'Fault', message: 'F90 NoLocation /requests/1' }
     assert.throws(() => rest(BATCH, responses({ a: 201, b: 503 }, headers)), fault)
+  }
+  for (const etag of [undefined, 7]) {
+    const fault = { name: 'Fault', message: 'F91 NoETag /requests/1' }
+    assert.throws(() => rest(BATCH, responses({ a: 201, b: 503 }, { Location: 'A(1)', ETag: etag })), fault)
   }
 })
 
@@ -36,7 +41,7 @@ test('reads what a service that stops has left out', () => {
 })
 
 test('prints the rest of a batch', () => {
-  const made = responses({ a: 201, b: 503 }, { Location: 'A(1)' })
+  const made = responses({ a: 201, b: 503 }, { Location: 'A(1)', ETag: '7' })
   for (const form of ['json', 'lines']) {
     const { accepted, text } = output('rest', BATCH, made, { form })
     assert.deepEqual([accepted, text.toString()], [true, `${LEFT}\n`])

@@ -222,8 +222,9 @@ def rest(batch: Document, responses: Document, *, mode: Mode = "continue") -> by
     A unit, a group or a request without one, is done if all of its requests were answered 2xx. It is in the rest if it
     is not done, each of its requests may be sent again, and each unit that it depends on is done or in the rest. A
     request may be sent again if it was answered 2xx, 424, 429 or 503; or 408, 502 or 504, if it is a GET, a PUT or a
-    DELETE. Dependencies on what is done are dropped, and a URL that refers to it gets its ``Location``. A body is the
-    bytes of the document; headers stay as they are, also an ``If-Match`` that refers to a request.
+    DELETE. Dependencies on what is done are dropped, and a URL that refers to it gets its ``Location``. An ``If-Match``
+    or ``If-None-Match`` that is ``$`` and the id of an earlier request, which is not in the rest, gets its ``ETag``. A
+    body is the bytes of the document.
 
     Args:
         batch: The batch.
@@ -235,7 +236,7 @@ def rest(batch: Document, responses: Document, *, mode: Mode = "continue") -> by
 
     Raises:
         Fault: A document is refused, the responses do not fit the batch, or what a URL refers to was answered without a
-            ``Location`` that the URL of a request may have (F90).
+            ``Location`` that the URL of a request may have (F90), or what a condition refers to without an ``ETag`` (F91).
         ValueError: The mode is not one of its values.
         MemoryError: An allocation failed.
     """

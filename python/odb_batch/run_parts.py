@@ -39,8 +39,9 @@ class RunParts:
         of their own. None of them was in a part before, and what they depend on is in this part or has succeeded.
 
         A group is whole. Dependencies on what has succeeded are left out, and ``$a`` in a URL is replaced by the Location
-        that was reported for ``a``; the part ends before the first unit for which there is none. A run that is not finished has a
-        part that is not reported, or gives one, or raises F90. Once a part is answered, pass it to :meth:`take`; or start its units
+        that was reported for ``a``, in ``If-Match`` and ``If-None-Match`` by the ETag; the part ends before the first unit for
+        which there is none. A run that is not finished has a part that is not reported, or gives one, or raises F90 or F91. Once a
+        part is answered, pass it to :meth:`take`; or start its units
         by `start_unit`, in the order of the batch, and report their requests.
 
         >>> from odb_batch import Run
@@ -59,8 +60,9 @@ class RunParts:
             limit: How many requests the part may have, from 1 to 10,000.
 
         Raises:
-            Fault: The batch is refused, or by F90 a request of the first unit that may begin, at its position in the batch: it
-                refers to one for which no Location was reported that its URL may have. Start and report this unit, and ask again.
+            Fault: The batch is refused, or a request of the first unit that may begin, at its position in the batch: it refers
+                to one for which no Location was reported that its URL may have (F90), or no ETag (F91). Start and report this
+                unit, and ask again.
             ValueError: A group has more requests than the limit, it is another batch than that of the run, or the run is closed.
             MemoryError: An allocation failed.
         """

@@ -137,6 +137,20 @@ class TestParts(unittest.TestCase):
             run.report("l", 424)
             self.assertEqual(run.part(batch).ids, ("b",))
 
+    def test_a_part_has_the_etags_of_earlier_ones(self):
+        headers = {"If-Match": "$o", "If-None-Match": "$n"}
+        changed = {"id": "n", "method": "patch", "url": "N", "dependsOn": ["o"], "headers": headers}
+        batch = {"requests": [{"id": "o", "method": "post", "url": "Orders"}, changed]}
+        for reported in ({"ETag": "7"}, {}):
+            with Run(batch) as run:
+                run.start("o")
+                run.report("o", 201, reported)
+                if reported:
+                    found = json.loads(run.part(batch).document)["requests"]
+                    self.assertEqual([it["headers"] for it in found], [{"if-match": "7", "if-none-match": "$n"}])
+                else:
+                    self.assertRaisesRegex(Fault, "F91 NoETag /requests/1", run.part, batch)
+
     def test_answers_that_are_refused(self):
         good = {"responses": [{"id": "o", "status": 201, "headers": {"Location": "/Orders(7)"}, "body": {"n": 1}}]}
         with Run(ORDER) as run:

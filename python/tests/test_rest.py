@@ -16,7 +16,7 @@ BATCH = (
     b'{"requests":[{"id":"a","method":"post","url":"A"},'
     b'{"id":"b","dependsOn":["a"],"method":"put","url":"$a/B","headers":{"If-Match":"$a"},"body":1.50}]}'
 )
-LEFT = b'{"requests":[{"body":1.50,"headers":{"if-match":"$a"},"id":"b","method":"put","url":"%s/B"}]}'
+LEFT = b'{"requests":[{"body":1.50,"headers":{"if-match":"7"},"id":"b","method":"put","url":"%s/B"}]}'
 
 
 def responses(*elements):
@@ -28,10 +28,10 @@ def requests_of(document):
 
 
 @pytest.mark.parametrize("headers, place", [
-    (b'{"Location":"A(1)"}', b"A(1)"), (b'{"Age":7,"location":"A(2)","LOCATION":"A(1)"}', b"A(1)"),
+    (b'{"Location":"A(1)","ETag":"7"}', b"A(1)"), (b'{"Age":7,"etag":"8","ETAG":"7","location":"A(2)","LOCATION":"A(1)"}', b"A(1)"),
     (b'{"ETag":"7","location":"https://host/A?x"}', b"https://host/A?x"),
 ])  # fmt: skip
-def test_a_location_takes_the_place_of_a_reference(headers, place):
+def test_a_location_and_an_etag_take_the_place_of_references(headers, place):
     made = b'{"id":"a","status":201,"headers":%s}' % headers
     assert rest(BATCH, responses(b'{"id":"b","status":504}', made)) == LEFT % place
 
@@ -40,6 +40,13 @@ def test_a_location_takes_the_place_of_a_reference(headers, place):
 def test_a_location_that_cannot_take_it(headers):
     made = b'{"id":"a","status":201%s}' % headers.encode()
     with pytest.raises(Fault, match="^F90 NoLocation /requests/1$"):
+        rest(BATCH, responses(made, b'{"id":"b","status":503}'))
+
+
+@pytest.mark.parametrize("headers", ["", ',"ETag":7', ',"ETags":"7"'])
+def test_no_etag_is_recorded(headers):
+    made = b'{"id":"a","status":201,"headers":{"Location":"A(1)"%s}}' % headers.encode()
+    with pytest.raises(Fault, match="^F91 NoETag /requests/1$"):
         rest(BATCH, responses(made, b'{"id":"b","status":503}'))
 
 

@@ -1,17 +1,16 @@
 """A batch that is sent in parts, which the library makes."""
 
 import contextlib
-import itertools
 import math
-from typing import Awaitable, Callable, Mapping, Optional
+from typing import Awaitable, Callable, Collection, Mapping, Optional
 
 from .._native.calls import MAX_REQUESTS, Mode, require_number
-from ..commands import match, plan, rest
-from ..documents.requests import requests
+from ..commands import match
+from ..documents.requests import Request
 from ..driver.groups import SKIPPED
 from ..driver.references import ReferenceResolver
 from ..errors.faults import Fault, Refused
-from ..http.batches import read_answers, replace_headers, responses_json
+from ..http.batches import read_answers, responses_json
 from ..http.bodies import to_json
 from ..http.messages import BROKEN, LOG, TIMED_OUT, Answer, Answered, Refusal
 from ..run_parts import Part
@@ -20,8 +19,6 @@ from ._transports import Posted, is_timeout, read_response, to_answer
 
 # The library reads a batch for each part of it. One with more requests is cut into longer parts first, each a batch of its own.
 _MANY = 1_000
-# What is recorded of a request that is left out of a part: neither it nor what depends on it is left then.
-_SETTLED = Answer(400)
 
 
 class Parts:
@@ -56,9 +53,8 @@ class Parts:
         self._resolver = ReferenceResolver(self._run.requests)
         self.answers: dict[str, Answer] = dict.fromkeys(self._groups, SKIPPED)
         self.error: Optional[Exception] = None
-        # The part that is out, as the run gave it and as it is sent, and what those of its requests are answered that cannot be sent.
+        # The part that is out, as the run gave it and as it is sent.
         self._given = self._part = Part(b"", ())
-        self._refused: dict[str, Answer] = {}
         self._is_stopped = False
         count = len(self._groups)
         self._most = limit if count <= max(_MANY, 4 * limit) else math.isqrt(count * limit)
@@ -91,53 +87,42 @@ class Parts:
             try:
                 part = self._run.part(self.document, self._most)
             except Fault as fault:
-                self._refuse_from(int(fault.place.rpartition("/")[2]))
+                self._refuse_from(int(fault.place.rpartition("/")[2]), fault.code)
                 continue
             if part is None:
                 break
             self._given = part
             # In one part the batch is sent as it is.
             self._part = part if len(part.ids) < len(self.answers) else Part(self.document, part.ids)
-            if self._replace_tags():
-                return True
-            self._settle({})
+            return True
         return False
 
-    def _refuse_from(self, position: int) -> None:
-        """Answers the unit of the request at a position, which refers to what has no URL that it may have; in mode continue also the
-        units after it that refer to what has no URL at all, and may begin."""
+    def _refuse_from(self, position: int, code: str) -> None:
+        """Answers the unit of the request at a position, which refers to what has no URL that it may have, or no ETag; in mode continue
+        also the units after it that refer to what was answered without one, and may begin."""
         first, *others = self._run.requests[position:]
-        done = (name for name in self._resolver.referred if self.answers[name].is_success)
-        lacking = {name for name in done if "location" not in self._recorded(name).headers}
-        alike = [request for request in others if request.reference in lacking] if self._mode == "continue" else []
-        for request in (first, *alike):
-            message = f"{request.reference} was answered without a URL that {request.id} may have"
+        pending = {name for name, answer in self.answers.items() if not answer.is_success}
+        tagless = None if code == "F90" else self._refusal_of(first, pending) or self._refusal_of(first, self._units[first.group or first.id])
+        refusals = {first.id: tagless or _no_location(first)}
+        if self._mode == "continue":
+            refusals.update((it.id, refusal) for it in others if (refusal := self._refusal_of(it, pending)))
+        for request_id, refusal in refusals.items():
             with contextlib.suppress(Refused):
-                self._run.start_unit(request.id)
-                for name in self._units[request.group or request.id]:
-                    self.answers[name] = Refusal(424, "NoLocation", message, request.reference).answer
+                self._run.start_unit(request_id)
+                for name in self._units[self._groups[request_id] or request_id]:
+                    self.answers[name] = refusal.answer
                     self._run.report(name, 424)
 
-    def _replace_tags(self) -> bool:
-        """Puts ETags in place of references to requests that the part does not have, and leaves out of it what refers to one that is
-        not there; returns whether something of it is left."""
-        document, ids, self._refused = self._part.document, self._part.ids, {}
-        while True:
-            inside, headers, refused = frozenset(ids), {}, {}
-            for request_id in filter(self._resolver.tagged.__contains__, ids):
-                try:
-                    headers[request_id] = self._resolver.headers(request_id, inside)
-                except Refusal as refusal:
-                    refused.update(dict.fromkeys(self._units[self._groups[request_id] or request_id], refusal.answer))
-            if not refused:
-                break
-            self._refused.update(refused)
-            # In mode stop nothing is sent that comes after it.
-            over = {*(refused if self._mode == "continue" else itertools.dropwhile(lambda name: name not in refused, ids))}
-            document = rest(document, responses_json({name: _SETTLED if name in over else SKIPPED for name in ids}, self._groups))
-            ids = tuple(entry.id for entry in plan(document))
-        self._part = Part(replace_headers(requests(document), headers) if headers else document, self._part.ids)
-        return bool(ids)
+    def _refusal_of(self, request: Request, pending: Collection[str]) -> Optional[Refusal]:
+        """Why a request cannot be sent: it refers to what was answered without a URL or an ETag, and is not pending."""
+        if request.reference and request.reference not in pending and "location" not in self._recorded(request.reference).headers:
+            return _no_location(request)
+        try:
+            if request.id in self._resolver.tagged:
+                self._resolver.headers(request.id, pending)
+        except Refusal as refusal:
+            return refusal
+        return None
 
     def _take(self, answered: Answered) -> None:
         """Takes what the part that is out was answered."""
@@ -169,7 +154,7 @@ class Parts:
     def _settle(self, found: Mapping[str, Answer]) -> None:
         """Notes what the requests of the part that is out were answered, and has the run take it; one without an answer was skipped."""
         for request_id in self._part.ids:
-            answer = self.answers[request_id] = self._refused[request_id] if request_id in self._refused else found.get(request_id, SKIPPED)
+            answer = self.answers[request_id] = found.get(request_id, SKIPPED)
             if request_id in self._resolver.referred and answer.is_success:
                 self._resolver.record(request_id, answer)
         if not self._is_stopped:
@@ -186,3 +171,8 @@ class Parts:
         """Returns the responses to the whole batch, as :func:`~odb_batch.match` accepts them: their statuses, and of
         what others refer to the URL and the ETag."""
         return responses_json({request_id: self._recorded(request_id) for request_id in self.answers}, self._groups)
+
+
+def _no_location(request: Request) -> Refusal:
+    message = f"{request.reference} was answered without a URL that {request.id} may have"
+    return Refusal(424, "NoLocation", message, request.reference)

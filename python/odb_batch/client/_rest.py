@@ -1,20 +1,19 @@
 """The rest of a batch: what failed for now or was skipped, and may be sent again."""
 
 import json
-from typing import Collection, Mapping
+from typing import Mapping
 
 from .. import commands
 from ..documents.requests import Request, requests
 from ..driver.references import CONDITIONS
 from ..errors.faults import Fault
-from ..http.batches import replace_headers
 
 # The headers that were recorded for each request, by its id; their names are in lower case.
 _Recorded = Mapping[str, Mapping[str, str]]
 
 
 def rest_document(batch: bytes, responses: bytes) -> bytes:
-    """Returns the batch that :func:`odb_batch.rest` does, in which references to ETags of what is done are replaced, too.
+    """Returns the batch that :func:`odb_batch.rest` does.
 
     Args:
         batch: The batch.
@@ -27,18 +26,18 @@ def rest_document(batch: bytes, responses: bytes) -> bytes:
             request may have.
         MemoryError: An allocation failed.
     """
-    recorded = {response["id"]: response.get("headers", {}) for response in json.loads(responses)["responses"]}
     try:
-        left = requests(commands.rest(batch, responses))
+        return commands.rest(batch, responses)
     except Fault as fault:
-        if fault.code != "F90":
+        if fault.code not in ("F90", "F91"):
             raise
-        raise ValueError(_describe_missing(requests(batch)[int(fault.place.rpartition("/")[2])], recorded)) from None
-    given = {request.id: request.headers for request in left}
-    return replace_headers(left, {name: _resolve_tags(name, of, given.keys(), recorded) for name, of in given.items()})
+        request = requests(batch)[int(fault.place.rpartition("/")[2])]
+        recorded = {response["id"]: response.get("headers", {}) for response in json.loads(responses)["responses"]}
+        describe = _describe_missing_place if fault.code == "F90" else _describe_missing_tag
+        raise ValueError(describe(request, recorded)) from None
 
 
-def _describe_missing(request: Request, recorded: _Recorded) -> str:
+def _describe_missing_place(request: Request, recorded: _Recorded) -> str:
     """Why the URL of a request of the rest cannot be replaced."""
     place = recorded[str(request.reference)].get("location")
     if place is None:
@@ -46,14 +45,8 @@ def _describe_missing(request: Request, recorded: _Recorded) -> str:
     return f"{request.id} refers to {request.reference}, whose Location cannot be used: {place}{request.rest}"
 
 
-def _resolve_tags(name: str, given: Mapping[str, str], names: Collection[str], recorded: _Recorded) -> dict[str, str]:
-    """The headers of a request of the rest without references to ETags of what is not in it."""
-    headers = dict(given)
-    for condition in CONDITIONS:
-        value = headers.get(condition, "")
-        referred = value[1:]
-        if value.startswith("$") and referred in recorded and referred not in names:
-            if "etag" not in recorded[referred]:
-                raise ValueError(f"{name} refers to {referred}, which was answered without an ETag")
-            headers[condition] = recorded[referred]["etag"]
-    return headers
+def _describe_missing_tag(request: Request, recorded: _Recorded) -> str:
+    """Why a condition of a request of the rest cannot be replaced."""
+    referred = (request.headers.get(name, "").removeprefix("$") for name in CONDITIONS)
+    other = next(name for name in referred if name in recorded and "etag" not in recorded[name])
+    return f"{request.id} refers to {other}, which was answered without an ETag"

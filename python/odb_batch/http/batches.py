@@ -3,7 +3,6 @@
 import contextlib
 import json
 import re
-from dataclasses import replace
 from typing import Any, Iterable, Mapping, Optional
 
 from ..documents.encoding import json_bytes
@@ -34,11 +33,6 @@ def request_json(request: Request) -> bytes:
 def batch_json(elements: Iterable[bytes]) -> bytes:
     """Returns the text of the batch with these requests."""
     return b'{"requests":[%s]}' % b",".join(elements)
-
-
-def replace_headers(given: Iterable[Request], headers: Mapping[str, dict[str, str]]) -> bytes:
-    """Returns the text of the batch with these requests, of which those with these ids have other headers."""
-    return batch_json(request_json(replace(request, headers=headers.get(request.id, request.headers))) for request in given)
 
 
 def responses_json(answers: Mapping[str, Answer], groups: Mapping[str, Optional[str]]) -> bytes:

@@ -145,7 +145,7 @@ def test_the_documents_of_a_client():
     )
     made = b'{"id":"a","status":201,"headers":{"location":"A(1)","etag":"7"}}'
     assert rest(batch, b'{"responses":[{"id":"b","status":504},%s]}' % made) == (
-        b'{"requests":[{"id":"b","method":"put","url":"A(1)/B","headers":{"if-match":"7"},"body":1.50}]}'
+        b'{"requests":[{"body":1.50,"headers":{"if-match":"7"},"id":"b","method":"put","url":"A(1)/B"}]}'
     )
     with pytest.raises(Fault, match="F73 ResponseMissing /requests/1"):
         rest(batch, b'{"responses":[%s]}' % made)
