@@ -19,21 +19,21 @@ import (
 // without further ado, and what depends on a request of a group depends on the group, too. Document returns what is wrong, as a body
 // that is not JSON. One goroutine at a time may use it.
 type Batch struct {
-	elements []element[any]
+	elements []element
 	groups   map[string]string // by the id of each request
 	group    string            // that to which requests are added
 	err      error
 }
 
 // element is a request in the document of a batch.
-type element[Body any] struct {
+type element struct {
 	ID      string            `json:"id"`
 	Group   string            `json:"atomicityGroup,omitempty"`
 	After   []string          `json:"dependsOn,omitempty"`
 	Method  string            `json:"method"`
 	URL     string            `json:"url"`
 	Headers map[string]string `json:"headers,omitempty"`
-	Body    Body              `json:"body,omitempty"`
+	Body    any               `json:"body,omitempty"`
 	given   []string          // what is to be in After
 }
 
@@ -46,11 +46,11 @@ func (r Reference) String() string { return "$" + string(r) }
 type Group string
 
 // With is an option of a request: After, Header, IfMatch or ID.
-type With func(*element[any])
+type With func(*element)
 
 // After adds dependencies: each a Reference, a Group, or the name of one.
 func After(named ...any) With {
-	return func(e *element[any]) {
+	return func(e *element) {
 		for _, it := range named {
 			e.given = append(e.given, strings.TrimPrefix(fmt.Sprint(it), "$"))
 		}
@@ -59,14 +59,14 @@ func After(named ...any) With {
 
 // Header sets a header.
 func Header(name, value string) With {
-	return func(e *element[any]) { e.Headers[strings.ToLower(name)] = value }
+	return func(e *element) { e.Headers[strings.ToLower(name)] = value }
 }
 
 // IfMatch has a request performed only if the entity has the ETag that another request was answered.
 func IfMatch(request Reference) With { return Header("if-match", request.String()) }
 
 // ID gives a request an id; without it that is its number in the batch.
-func ID(id string) With { return func(e *element[any]) { e.ID = id } }
+func ID(id string) With { return func(e *element) { e.ID = id } }
 
 // Get adds a GET.
 func (b *Batch) Get(url any, with ...With) Reference { return b.Add("GET", url, nil, with...) }
@@ -86,7 +86,7 @@ func (b *Batch) Delete(url any, with ...With) Reference { return b.Add("DELETE",
 // Add adds a request. The URL is a string, or the Reference to a request; the body is bytes as they are on the wire, or a value
 // that Document writes by encoding/json, or nil for none. Bytes are JSON, unless a Content-Type says otherwise.
 func (b *Batch) Add(method string, url, body any, with ...With) Reference {
-	e := element[any]{ID: strconv.Itoa(len(b.elements) + 1), Method: strings.ToLower(method), URL: fmt.Sprint(url), Group: b.group,
+	e := element{ID: strconv.Itoa(len(b.elements) + 1), Method: strings.ToLower(method), URL: fmt.Sprint(url), Group: b.group,
 		Headers: map[string]string{}}
 	for _, option := range with {
 		option(&e)
@@ -111,7 +111,7 @@ func (b *Batch) Add(method string, url, body any, with ...With) Reference {
 var firstSegment = regexp.MustCompile("^[^/?#]*")
 
 // references returns the ids of the requests to which a request refers by its URL and its conditions.
-func (b *Batch) references(e *element[any]) (ids []string) {
+func (b *Batch) references(e *element) (ids []string) {
 	segment, _ := url.PathUnescape(firstSegment.FindString(e.URL))
 	for _, text := range []string{segment, e.Headers["if-match"], e.Headers["if-none-match"]} {
 		if _, known := b.groups[strings.TrimPrefix(text, "$")]; known && strings.HasPrefix(text, "$") {
@@ -122,7 +122,7 @@ func (b *Batch) references(e *element[any]) (ids []string) {
 }
 
 // depend adds dependencies, each once, and the groups of what is in one.
-func (b *Batch) depend(e *element[any], after []string) {
+func (b *Batch) depend(e *element, after []string) {
 	for _, name := range after {
 		if name != "" && name != e.Group && !isOne(name, e.After, nil) {
 			e.After = append(e.After, name)
@@ -147,7 +147,7 @@ func (b *Batch) Document() ([]byte, error) {
 	if b.err != nil {
 		return nil, b.err
 	}
-	return encoded(map[string]any{"requests": append([]element[any]{}, b.elements...)})
+	return encoded(map[string]any{"requests": append([]element{}, b.elements...)})
 }
 
 // Result is what a request was answered; 424 if it was not sent.
@@ -183,37 +183,15 @@ func (r *Results) All() (found []Result) {
 	return found
 }
 
-// Rest returns the document of what failed for now and may be sent again, for Send; nil if nothing may. The error is a *Fault, F90, if
-// something of it refers to a request that was answered without a Location, and a *Refusal if that was answered without an ETag.
+// Rest returns the document of what failed for now and may be sent again, for Send; nil if nothing may. The error is a *Fault if
+// something of it refers to a request that was answered without a Location, F90, or without an ETag, F91.
 func (r *Results) Rest() ([]byte, error) {
 	text, _ := encoded(map[string]any{"responses": r.All()})
 	text, err := Rest(r.document, text, Continue)
 	if err != nil || string(text) == `{"requests":[]}` {
 		return nil, err
 	}
-	return r.tagged(text)
-}
-
-// tagged returns a batch of some of the requests with ETags in place of references to others that have succeeded.
-func (r *Results) tagged(text []byte) ([]byte, error) {
-	var batch struct {
-		Requests []element[json.RawMessage] `json:"requests"`
-	}
-	if err := json.Unmarshal(text, &batch); err != nil || !bytes.Contains(text, []byte(`"$`)) {
-		return text, err
-	}
-	inside := map[string]bool{}
-	for _, it := range batch.Requests {
-		inside[it.ID] = true
-		err := tag(it.Headers, func(id string) (string, bool) {
-			other := r.answers[id]
-			return other.Headers["etag"], other.OK() && !inside[id]
-		})
-		if err != nil {
-			return nil, err
-		}
-	}
-	return encoded(batch)
+	return text, nil
 }
 
 // Client posts batches to a service. All but its URL may be left out. Any number of goroutines may use one.
@@ -245,9 +223,6 @@ func (c Client) Send(ctx context.Context, document []byte) (*Results, error) {
 	}
 	for {
 		part, ids, err := run.Part(c.Limit)
-		if err == nil {
-			part, err = r.tagged(part)
-		}
 		if err != nil || len(ids) == 0 {
 			return r, err
 		}

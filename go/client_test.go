@@ -159,7 +159,7 @@ func TestSendsInParts(t *testing.T) {
 
 // What refers to what no answer has is not sent, nor what comes after it.
 func TestReferencesThatNoAnswerHas(t *testing.T) {
-	for more, wanted := range map[string]string{`"$a/x"`: "F90", `"B","headers":{"If-Match":"$a"}`: "NoETag"} {
+	for more, wanted := range map[string]string{`"$a/x"`: "F90", `"B","headers":{"If-Match":"$a"}`: "F91"} {
 		url, came := posts(t, func(part int, ids []string) (int, string) { return 200, all(ids, 200, "") })
 		document := `{"requests":[{"id":"a","method":"post","url":"A"},
 {"id":"b","method":"get","url":` + more + `,"dependsOn":["a"]},{"id":"c","method":"get","url":"C","dependsOn":["b"]}]}`

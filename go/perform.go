@@ -297,7 +297,7 @@ func (p *performance) prepared(id string) (*Request, error) {
 	url, err := p.resolved(request.Rest, p.sent[to.ID], place(p.headers[to.ID]), to.Method == "POST")
 	if err == nil {
 		request.URL, p.sent[id], request.Headers = url, url, joined(request.Headers)
-		err = tag(request.Headers, func(id string) (string, bool) { return p.headers[id]["etag"], p.run.Request(id) != nil })
+		err = p.tag(request.Headers)
 	}
 	if err != nil {
 		return nil, err
@@ -309,15 +309,15 @@ func (p *performance) prepared(id string) (*Request, error) {
 	return &request, err
 }
 
-// tag puts ETags in place of $ and an id in the conditions of a request; without one it is refused. etagOf returns the ETag that
-// a request was answered, and whether it takes the place of that.
-func tag(headers map[string]string, etagOf func(id string) (etag string, isReplaced bool)) error {
+// tag puts ETags in place of $ and an id in the conditions of a request; without one it is refused.
+func (p *performance) tag(headers map[string]string) error {
 	for _, name := range conditions {
 		id := strings.TrimPrefix(headers[name], "$")
-		if etag, isReplaced := etagOf(id); isReplaced && id != headers[name] {
-			if headers[name] = etag; etag == "" {
-				return &Refusal{Status: 424, Code: "NoETag", Message: id + " was answered without an ETag", Target: id}
-			}
+		if id == headers[name] || p.run.Request(id) == nil {
+			continue
+		}
+		if headers[name] = p.headers[id]["etag"]; headers[name] == "" {
+			return &Refusal{Status: 424, Code: "NoETag", Message: id + " was answered without an ETag", Target: id}
 		}
 	}
 	return nil

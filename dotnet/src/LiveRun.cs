@@ -106,13 +106,13 @@ namespace OdbBatch {
         internal uint TryStartUnit(string id) { uint position = PositionOf(id); lock (gate) return Native.odb_run_start_unit(handle, position); }
 
         /// <summary>The next part of the batch: requests that may be sent together as a batch of their own, and none of which was in a part
-        /// before. What they depend on is in the part or has succeeded; in a URL $a is replaced by the Location that was reported for a, and the
-        /// part ends before the first unit for which there is none. Once it is answered, start its units by <see cref="StartUnit"/>, in order,
+        /// before. What they depend on is in the part or has succeeded; in a URL $a is replaced by the Location that was reported for a, in
+        /// If-Match or If-None-Match by the ETag, and the part ends before the first unit for which there is none. Once it is answered, start its units by <see cref="StartUnit"/>, in order,
         /// and report their requests.</summary>
         /// <param name="limit">How many requests it may have, from 1 to 10,000.</param>
         /// <returns>The ids and the document; of no ids if nothing may be sent now.</returns>
-        /// <exception cref="FaultException">F90: no Location of use was reported for the first unit that may begin: start and report that
-        /// one.</exception>
+        /// <exception cref="FaultException">No Location of use, F90, or no ETag, F91, was reported for the first unit that may begin: start and
+        /// report that one.</exception>
         /// <exception cref="ArgumentException">A group has more requests than the limit.</exception>
         public (IReadOnlyList<string> Ids, byte[] Document) NextPart(int limit = Odb.MaxWidth) {
             lock (gate) {

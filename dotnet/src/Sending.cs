@@ -25,7 +25,8 @@ namespace OdbBatch.Client {
 
         /// <summary>The document of what failed for now and may be sent again (429, 503 and 424; also 408, 502 and 504 of a GET, PUT or
         /// DELETE), with the same ids; one of no requests if nothing may.</summary>
-        /// <exception cref="FaultException">F90: a request refers to one that was answered without a Location of use.</exception>
+        /// <exception cref="FaultException">A request refers to one that was answered without a Location of use, F90, or without an ETag,
+        /// F91.</exception>
         public byte[] ToRest() => rest();
 
         /// <inheritdoc/>
@@ -36,14 +37,12 @@ namespace OdbBatch.Client {
     /// <summary>A batch on its way in parts, which the library cuts. It reads the batch for each part, so one with many requests is cut into
     /// longer parts first, each a batch of its own.</summary>
     internal sealed class Sending : IDisposable {
-        // The Location that the run has for a request without one of use: what refers to it is not sent.
-        private const string NoPlace = "urn:odb_batch:no-location";
-
         private readonly Document document;
         private readonly LiveRun run;
         private readonly RunMode mode;
         private readonly int limit, most;
         private readonly HashSet<string> referred;
+        private readonly ILookup<string, BatchRequest> units;
         private readonly Dictionary<string, BatchAnswer> answers;
         private readonly Dictionary<string, (string Place, string Tag)> found = new Dictionary<string, (string, string)>();
         private Exception error;
@@ -55,21 +54,49 @@ namespace OdbBatch.Client {
             referred = References.ReferredBy(run.Requests);
             answers = run.Ids.ToDictionary(it => it, it => new BatchAnswer(424)); // until they are answered
             most = run.Ids.Count <= Math.Max(1000, 4 * limit) ? limit : (int)Math.Sqrt((double)run.Ids.Count * limit);
-            if (run.Requests.GroupBy(it => it.Group ?? it.Id).Any(it => it.Count() > limit)) throw new ArgumentException("a group has more requests than the limit of " + limit, nameof(limit));
+            units = run.Requests.ToLookup(it => it.Group ?? it.Id);
+            if (units.Any(it => it.Count() > limit)) throw new ArgumentException("a group has more requests than the limit of " + limit, nameof(limit));
         }
 
         public void Dispose() { run.Dispose(); }
 
         internal async Task<BatchResults> AllAsync(Func<byte[], Task<BatchAnswer>> post, CancellationToken cancellation) {
-            for (var part = run.NextPart(most); part.Ids.Count > 0; part = run.NextPart(most)) {
+            for (var part = NextPart(); part.Ids.Count > 0; part = NextPart()) {
                 var answered = new Dictionary<string, BatchAnswer>();
-                byte[] sent = part.Ids.Count == run.Ids.Count ? document.Bytes : Rewritten(part.Document, answered);
-                if (sent != null) await (part.Ids.Count > limit ? InPartsAsync(sent, post, answered, cancellation) : ExchangeAsync(sent, post, answered, cancellation)).ConfigureAwait(false);
+                byte[] sent = part.Ids.Count == run.Ids.Count ? document.Bytes : part.Document;
+                await (part.Ids.Count > limit ? InPartsAsync(sent, post, answered, cancellation) : ExchangeAsync(sent, post, answered, cancellation)).ConfigureAwait(false);
                 foreach (var it in answered) answers[it.Key] = it.Value;
                 foreach (var unit in part.Ids.Select(run.GetRequest).GroupBy(it => it.Group ?? it.Id)) Take(unit.ToArray());
                 if (isOver) run.Stop();
             }
             return new BatchResults(run.Ids, answers, Rest, error);
+        }
+
+        /// <summary>The next part. What refers to an answer without a URL of use or an ETag is answered 424, and is in none.</summary>
+        private (IReadOnlyList<string> Ids, byte[] Document) NextPart() {
+            while (true) {
+                try { return run.NextPart(most); } catch (FaultException problem) {
+                    int first = int.Parse(problem.Fault.Place.Substring(problem.Fault.Place.LastIndexOf('/') + 1), System.Globalization.CultureInfo.InvariantCulture);
+                    Refuse(run.Requests[first], problem.Code == "F90" ? "NoLocation" : "NoETag");
+                    if (mode == RunMode.Continue) foreach (var it in run.Requests.Skip(first + 1)) if (LackOf(it) is string code) Refuse(it, code);
+                }
+            }
+        }
+
+        /// <summary>What a request refers to that was answered without it, or null.</summary>
+        private string LackOf(BatchRequest request) {
+            if (request.Reference != null && found.TryGetValue(request.Reference, out var at) && at.Place == null) return "NoLocation";
+            return References.Conditions.Any(name => References.TagIn(request, name) is string other && found.TryGetValue(other, out var of) && of.Tag == null) ? "NoETag" : null;
+        }
+
+        /// <summary>Answers the unit of a request that cannot be sent, if it may start.</summary>
+        private void Refuse(BatchRequest request, string code) {
+            if (run.TryStartUnit(request.Id) != Native.Done) return;
+            var refusal = new RefusalException(424, code, "What " + request.Id + " refers to was answered without " + (code == "NoETag" ? "an ETag" : "a URL of use"));
+            foreach (var it in units[request.Group ?? request.Id]) {
+                answers[it.Id] = refusal.Answer;
+                run.Report(it.Id, 424);
+            }
         }
 
         private async Task InPartsAsync(byte[] sent, Func<byte[], Task<BatchAnswer>> post, Dictionary<string, BatchAnswer> answered, CancellationToken cancellation) {
@@ -106,7 +133,7 @@ namespace OdbBatch.Client {
             int least = unit.Select(it => answers[it.Id]).Where(it => !it.IsSuccess).Select(it => it.Status).DefaultIfEmpty(424).Min();
             foreach (var it in unit) {
                 int status = answers[it.Id].Status == 424 ? least : answers[it.Id].Status;
-                run.Report(it.Id, status >= 200 ? status : 502, new Dictionary<string, string> { ["location"] = found.TryGetValue(it.Id, out var at) ? at.Place ?? NoPlace : NoPlace });
+                run.Report(it.Id, status >= 200 ? status : 502, Recorded(it.Id));
             }
         }
 
@@ -121,44 +148,20 @@ namespace OdbBatch.Client {
             return (isOfUse ? place : null, tag);
         }
 
-        /// <summary>A document as it is sent, with ETags in place of references to other parts. A request that refers to what was answered
-        /// without a URL or an ETag is left out, with what depends on it. Null if nothing is left.</summary>
-        private byte[] Rewritten(byte[] part, Dictionary<string, BatchAnswer> refused) {
-            var requests = Odb.Requests(part);
-            var inside = new HashSet<string>(requests.Select(it => it.Id));
-            if (!requests.Any(it => it.Url.StartsWith(NoPlace, StringComparison.Ordinal) || Elsewhere(it, inside).Any())) return part;
-            var dropped = new HashSet<string>();
-            foreach (var it in requests) {
-                if (mode == RunMode.Stop && dropped.Count > 0) dropped.Add(it.Group ?? it.Id); // a service that stops does not come to it
-                bool hasPlace = !it.Url.StartsWith(NoPlace, StringComparison.Ordinal);
-                if (hasPlace && Elsewhere(it, inside).All(name => found[References.TagIn(it, name)].Tag != null)) continue;
-                refused[it.Id] = new RefusalException(424, hasPlace ? "NoETag" : "NoLocation", "What it refers to was answered without " + (hasPlace ? "an ETag" : "a URL of use")).Answer;
-                dropped.Add(it.Group ?? it.Id);
-            }
-            for (int before = -1; before != dropped.Count;) {
-                before = dropped.Count;
-                foreach (var it in requests) if (dropped.Contains(it.Group ?? it.Id) || it.Needs.Any(dropped.Contains)) dropped.UnionWith(new[] { it.Id, it.Group ?? it.Id });
-            }
-            var kept = requests.Where(it => !dropped.Contains(it.Id)).Select(it => Rewritten(it, inside)).ToArray();
-            return kept.Length == 0 ? null : Batch.DocumentOf(kept);
+        /// <summary>The URL and the ETag of what a request has created or returned, as headers.</summary>
+        private Dictionary<string, string> Recorded(string id) {
+            var headers = new Dictionary<string, string>();
+            if (!found.TryGetValue(id, out var at)) return headers;
+            if (at.Place != null) headers["location"] = at.Place;
+            if (at.Tag != null) headers["etag"] = at.Tag;
+            return headers;
         }
-
-        private byte[] Rewritten(BatchRequest request, HashSet<string> inside) {
-            var headers = request.Headers.ToDictionary(it => it.Key, it => it.Value);
-            foreach (string name in Elsewhere(request, inside)) headers[name] = found[References.TagIn(request, name)].Tag;
-            return Batch.Element(request.Id, request.Group, request.Needs, request.Method, request.Url, headers, request.Body);
-        }
-
-        /// <summary>The conditions that refer to a request that is answered, and not in the same part.</summary>
-        private IEnumerable<string> Elsewhere(BatchRequest request, HashSet<string> inside) =>
-            References.Conditions.Where(name => References.TagIn(request, name) is string other && !inside.Contains(other) && found.ContainsKey(other));
 
         /// <summary>What may be sent again, with references to what is done replaced.</summary>
         private byte[] Rest() {
             var responses = run.Requests.Select(it => "{\"id\":" + Json.Quoted(it.Id) + ",\"status\":" + answers[it.Id].Status
-                + (it.Group == null ? "" : ",\"atomicityGroup\":" + Json.Quoted(it.Group))
-                + (found.TryGetValue(it.Id, out var at) && at.Place != null ? ",\"headers\":{\"location\":" + Json.Quoted(at.Place) + "}}" : "}"));
-            return Rewritten(Odb.Rest(document, "{\"responses\":[" + string.Join(",", responses) + "]}"), new Dictionary<string, BatchAnswer>()) ?? Batch.DocumentOf(new byte[0][]);
+                + (it.Group == null ? "" : ",\"atomicityGroup\":" + Json.Quoted(it.Group)) + ",\"headers\":" + Json.Object(Recorded(it.Id)) + "}");
+            return Odb.Rest(document, "{\"responses\":[" + string.Join(",", responses) + "]}");
         }
     }
 }

@@ -93,16 +93,16 @@ public final class BatchClient {
             Exception error = null;
             try {
                 for (Optional<LiveRun.Part> part; error == null && (part = run.part(limit)).isPresent();) { error = sent(run, part.get(), found); }
-            } catch (FaultException | IllegalStateException unsent) {
+            } catch (FaultException unsent) {
                 error = unsent; // a request refers to a part that was answered without a Location or an ETag
             }
-            return new BatchResults(found, error, () -> withTags(Odb.rest(document, responses(run.requests(), found), Mode.CONTINUE), found));
+            return new BatchResults(found, error, () -> Odb.rest(document, responses(run.requests(), found), Mode.CONTINUE));
         }
     }
 
     /** Sends a part, and takes what its requests are answered; returns why nothing more is sent. */
     private Exception sent(LiveRun run, LiveRun.Part part, Map<String, Answer> found) {
-        byte[] document = withTags(part.document(), found);
+        byte[] document = part.document();
         Exception error;
         Answer inPlace;
         try {
@@ -127,17 +127,24 @@ public final class BatchClient {
     private static void take(LiveRun run, String id, Answer answer, Map<String, Answer> found) {
         found.put(id, answer);
         if (run.state(id) != LiveRun.State.RUNNING && run.tryStartUnit(id) != OdbLibrary.DONE) { return; }
-        Map<String, String> headers = References.locationOf(answer.headers()).map(place -> Map.of("location", place)).orElse(null);
-        run.report(id, answer.status() < 200 ? 502 : answer.status(), headers, null);
+        Map<String, String> headers = recorded(answer);
+        run.report(id, answer.status() < 200 ? 502 : answer.status(), headers.isEmpty() ? null : headers, null);
     }
 
-    /** A response document with statuses and Locations. */
+    /** The Location and the ETag of an answer, to which others may refer. */
+    private static Map<String, String> recorded(Answer answer) {
+        Map<String, String> headers = new TreeMap<>();
+        References.locationOf(answer.headers()).ifPresent(place -> headers.put("location", place));
+        if (answer.headers().containsKey("etag")) { headers.put("etag", answer.headers().get("etag")); }
+        return headers;
+    }
+
+    /** A response document with statuses, Locations and ETags. */
     private static byte[] responses(List<Odb.Request> requests, Map<String, Answer> found) {
         return Bodies.joined(requests.stream().map(it -> {
             Answer answer = found.get(it.id());
             String group = it.group().map(name -> ",\"atomicityGroup\":" + Bodies.quoted(name)).orElse("");
-            String headers = References.locationOf(answer.headers()).map(place -> ",\"headers\":" + Bodies.object(Map.of("location", place))).orElse("");
-            return "{\"id\":" + Bodies.quoted(it.id()) + group + ",\"status\":" + (answer.status() < 200 ? 502 : answer.status()) + headers + "}";
+            return "{\"id\":" + Bodies.quoted(it.id()) + group + ",\"status\":" + (answer.status() < 200 ? 502 : answer.status()) + ",\"headers\":" + Bodies.object(recorded(answer)) + "}";
         }).collect(Collectors.joining(",", "{\"responses\":[", "]}")));
     }
 
@@ -146,27 +153,5 @@ public final class BatchClient {
         headers.forEach(request::setHeader);
         if (mode == Mode.CONTINUE) { request.header("prefer", "continue-on-error"); }
         return PreparedRequest.exchange(client, request, timeout);
-    }
-
-    /**
-     * A document in which references to ETags of what it has not are replaced, by the answers so far.
-     *
-     * @throws IllegalStateException one was answered without an ETag
-     */
-    static byte[] withTags(byte[] document, Map<String, Answer> found) {
-        List<Odb.Request> requests = Odb.requests(document);
-        Set<String> elsewhere = new HashSet<>(found.keySet());
-        requests.forEach(it -> elsewhere.remove(it.id()));
-        if (requests.stream().allMatch(it -> References.tags(it.headers(), elsewhere).isEmpty())) { return document; }
-        List<byte[]> elements = new ArrayList<>();
-        for (Odb.Request it : requests) {
-            Map<String, String> headers = it.headers();
-            References.tags(headers, elsewhere).forEach((name, other) -> {
-                headers.put(name, found.get(other).headers().get("etag"));
-                if (headers.get(name) == null) { throw new IllegalStateException(it.id() + " refers to " + other + ", which was answered without an ETag"); }
-            });
-            elements.add(Batch.element(it.id(), it.group().orElse(null), it.needs(), it.method(), it.url(), headers, it.body()));
-        }
-        return Batch.document(elements);
     }
 }

@@ -67,8 +67,7 @@ public final class BatchResults {
      * What may be sent again, as a batch of its own: what was refused for now or not sent, and reads without an answer.
      *
      * @return a document; one without requests if nothing may
-     * @throws FaultException a request refers to one that was answered without a Location of use (F90)
-     * @throws IllegalStateException a request refers to the ETag of one that was answered without one
+     * @throws FaultException a request refers to one that was answered without a Location of use (F90) or without an ETag (F91)
      */
     public byte[] rest() { return rest.get(); }
 }

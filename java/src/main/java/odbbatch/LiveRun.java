@@ -180,11 +180,11 @@ public final class LiveRun implements AutoCloseable {
     /**
      * The next part of the batch: requests that were in none before, and that depend on what is in it or has succeeded. Once it is answered,
      * start its units one after another by {@link #startUnit}, and report their requests. A reference to an earlier part is replaced by
-     * the Location that was reported; the part ends before the first unit for which there is none.
+     * the Location or the ETag that was reported; the part ends before the first unit for which there is none.
      *
      * @param limit how many requests it may have, from 1
      * @return the part; none if nothing may be sent now
-     * @throws FaultException no Location of use was reported for the first unit that may begin (F90): start and report that one
+     * @throws FaultException no Location of use (F90) or no ETag (F91) was reported for the first unit that may begin: start and report it
      * @throws IllegalArgumentException a group has more requests than the limit
      */
     public Optional<Part> part(int limit) {

@@ -275,7 +275,7 @@ public final class Odb {
      * @param responses the response document
      * @param mode as in match
      * @return a batch; one without requests if nothing may
-     * @throws FaultException a document is refused, they do not fit, or a Location is missing (F90)
+     * @throws FaultException a document is refused, they do not fit, or a Location (F90) or an ETag (F91) is missing
      */
     public static byte[] rest(byte[] batch, byte[] responses, Mode mode) {
         return writeOver(batch, responses, (text, room, length) -> odb_rest(some(batch), batch.length,

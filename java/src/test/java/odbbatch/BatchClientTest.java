@@ -295,8 +295,8 @@ class BatchClientTest {
         batch.delete("B").ifMatch(first).add();
         BatchResults results = client.limit(1).send(batch);
         assertEquals("{1=200, 2=424}", shown(results));
-        assertEquals("2 refers to 1, which was answered without an ETag", results.error().get().getMessage());
-        assertThrows(IllegalStateException.class, results::rest);
+        assertEquals("F91", ((FaultException) results.error().get()).code());
+        assertEquals("F91", assertThrows(FaultException.class, results::rest).code());
     }
 
     @Test
