@@ -10,7 +10,7 @@ const { asBytes, kindName, toHeaderObject } = require('../documents/bytes.js')
 const { Fault } = require('../errors/faults.js')
 const { isJson, mediaType, toJson } = require('../http/bodies.js')
 const { foldHeaders, validateAnswer } = require('../http/messages.js')
-const { OF_ETAGS } = require('../http/references.js')
+const { CONDITIONS } = require('../http/references.js')
 const { firstSegment } = require('../http/urls.js')
 const { CONSTANTS } = require('../library/constants.js')
 const { Parts } = require('./parts.js')
@@ -92,7 +92,7 @@ function bodyText(body, headers) {
 
 /** What follows a `$` at the beginning of a URL and of conditions. */
 function findReferences(url, headers) {
-  const values = [firstSegment(url), ...OF_ETAGS.map((name) => headers[name] ?? '')]
+  const values = [firstSegment(url), ...CONDITIONS.map((name) => headers[name] ?? '')]
   return values.filter((value) => value.startsWith('$')).map((value) => value.slice(1))
 }
 

@@ -11,7 +11,7 @@ const { Fault, Refused } = require('../errors/faults.js')
 const { Refusal, badGateway, toRefusal } = require('../errors/refusals.js')
 const { isSuccess } = require('../http/messages.js')
 const { skipMark } = require('../http/bodies.js')
-const { References } = require('../http/references.js')
+const { ReferenceResolver } = require('../http/references.js')
 
 // What a request is answered that was not sent, or left out by a service that stops.
 const SKIPPED = { status: 424, headers: {}, body: Buffer.alloc(0) }
@@ -59,7 +59,7 @@ class Parts {
   // The unit of each request, which is its group or its id, and the ids of each unit.
   #unitOf
   #units = new Map()
-  #references
+  #resolver
   // The part that is out, as the run gave it and as it is sent.
   #given
   #part
@@ -79,7 +79,7 @@ class Parts {
     requireLimit(limit, this.#units)
     const count = requests.length
     this.#most = count <= Math.max(MANY, 4 * limit) ? limit : Math.floor(Math.sqrt(count * limit))
-    this.#references = new References(requests)
+    this.#resolver = new ReferenceResolver(requests)
     this.answers = new Map(requests.map(({ id }) => [id, SKIPPED]))
   }
 
@@ -163,7 +163,7 @@ class Parts {
     const { id, reference } = request
     if (reference !== null && !pending.has(reference) && this.#recorded(reference).headers.location === undefined) return noLocation(request)
     try {
-      this.#references.headers(id, pending)
+      this.#resolver.headers(id, pending)
     } catch (error) {
       if (error instanceof Refusal) return error
       throw error
@@ -219,7 +219,7 @@ class Parts {
     for (const id of ids) {
       const answer = found.get(id) ?? SKIPPED
       this.answers.set(id, answer)
-      if (isSuccess(answer) && this.#references.referred.has(id)) this.#references.keep(id, answer.headers, answer.body)
+      if (isSuccess(answer) && this.#resolver.referred.has(id)) this.#resolver.record(id, answer.headers, answer.body)
     }
     if (!this.#isStopped) this.#run.take(this.#given, { responses: ids.map((id) => this.#recorded(id)) }, { mode: this.#mode })
   }
@@ -227,7 +227,7 @@ class Parts {
   /** The response to a request, with the URL and the ETag of what others refer to as headers. */
   #recorded(id) {
     const { status } = this.answers.get(id)
-    return { id, status, atomicityGroup: this.#groupOf(id), headers: this.#references.recorded(id) }
+    return { id, status, atomicityGroup: this.#groupOf(id), headers: this.#resolver.recorded(id) }
   }
 
   /** The responses to the whole batch, as `match` accepts them: statuses, and of what others refer to the URL and the ETag. */

@@ -5,7 +5,7 @@
 const { rest } = require('../calls/commands.js')
 const { requests } = require('../calls/requests.js')
 const { Fault } = require('../errors/faults.js')
-const { OF_ETAGS } = require('../http/references.js')
+const { CONDITIONS } = require('../http/references.js')
 
 /** Why the URL of a request of the rest cannot be replaced. */
 function describeMissingPlace({ id, reference, rest }, recorded) {
@@ -16,7 +16,7 @@ function describeMissingPlace({ id, reference, rest }, recorded) {
 
 /** Why a condition of a request of the rest cannot be replaced. */
 function describeMissingTag({ id, headers }, recorded) {
-  const referred = OF_ETAGS.map((name) => headers[name]?.replace(/^\$/, ''))
+  const referred = CONDITIONS.map((name) => headers[name]?.replace(/^\$/, ''))
   const other = referred.find((name) => recorded.has(name) && recorded.get(name).etag === undefined)
   return `${id} refers to ${other}, which was answered without an ETag`
 }

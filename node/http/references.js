@@ -7,7 +7,7 @@ const { readEntity: entityOf, toWire } = require('./bodies.js')
 const { targetsOf } = require('./targets.js')
 
 // In these headers `$` and an id stand for the ETag that the request was answered (OData JSON Format 4.01, section 19.3).
-const OF_ETAGS = ['if-match', 'if-none-match']
+const CONDITIONS = ['if-match', 'if-none-match']
 
 const PLACES = ['location', 'odata-entityid']
 const PLACES_IN_BODY = ['@id', '@odata.id']
@@ -44,7 +44,7 @@ function foundBy(call) {
   }
 }
 
-class References {
+class ReferenceResolver {
   #requests
   #targets
   /** The ids of the requests that others refer to. */
@@ -57,7 +57,7 @@ class References {
   constructor(requests, base, roots) {
     this.#targets = targetsOf(base, roots)
     this.#requests = new Map(requests.map((request) => [request.id, request]))
-    this.referred = new Set(requests.flatMap(({ reference, headers }) => [reference, ...this.#tagged(headers).map(([, id]) => id)]))
+    this.referred = new Set(requests.flatMap(({ reference, headers }) => [reference, ...this.#tagsIn(headers).map(([, id]) => id)]))
   }
 
   /** The request with an id, as it is in the batch. */
@@ -66,7 +66,7 @@ class References {
   }
 
   /** Keeps what a request was answered to which others refer: its headers, and the JSON of its body. */
-  keep(id, headers, text) {
+  record(id, headers, text) {
     this.#answers.set(id, { headers, text })
     this.#urlOf(id)
   }
@@ -74,7 +74,7 @@ class References {
   /** What others may refer to of what a request was answered, as headers: its URL and its ETag, where it has them. */
   recorded(id) {
     if (!this.#answers.has(id)) return {}
-    const [location, etag] = [() => this.#below(id, ''), () => this.#tagOf(id)].map(foundBy)
+    const [location, etag] = [() => this.#below(id, ''), () => this.#etag(id)].map(foundBy)
     return { ...(location !== undefined && { location }), ...(etag !== undefined && { etag }) }
   }
 
@@ -102,7 +102,7 @@ class References {
   headers(id, kept = NONE) {
     const { headers } = this.of(id)
     const found = { ...headers }
-    for (const [name, other] of this.#tagged(headers)) if (!kept.has(other)) found[name] = this.#tagOf(other)
+    for (const [name, other] of this.#tagsIn(headers)) if (!kept.has(other)) found[name] = this.#etag(other)
     return found
   }
 
@@ -113,19 +113,19 @@ class References {
   }
 
   /** The headers of a request that refer to an ETag, each with the id that it names. */
-  #tagged(headers) {
-    const pairs = OF_ETAGS.filter((name) => headers[name]?.startsWith('$')).map((name) => [name, headers[name].slice(1)])
+  #tagsIn(headers) {
+    const pairs = CONDITIONS.filter((name) => headers[name]?.startsWith('$')).map((name) => [name, headers[name].slice(1)])
     return pairs.filter(([, id]) => this.#requests.has(id))
   }
 
   /** The URL of what a request has created or returned, and what follows a reference to it. */
   #below(id, rest) {
-    const { place, context } = this.#placeOf(id)
+    const { place, context } = this.#location(id)
     return this.#targets.below(this.url(id), place, context, rest)
   }
 
   /** The URL of what a request has created or returned, if its answer has one, and what that is relative to, if not to its own. */
-  #placeOf(id) {
+  #location(id) {
     const { headers, text } = this.#answers.get(id)
     const inHeaders = textAmong(headers, PLACES)
     if (inHeaders !== undefined) return { place: inHeaders }
@@ -138,7 +138,7 @@ class References {
     return { place, context: textAmong(entity, CONTEXTS) }
   }
 
-  #tagOf(id) {
+  #etag(id) {
     const { headers, text } = this.#answers.get(id) ?? {}
     if (headers === undefined) {
       throw new Refusal(400, 'NoETag', `${id} is not answered yet; it has to be in dependsOn`, { target: id })
@@ -149,4 +149,4 @@ class References {
   }
 }
 
-module.exports = { OF_ETAGS, References }
+module.exports = { CONDITIONS, ReferenceResolver }

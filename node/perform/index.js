@@ -10,7 +10,7 @@ const { Fault } = require('../errors/faults.js')
 const { Refusal, toRefusal } = require('../errors/refusals.js')
 const { validateAnswer } = require('../http/messages.js')
 const { MAX_BODY_BYTES, toJson, toJsonString } = require('../http/bodies.js')
-const { References } = require('../http/references.js')
+const { ReferenceResolver } = require('../http/references.js')
 const { CONSTANTS } = require('../library/constants.js')
 const { GroupTransaction } = require('./group.js')
 
@@ -146,7 +146,7 @@ class Stop {
 class Performer {
   #run
   #requests
-  #references
+  #resolver
   #send
   #settings
   #isStopped = false
@@ -155,7 +155,7 @@ class Performer {
 
   /** `send` is given a request, and the wait for its answer, if that has an end. */
   constructor({ run, requests }, send, settings) {
-    this.#references = new References(requests, settings.base, settings.roots)
+    this.#resolver = new ReferenceResolver(requests, settings.base, settings.roots)
     this.#requests = new Map(requests.map((request) => [request.id, request]))
     this.#run = run
     this.#left = requests.length
@@ -202,7 +202,7 @@ class Performer {
   async answer(id) {
     const { stop, timeout } = this.#settings
     try {
-      const { status, headers, body } = await stop.within(timeout, (wait) => this.#send(this.#references.prepare(id), wait))
+      const { status, headers, body } = await stop.within(timeout, (wait) => this.#send(this.#resolver.prepare(id), wait))
       return { status, headers, text: this.#requireFitting(this.#requests.get(id), toJson(body, headers)) }
     } catch (error) {
       return this.#explain(error, `the request ${id}`)
@@ -212,7 +212,7 @@ class Performer {
   /** Reports what a started request is answered. */
   report(id, { status, headers, text }) {
     this.#reportReadable(id, status, visibleHeaders(headers), text)
-    if (this.#references.referred.has(id)) this.#references.keep(id, headers, text)
+    if (this.#resolver.referred.has(id)) this.#resolver.record(id, headers, text)
     this.#isStopped ||= this.#settings.mode === 'stop' && status >= 400
   }
 
