@@ -2,7 +2,6 @@ using System;
 using System.Collections.Generic;
 using System.Linq;
 using System.Net.Http;
-using System.Text;
 using System.Threading;
 using System.Threading.Tasks;
 
@@ -71,7 +70,7 @@ namespace OdbBatch.Client {
             var given = Messages.Lowered(headers);
             if (body != null && !given.ContainsKey("content-type")) given["content-type"] = "application/json";
             byte[] text = body == null ? null : Bodies.ToJson(BytesOf(body), given);
-            if (text != null && Bodies.IsJson(given)) RequireJson(text);
+            if (text != null && Bodies.IsJson(given) && LiveRun.ReportFault("", text.Length > 0 ? text : (Document)" ") is Fault fault) throw new ArgumentException("the body is not JSON", new FaultException(fault));
             elements.Add(Element(id, open, Needs(url, given, after ?? new Name[0]), method, url, given, text));
             groups[id] = open;
             return new Reference(id);
@@ -79,15 +78,6 @@ namespace OdbBatch.Client {
 
         private byte[] BytesOf(object body) =>
             body as byte[] ?? (body is string text ? Native.Utf8.GetBytes(text) : (Serializer ?? throw new ArgumentException("a body is bytes or a text, or the batch needs a Serializer"))(body));
-
-        /// <summary>Throws unless a text is JSON: a run takes it as the body of a report.</summary>
-        private static void RequireJson(byte[] text) {
-            using (var run = new LiveRun("{\"requests\":[{\"id\":\"a\",\"method\":\"get\",\"url\":\"a\"}]}")) {
-                run.Start("a");
-                try { run.Report("a", 200, null, text.Length > 0 ? text : Native.Utf8.GetBytes(" ")); }
-                catch (FaultException error) { throw new ArgumentException("the body is not JSON", error); }
-            }
-        }
 
         /// <summary>The first name that is free, of a prefix and a number above another one.</summary>
         private string Free(string prefix, int above) => Enumerable.Range(above + 1, int.MaxValue - above - 1).Select(it => prefix + it).First(it => !groups.ContainsKey(it));

@@ -29,10 +29,10 @@ namespace OdbBatch {
         /// accepted.</summary>
         public static IReadOnlyList<Fault> Faults(Document batch) {
             uint status = Native.List(Room(batch), Likely(batch), (byte[] to, ulong room, out ulong length, Native.FoundFault[] items, ulong most, out ulong count) =>
-                Native.odb_faults(batch.At, batch.Size, ref to[0], room, out length, ref items[0], most, out count, Native.Seed), out byte[] text, out Native.FoundFault[] found);
+                Native.odb_faults(batch.At, batch.Size, ref to[0], room, out length, ref items[0], most, out count, Native.Seed), out byte[] text, out Native.FoundFault[] found, out int many);
             if (status != Native.Done && status != Native.Refused) throw Native.Failure(status);
             var words = new Native.Words(text);
-            return found.Select(it => new Fault(words[it.Code], words[it.Name], words[it.Place], () => it.Position)).ToArray();
+            return found.Take(many).Select(it => new Fault(words[it.Code], words[it.Name], words[it.Place], () => it.Position)).ToArray();
         }
 
         /// <summary>The requests of a batch in order, with what each depends on.</summary>
@@ -79,18 +79,18 @@ namespace OdbBatch {
         /// <summary>What is to be sent of each request of a batch, in its order.</summary>
         public static IReadOnlyList<BatchRequest> Requests(Document batch) {
             uint status = Native.List(Room(batch), Likely(batch), (byte[] to, ulong room, out ulong length, Native.Request[] items, ulong most, out ulong count) =>
-                Native.odb_requests(batch.At, batch.Size, ref to[0], room, out length, ref items[0], most, out count, Native.Seed), out byte[] text, out Native.Request[] found);
+                Native.odb_requests(batch.At, batch.Size, ref to[0], room, out length, ref items[0], most, out count, Native.Seed), out byte[] text, out Native.Request[] found, out int many);
             Native.Require(status, text, batch, batch);
-            return BatchRequest.All(found, text, batch.Bytes);
+            return BatchRequest.All(found, many, text, batch.Bytes);
         }
 
         /// <summary>The responses in the document of a service, in its order. They need not fit any batch.</summary>
         public static IReadOnlyList<BatchResponse> Responses(Document document) {
             uint status = Native.List(Room(document), Likely(document), (byte[] to, ulong room, out ulong length, Native.Response[] items, ulong most, out ulong count) =>
-                Native.odb_responses(document.At, document.Size, ref to[0], room, out length, ref items[0], most, out count), out byte[] text, out Native.Response[] found);
+                Native.odb_responses(document.At, document.Size, ref to[0], room, out length, ref items[0], most, out count), out byte[] text, out Native.Response[] found, out int many);
             Native.Require(status, text, document, document);
             var words = new Native.Words(text);
-            return found.Select(it => new BatchResponse(it, words, document.Bytes)).ToArray();
+            return found.Take(many).Select(it => new BatchResponse(it, words, document.Bytes)).ToArray();
         }
 
         /// <summary>What a code means, as F41 or S4: its name and places, what it means, and an example; empty for another text.</summary>

@@ -73,18 +73,22 @@ namespace OdbBatch {
     /// <summary>A request, as the batch has it; or as it is sent: then its URL is absolute and in ASCII, references are replaced, and the body
     /// is bytes on the wire.</summary>
     public sealed class BatchRequest {
-        private BatchRequest(Native.Request it, Native.Words text, byte[] document, BatchRequest[] before, Dictionary<string, IReadOnlyDictionary<string, string>> known) {
-            Id = text[it.Id]; Method = text[it.Method]; Url = text[it.Url]; Group = text[it.Group]; Body = Native.Slice(document, it.Body);
+        private static readonly IReadOnlyDictionary<string, string> Empty = new System.Collections.ObjectModel.ReadOnlyDictionary<string, string>(new Dictionary<string, string>());
+        private static readonly string[] None = new string[0], ByLength = { "", "", "", "GET", "POST", "PATCH", "DELETE" };
+
+        private BatchRequest(int position, Native.Request it, Native.Words text, byte[] document, BatchRequest[] before, Dictionary<string, IReadOnlyDictionary<string, string>> known) {
+            Position = (uint)position; Id = text[it.Id]; Method = text.Like(ByLength[(int)Math.Min(it.Method.Length, 6)], it.Method); Url = text[it.Url]; Group = text[it.Group]; Body = Native.Slice(document, it.Body);
             Reference = it.Reference == Native.None ? null : before[it.Reference].Id;
-            Rest = Reference == null ? Url : text[it.Rest]; Needs = it.Needs.Length == 0 ? new string[0] : text[it.Needs].Split(',');
-            string headers = text[it.Headers]; // which many requests have alike
-            Headers = known.TryGetValue(headers, out var found) ? found : known[headers] = Native.Headers(headers);
+            Rest = Reference == null ? Url : text[it.Rest]; Needs = it.Needs.Length == 0 ? None : text[it.Needs].Split(',');
+            string headers = it.Headers.Length <= 2 ? "{}" : text[it.Headers]; // which many requests have alike
+            Headers = headers == "{}" ? Empty : known.TryGetValue(headers, out var found) ? found : known[headers] = Native.Headers(headers);
         }
 
         internal BatchRequest(BatchRequest of, string url, IReadOnlyDictionary<string, string> headers, byte[] body) {
             Id = of.Id; Method = of.Method; Group = of.Group; Needs = of.Needs; Url = Rest = url; Headers = headers; Body = body;
         }
 
+        internal uint Position { get; }
         /// <summary>Its id.</summary>
         public string Id { get; }
         /// <summary>Its method in upper case.</summary>
@@ -112,11 +116,10 @@ namespace OdbBatch {
             return message;
         }
 
-        internal static BatchRequest[] All(Native.Request[] parts, byte[] text, byte[] document) {
-            var found = new BatchRequest[parts.Length];
-            var known = new Dictionary<string, IReadOnlyDictionary<string, string>> { ["{}"] = new Dictionary<string, string>() };
-            var words = new Native.Words(text);
-            for (int i = 0; i < found.Length; i++) found[i] = new BatchRequest(parts[i], words, document, found, known);
+        internal static BatchRequest[] All(Native.Request[] parts, int count, byte[] text, byte[] document) {
+            var found = new BatchRequest[count]; var words = new Native.Words(text);
+            var known = new Dictionary<string, IReadOnlyDictionary<string, string>>();
+            for (int i = 0; i < found.Length; i++) found[i] = new BatchRequest(i, parts[i], words, document, found, known);
             return found;
         }
     }

@@ -26,7 +26,8 @@ namespace OdbBatch {
         private readonly object gate = new object();
         private readonly RunHandle handle = new RunHandle();
         private readonly Document batch;
-        private readonly Dictionary<string, uint> at = new Dictionary<string, uint>();
+        private readonly Dictionary<string, BatchRequest> byId;
+        private BatchRequest last; // that was asked for, which often is the next one, too
         private readonly uint[] listed;
         private int size;
 
@@ -42,15 +43,12 @@ namespace OdbBatch {
             try {
                 uint status = Native.List(Odb.Room(batch), Odb.Likely(batch), (byte[] to, ulong room, out ulong length, Native.Request[] items, ulong most, out ulong count) =>
                     Native.odb_run_open_requests(batch.At, batch.Size, happened.At, happened.Size, (uint)mode, (uint)width, handle, ref to[0], room, out length, ref items[0], most, out count, Native.Seed),
-                    out byte[] text, out Native.Request[] found);
+                    out byte[] text, out Native.Request[] found, out int many);
                 Native.Require(status, text, batch, happened);
-                Requests = BatchRequest.All(found, text, batch.Bytes);
-            } catch {
-                handle.Dispose(); throw;
-            }
+                Requests = BatchRequest.All(found, many, text, batch.Bytes);
+            } catch { handle.Dispose(); throw; }
             Ids = Requests.Select(it => it.Id).ToArray();
-            foreach (string id in Ids) at[id] = (uint)at.Count;
-            listed = new uint[Ids.Count + 1];
+            byId = Requests.ToDictionary(it => it.Id); listed = new uint[Ids.Count + 1];
         }
 
         private delegate uint Listing(RunHandle run, ref uint positions, ulong most, out ulong count);
@@ -68,7 +66,12 @@ namespace OdbBatch {
         /// <summary>The ids of the requests, in the order of the batch.</summary>
         public IReadOnlyList<string> Ids { get; }
         /// <summary>What is to be sent of a request.</summary>
-        public BatchRequest GetRequest(string id) => Requests[(int)PositionOf(id)];
+        public BatchRequest GetRequest(string id) {
+            BatchRequest it = last;
+            if (it == null || !ReferenceEquals(it.Id, id)) it = byId.TryGetValue(id, out it) ? it : throw new KeyNotFoundException("no request has the id " + id);
+            return last = it;
+        }
+
         /// <summary>Those that may start now, in the order of the batch.</summary>
         public IReadOnlyList<string> GetReady() => List(Native.odb_run_ready, true);
         /// <summary>Those that have started and not reported yet, in the order of the batch.</summary>
@@ -117,10 +120,10 @@ namespace OdbBatch {
         public (IReadOnlyList<string> Ids, byte[] Document) NextPart(int limit = Odb.MaxWidth) {
             lock (gate) {
                 uint status = Native.List(Odb.Room(batch), Ids.Count, (byte[] to, ulong room, out ulong length, uint[] items, ulong most, out ulong count) =>
-                    Native.odb_run_part(handle, batch.At, batch.Size, (uint)limit, ref to[0], room, out length, ref items[0], most, out count, Native.Seed), out byte[] text, out uint[] found);
+                    Native.odb_run_part(handle, batch.At, batch.Size, (uint)limit, ref to[0], room, out length, ref items[0], most, out count, Native.Seed), out byte[] text, out uint[] found, out int many);
                 if (status == Native.WrongOption) throw new ArgumentException("a group has more requests than a part may have, or the bytes of the batch have changed");
                 Native.Require(status, text, batch, batch);
-                return (found.Select(it => Ids[(int)it]).ToArray(), text);
+                return (found.Take(many).Select(it => Ids[(int)it]).ToArray(), text);
             }
         }
 
@@ -135,19 +138,18 @@ namespace OdbBatch {
             uint position = PositionOf(id), end;
             Document heads = headers == null ? (Document)Array.Empty<byte>() : Json.Object(headers), text = body ?? Array.Empty<byte>();
             lock (gate) {
-                end = Native.odb_run_report(handle, position, (uint)status, heads.At, heads.Size, text.At, text.Size);
+                end = Native.odb_run_report(handle, position, (uint)status, ref heads.At[0], heads.Size, ref text.At[0], text.Size);
                 if (end == Native.Done) size += heads.Bytes.Length + text.Bytes.Length;
             }
             if (end == Native.Refused) throw new FaultException(ReportFault(heads, text));
             Settle(end, id);
         }
 
-        /// <summary>Why headers or a body are refused.</summary>
-        private static Fault ReportFault(Document headers, Document body) {
+        /// <summary>Why headers or a body are refused, or null.</summary>
+        internal static Fault ReportFault(Document headers, Document body) {
             uint status = Native.Write(64, (byte[] to, ulong room, out ulong length) =>
                 Native.odb_report_fault(headers.At, headers.Size, body.At, body.Size, ref to[0], room, out length), out byte[] text);
-            Fault fault = Native.FaultIn(status, text, headers, body) ?? throw Native.Failure(status);
-            return Fault.OfRun(fault.Code, fault.Name, "report");
+            return Native.FaultIn(status, text, headers, body) is Fault fault ? Fault.OfRun(fault.Code, fault.Name, "report") : null;
         }
 
         /// <summary>The response document of the finished run.</summary>
@@ -162,7 +164,7 @@ namespace OdbBatch {
         /// <summary>Frees the run. A call that another thread is in ends first.</summary>
         public void Dispose() { handle.Dispose(); }
 
-        private uint PositionOf(string id) => at.TryGetValue(id, out uint position) ? position : throw new KeyNotFoundException("no request has the id " + id);
+        private uint PositionOf(string id) => GetRequest(id).Position;
 
         private static void Settle(uint status, string id) {
             if (status == Native.Refused) throw new FaultException(Fault.OfRun("F66", "Unfinished", "events"));

@@ -9,8 +9,8 @@ using Microsoft.Win32.SafeHandles;
 
 namespace OdbBatch {
     /// <summary>The functions of odb_batch.h. Sizes are ulong: there is no library for processes of 32 bits. Arrays are pinned during a
-    /// call and not copied: those that are read as they are, those that are written by their first element. None may be empty, since the
-    /// library takes no null.</summary>
+    /// call and not copied: those that are read as they are, those that are written, or reported, by their first element, which takes less
+    /// time. None may be empty, since the library takes no null.</summary>
     internal static class Native {
         // libodb_batch.so, odb_batch.dll or libodb_batch.dylib: beside the assembly, or in runtimes/RID/native of the package.
         private const string Library = "odb_batch";
@@ -47,7 +47,7 @@ namespace OdbBatch {
         [DllImport(Library)] internal static extern uint odb_run_start_unit(RunHandle run, uint position);
         [DllImport(Library)] internal static extern uint odb_run_part(RunHandle run, byte[] batch, ulong size, uint limit, ref byte text, ulong room, out ulong length, ref uint positions, ulong most, out ulong count, ulong seed);
         [DllImport(Library)] internal static extern uint odb_run_state(RunHandle run, uint position, out uint state, out uint status);
-        [DllImport(Library)] internal static extern uint odb_run_report(RunHandle run, uint position, uint status, byte[] headers, ulong headersSize, byte[] body, ulong bodySize);
+        [DllImport(Library)] internal static extern uint odb_run_report(RunHandle run, uint position, uint status, ref byte headers, ulong headersSize, ref byte body, ulong bodySize);
         [DllImport(Library)] internal static extern uint odb_run_finished(RunHandle run);
         [DllImport(Library)] internal static extern uint odb_run_response(RunHandle run, ref byte text, ulong room, out ulong length);
         [DllImport(Library)] internal static extern void odb_run_stop(RunHandle run);
@@ -77,16 +77,19 @@ namespace OdbBatch {
 
         /// <summary>Calls a function that writes a text, again if the room was too small.</summary>
         internal static uint Write(int room, Writing call, out byte[] text) =>
-            List(room, 1, (byte[] to, ulong size, out ulong length, byte[] items, ulong most, out ulong count) => { count = 0; return call(to, size, out length); }, out text, out byte[] _);
+            List(room, 1, (byte[] to, ulong size, out ulong length, byte[] items, ulong most, out ulong count) => { count = 0; return call(to, size, out length); }, out text, out byte[] _, out int none);
 
-        /// <summary>The same of one that lists items, too.</summary>
-        internal static uint List<T>(int room, int most, Listing<T> call, out byte[] text, out T[] items) {
+        private static class Kept<T> { [ThreadStatic] internal static T[] Items; }
+
+        /// <summary>The same of one that lists items, too, and of how many of them. The thread uses them again for its next list.</summary>
+        internal static uint List<T>(int room, int most, Listing<T> call, out byte[] text, out T[] items, out int count) {
             for (;;) {
-                text = new byte[Math.Max(room, 1)]; items = new T[Math.Max(most, 1)];
-                uint status = call(text, (ulong)text.Length, out ulong length, items, (ulong)items.Length, out ulong count);
-                room = checked((int)length); most = checked((int)count);
+                text = new byte[Math.Max(room, 1)]; items = Kept<T>.Items != null && most <= Kept<T>.Items.Length ? Kept<T>.Items : new T[Math.Max(most, 1)];
+                if (items.Length <= 256) Kept<T>.Items = items; // to make one takes as long as a short call
+                uint status = call(text, (ulong)text.Length, out ulong length, items, (ulong)items.Length, out ulong listed);
+                room = checked((int)length); count = most = checked((int)listed);
                 if (status == SmallBuffer) continue;
-                Array.Resize(ref text, room); Array.Resize(ref items, most);
+                Array.Resize(ref text, room);
                 return status;
             }
         }
@@ -118,6 +121,10 @@ namespace OdbBatch {
             /// <summary>A part, or null if there is none.</summary>
             internal string this[Part part] => part.Start == None ? null
                 : text.Length == bytes.Length ? text.Substring((int)part.Start, (int)part.Length) : Encoding.UTF8.GetString(bytes, (int)part.Start, (int)part.Length);
+
+            /// <summary>A part as a text that is the same, if another one is, without a copy.</summary>
+            internal string Like(string other, Part part) =>
+                text.Length == bytes.Length && (ulong)other.Length == part.Length && string.CompareOrdinal(text, (int)part.Start, other, 0, other.Length) == 0 ? other : this[part];
         }
 
         /// <summary>The bytes of a part, or null if there is none.</summary>
@@ -126,9 +133,9 @@ namespace OdbBatch {
         /// <summary>The headers in an object of JSON by their names in lower case; null if it is not one of strings.</summary>
         internal static Dictionary<string, string> Headers(Document json) {
             uint status = List(json.Bytes.Length, json.Bytes.Length / 8, (byte[] to, ulong room, out ulong length, Header[] items, ulong most, out ulong count) =>
-                odb_headers(json.At, json.Size, ref to[0], room, out length, ref items[0], most, out count), out byte[] text, out Header[] pairs);
+                odb_headers(json.At, json.Size, ref to[0], room, out length, ref items[0], most, out count), out byte[] text, out Header[] pairs, out int many);
             var words = new Words(text);
-            return status == Done ? pairs.ToDictionary(it => words[it.Name], it => words[it.Value]) : status == Refused ? (Dictionary<string, string>)null : throw Failure(status);
+            return status == Done ? pairs.Take(many).ToDictionary(it => words[it.Name], it => words[it.Value]) : status == Refused ? (Dictionary<string, string>)null : throw Failure(status);
         }
     }
 

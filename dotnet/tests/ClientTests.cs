@@ -166,6 +166,8 @@ public class ClientTests {
     [TestCase(",\"headers\":{\"Location\":\"/C/\"}", "a201 b200 c200", "/C/x/y")]
     [TestCase(",\"headers\":{\"Location\":\"http://host/C?d\"}", "a201 b200 c200", "http://host/C/x/y")]
     [TestCase(",\"headers\":{\"Location\":\"\"}", "a201 b200 c424", null)]
+    [TestCase(",\"headers\":{\"Location\":\"\",\"OData-EntityId\":\"\"}", "a201 b200 c424", null)]
+    [TestCase(",\"headers\":{\"Location\":\"\",\"OData-EntityId\":\"/C\"}", "a201 b200 c200", "/C/x/y")]
     public void Urls_of_what_was_created(string members, string wanted, string url) {
         const string batch = "{\"requests\":[{\"id\":\"a\",\"method\":\"post\",\"url\":\"A/B?c=1\"},{\"id\":\"b\",\"method\":\"get\",\"url\":\"$a/x\",\"dependsOn\":[\"a\"]},{\"id\":\"c\",\"method\":\"get\",\"url\":\"$b/y\",\"dependsOn\":[\"b\"]}]}";
         var service = By(new Dictionary<string, string> { ["a"] = "\"status\":201" + members });
