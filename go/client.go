@@ -10,8 +10,6 @@ import (
 	"io"
 	"net/http"
 	"net/url"
-	"regexp"
-	"strconv"
 	"strings"
 )
 
@@ -83,10 +81,10 @@ func (b *Batch) Patch(url, body any, w ...With) Reference { return b.Add("PATCH"
 // Delete adds a DELETE.
 func (b *Batch) Delete(url any, with ...With) Reference { return b.Add("DELETE", url, nil, with...) }
 
-// Add adds a request. The URL is a string, or the Reference to a request; the body is bytes as they are on the wire, or a value
+// Add adds a request. The target is a URL, or the Reference to a request; the body is bytes as they are on the wire, or a value
 // that Document writes by encoding/json, or nil for none. Bytes are JSON, unless a Content-Type says otherwise.
-func (b *Batch) Add(method string, url, body any, with ...With) Reference {
-	e := element{ID: strconv.Itoa(len(b.elements) + 1), Method: strings.ToLower(method), URL: fmt.Sprint(url), Group: b.group,
+func (b *Batch) Add(method string, target, body any, with ...With) Reference {
+	e := element{ID: fmt.Sprint(len(b.elements) + 1), Method: strings.ToLower(method), URL: fmt.Sprint(target), Group: b.group,
 		Headers: map[string]string{}}
 	for _, option := range with {
 		option(&e)
@@ -100,25 +98,18 @@ func (b *Batch) Add(method string, url, body any, with ...With) Reference {
 	if wire, ok := body.([]byte); ok {
 		e.Body = json.RawMessage(toJSON(wire, e.Headers["content-type"]))
 	}
-	b.depend(&e, append(e.given, b.references(&e)...))
+	segment, _ := url.PathUnescape(e.URL[:strings.IndexAny(e.URL+"/", "/?#")]) // which may be a reference, as the conditions
+	for _, text := range []string{segment, e.Headers["if-match"], e.Headers["if-none-match"]} {
+		if _, known := b.groups[strings.TrimPrefix(text, "$")]; known && strings.HasPrefix(text, "$") {
+			e.given = append(e.given, text[1:])
+		}
+	}
+	b.depend(&e, e.given)
 	if b.elements = append(b.elements, e); b.groups == nil {
 		b.groups = map[string]string{}
 	}
 	b.groups[e.ID] = e.Group
 	return Reference(e.ID)
-}
-
-var firstSegment = regexp.MustCompile("^[^/?#]*")
-
-// references returns the ids of the requests to which a request refers by its URL and its conditions.
-func (b *Batch) references(e *element) (ids []string) {
-	segment, _ := url.PathUnescape(firstSegment.FindString(e.URL))
-	for _, text := range []string{segment, e.Headers["if-match"], e.Headers["if-none-match"]} {
-		if _, known := b.groups[strings.TrimPrefix(text, "$")]; known && strings.HasPrefix(text, "$") {
-			ids = append(ids, text[1:])
-		}
-	}
-	return ids
 }
 
 // depend adds dependencies, each once, and the groups of what is in one.
@@ -136,7 +127,7 @@ func (b *Batch) Group(add func()) Group {
 	if b.group != "" {
 		b.err = fmt.Errorf("%w: a group cannot be in another one", ErrOption)
 	}
-	b.group = "g" + strconv.Itoa(len(b.elements)+1)
+	b.group = fmt.Sprint("g", len(b.elements)+1)
 	defer func() { b.group = "" }()
 	add()
 	return Group(b.group)
@@ -165,7 +156,8 @@ func (r Result) JSON(value any) error {
 	return json.Unmarshal(r.Body, value)
 }
 
-// Results is what the requests of a batch were answered. What was read without a Location has its URL as Location.
+// Results is what the requests of a batch were answered. Without a Location an answer has that of its OData-EntityId; without both
+// what was not posted has its own URL.
 type Results struct {
 	document []byte
 	run      *LiveRun
@@ -239,16 +231,16 @@ func (c Client) Send(ctx context.Context, document []byte) (*Results, error) {
 	}
 }
 
+// preferred is what a service is asked for; without it the service stops at its first error.
+var preferred = map[Mode][]string{Continue: {"continue-on-error"}}
+
 // exchange posts a part, and returns what its requests were answered.
 func (c Client) exchange(ctx context.Context, part []byte) ([]Result, error) {
 	post, err := http.NewRequestWithContext(ctx, "POST", c.URL, bytes.NewReader(part))
 	if err != nil {
 		return nil, err
 	}
-	post.Header = http.Header{"Content-Type": {"application/json"}, "Accept": {"application/json"}}
-	if c.Mode == Continue {
-		post.Header.Set("Prefer", "continue-on-error")
-	}
+	post.Header = http.Header{"Content-Type": {"application/json"}, "Accept": {"application/json"}, "Prefer": preferred[c.Mode]}
 	for name, values := range c.Header {
 		post.Header[name] = values
 	}
@@ -278,9 +270,13 @@ func (r *Results) take(it Result) {
 	if body, err := toWire(it.Body, it.Headers["content-type"]); err == nil {
 		it.Body = body
 	}
-	if request := r.run.Request(it.ID); place(it.Headers) == "" && request.Method != "POST" {
+	request, found := r.run.Request(it.ID), place(it.Headers)
+	if found == "" && request.Method != "POST" {
 		own, _, _ := strings.Cut(place(r.answers[request.Reference].Headers)+request.Rest, "?")
-		it.Headers["location"] = strings.TrimSuffix(own, "/")
+		found = strings.TrimSuffix(own, "/")
+	}
+	if found != "" { // an empty Location is none
+		it.Headers["location"] = found
 	}
 	r.answers[it.ID] = it
 	_ = r.run.StartUnit(it.ID)

@@ -173,6 +173,29 @@ func TestReferencesThatNoAnswerHas(t *testing.T) {
 	}
 }
 
+// An empty Location is none: then the OData-EntityId is where the new entity is, or nothing says so.
+func TestAnEmptyLocationInAPart(t *testing.T) {
+	document := []byte(`{"requests":[{"id":"a","method":"post","url":"A"},{"id":"b","method":"get","url":"$a/x","dependsOn":["a"]}]}`)
+	for headers, wanted := range map[string]string{
+		`"Location":""`:                                "a 201, b 424",
+		`"Location":"","OData-EntityId":""`:            "a 201, b 424",
+		`"Location":"","OData-EntityId":"/odata/A(1)"`: "a 201, b 201",
+		`"OData-EntityId":"/odata/A(1)"`:               "a 201, b 201",
+	} {
+		url, came := posts(t, func(part int, ids []string) (int, string) { return 200, all(ids, 201, `,"headers":{`+headers+"}") })
+		results, err := odb.Client{URL: url, Limit: 1}.Send(context.Background(), document)
+		if found(results) != wanted || isFault(err, "F90") != (len(*came) == 1) {
+			t.Error(headers, err, found(results))
+		}
+		if isSent := strings.Contains((*came)[len(*came)-1], `"/odata/A(1)/x"`); isSent != (results.Of("a").Headers["location"] == "/odata/A(1)") {
+			t.Error(headers, results.Of("a").Headers, *came)
+		}
+		if _, err := results.Rest(); isFault(err, "F90") != (len(*came) == 1) {
+			t.Error(headers, err)
+		}
+	}
+}
+
 // Without a Location, the URL of what was read stands for it.
 func TestReferencesToWhatWasRead(t *testing.T) {
 	url, came := posts(t, func(part int, ids []string) (int, string) { return 200, all(ids, 200, "") })

@@ -11,10 +11,9 @@ import (
 	"mime"
 	"net/http"
 	"net/url"
-	"path"
 	"regexp"
 	"strings"
-	"sync/atomic"
+	"sync"
 	"time"
 )
 
@@ -25,6 +24,7 @@ type HandlerOptions struct {
 	Root    string   // what the path of each request begins with, which ends with /; the folder of Path if it is empty
 	Allowed []string // further headers that requests of a batch may have, in lower case
 	MaxSize int64    // how many bytes a batch may have, and its answers together; MaxDocument if it is 0
+	Memory  int64    // how many bytes all batches may have at once, with their answers, at least MaxSize; 268,435,456 if it is 0
 }
 
 // Handler answers POST of the path with batches, whose requests next answers in this process; anything else goes to next. So what
@@ -34,17 +34,24 @@ type HandlerOptions struct {
 //
 // In a group the context of a request is the one that the transaction has given to do. If the client leaves, the contexts of its
 // requests are done, and nothing more starts.
+//
+// Beyond MaxSize a batch is answered 413, and a GET in one 507; beyond Memory both are answered 503. Another request has been performed:
+// it keeps its status, and loses its body. Bodies are copied, so a process needs four times the Memory.
 func Handler(next http.Handler, options HandlerOptions) http.Handler {
 	options.Path, options.Limit, options.Timeout = or(options.Path, "/$batch"), or(options.Limit, 1000), or(options.Timeout, 30*time.Second)
 	options.Root, options.MaxSize = or(options.Root, folder(options.Path)), or(options.MaxSize, MaxDocument)
+	busy := &Refusal{503, "Busy", "Other batches have taken the memory", "", map[string]string{"retry-after": "1"}}
+	tooLong := &Refusal{413, "TooLong", fmt.Sprintf("A batch may have %d bytes", options.MaxSize), "", nil}
+	all := &memory{left: or(options.Memory, 1<<28), why: busy}
 	return http.HandlerFunc(func(w http.ResponseWriter, outer *http.Request) {
 		if outer.URL.Path != options.Path {
 			next.ServeHTTP(w, outer)
 			return
 		}
-		d := &dispatch{HandlerOptions: options, next: next, outer: outer, inherited: http.Header{}}
-		d.room.Store(options.MaxSize)
-		answer, err := d.answer(w)
+		batch, answers := &memory{left: options.MaxSize, why: tooLong, of: all}, &memory{left: options.MaxSize, why: errTooLong, of: all}
+		defer func() { _ = all.take(batch.left + answers.left - 2*options.MaxSize) }() // gives all back
+		d := &dispatch{options, next, outer, http.Header{}, batch, answers}
+		answer, err := d.answer()
 		if fault := new(Fault); errors.As(err, &fault) {
 			err = &Refusal{Status: 400, Code: fault.Code, Message: fault.Name + ": " + fault.Explanation(), Target: fault.Place}
 		}
@@ -60,7 +67,7 @@ func Handler(next http.Handler, options HandlerOptions) http.Handler {
 	})
 }
 
-func folder(file string) string { return strings.TrimSuffix(path.Dir(file), "/") + "/" }
+func folder(path string) string { return path[:strings.LastIndex(path, "/")+1] }
 
 // isHost says whether a text is a host that may be in a URL.
 var isHost = regexp.MustCompile(`^([A-Za-z0-9._~-]+|\[[0-9A-Fa-f:.]+\])(:[0-9]{1,5})?$`)
@@ -68,15 +75,40 @@ var isHost = regexp.MustCompile(`^([A-Za-z0-9._~-]+|\[[0-9A-Fa-f:.]+\])(:[0-9]{1
 // dispatch has a handler answer the requests of one batch.
 type dispatch struct {
 	HandlerOptions
-	next      http.Handler
-	outer     *http.Request
-	inherited http.Header
-	prefer    []string     // the preferences that are not for the batch alone
-	room      atomic.Int64 // how many bytes the answers may still have
+	next           http.Handler
+	outer          *http.Request
+	inherited      http.Header // its Prefer has the preferences that are not for the batch alone
+	batch, answers *memory     // what they may have
 }
 
+// memory is how many bytes may still be taken, each of another memory, too. Any number of goroutines may use one.
+type memory struct {
+	mu   sync.Mutex
+	left int64
+	why  *Refusal // the error beyond it
+	of   *memory  // or nil
+}
+
+// take takes bytes, or gives some back by a number below 0; returns why there are not as many.
+func (m *memory) take(count int64) (err error) {
+	m.mu.Lock()
+	defer m.mu.Unlock()
+	if count > m.left {
+		return m.why
+	} else if m.of != nil {
+		err = m.of.take(count)
+	}
+	if err == nil {
+		m.left -= count
+	}
+	return err
+}
+
+// Write takes the bytes that are written.
+func (m *memory) Write(part []byte) (int, error) { return len(part), m.take(int64(len(part))) }
+
 // answer performs the batch that a request carries.
-func (d *dispatch) answer(w http.ResponseWriter) (Answer, error) {
+func (d *dispatch) answer() (Answer, error) {
 	given := d.outer.Header
 	kind, _, _ := mime.ParseMediaType(given.Get("Content-Type"))
 	switch coding := strings.ToLower(given.Get("Content-Encoding")); {
@@ -89,9 +121,9 @@ func (d *dispatch) answer(w http.ResponseWriter) (Answer, error) {
 	case given.Get("Repeatability-Request-ID")+given.Get("Repeatability-First-Sent") != "":
 		return Answer{}, &Refusal{501, "NotRepeatable", "Batches are not kept here", "", map[string]string{"repeatability-result": "rejected"}}
 	}
-	batch, err := io.ReadAll(http.MaxBytesReader(w, d.outer.Body, d.MaxSize))
-	if errors.As(err, new(*http.MaxBytesError)) {
-		return Answer{}, &Refusal{413, "TooLong", fmt.Sprintf("A batch may have %d bytes", d.MaxSize), "", nil}
+	batch, err := io.ReadAll(io.TeeReader(d.outer.Body, d.batch))
+	if errors.As(err, new(*Refusal)) {
+		return Answer{}, err
 	} else if err != nil {
 		return Answer{}, &Refusal{400, "CutBody", "The batch is not whole", "", nil}
 	}
@@ -125,16 +157,13 @@ func (d *dispatch) inherit() Mode {
 		if name, value := found[1], found[2]; name == "continue-on-error" && (value == "" || value == "true") {
 			mode = Continue
 		} else if name != "" && !isOne(name, constants.Preferences, nil) {
-			d.prefer = append(d.prefer, strings.TrimSpace(text))
+			d.inherited.Add("Prefer", strings.TrimSpace(text))
 		}
 	}
 	for name, values := range d.outer.Header {
 		if !isOne(strings.ToLower(name), constants.Headers["not_inherited"], constants.Headers["not_inherited_prefixes"]) {
 			d.inherited[name] = values
 		}
-	}
-	if len(d.prefer) > 0 {
-		d.inherited["Prefer"] = d.prefer
 	}
 	return mode
 }
@@ -152,7 +181,7 @@ func (d *dispatch) headers(given map[string]string) (http.Header, error) {
 		case !isValue.MatchString(value):
 			return nil, &Refusal{400, "BadHeader", "The header " + name + " has a character that no header may have", name, nil}
 		case name == "prefer":
-			value = strings.Join(append([]string{value}, d.prefer...), ", ")
+			value = strings.Join(append([]string{value}, d.inherited["Prefer"]...), ", ")
 		}
 		found.Set(name, value)
 	}
@@ -173,22 +202,22 @@ func (d *dispatch) send(ctx context.Context, request *Request) (Answer, error) {
 	}
 	inner.RequestURI, inner.RemoteAddr, inner.TLS, inner.Host = inner.URL.RequestURI(), d.outer.RemoteAddr, d.outer.TLS, d.outer.Host
 	inner.URL.Scheme, inner.URL.Host = "", "" // as a server sees it
-	kept := &recorder{header: http.Header{}, room: &d.room, isRead: request.Method == "GET", end: cancel}
+	kept := &recorder{header: http.Header{}, room: d.answers, isRead: request.Method == "GET", end: cancel}
 	d.next.ServeHTTP(kept, inner)
-	if kept.WriteHeader(200); kept.isShort && kept.isRead {
-		return Answer{}, errTooLong
+	if kept.WriteHeader(200); kept.why != nil && kept.isRead {
+		return Answer{}, kept.why
 	}
 	return kept.answer, nil
 }
 
 // recorder keeps what a handler writes, as long as there is room.
 type recorder struct {
-	header  http.Header
-	answer  Answer // has the headers of when the status was sent, as in a server
-	room    *atomic.Int64
-	isShort bool // there was too little room: a read is ended, and a write loses its body
-	isRead  bool
-	end     func()
+	header http.Header
+	answer Answer // has the headers of when the status was sent, as in a server
+	room   *memory
+	why    error // there was too little room: a read is ended, and a write loses its body
+	isRead bool
+	end    func()
 }
 
 func (r *recorder) Header() http.Header { return r.header }
@@ -213,15 +242,17 @@ func (r *recorder) Write(part []byte) (int, error) {
 	if _, isNamed := r.answer.Headers["content-type"]; !isNamed {
 		r.answer.Headers["content-type"] = http.DetectContentType(part)
 	}
-	if !r.isShort && r.room.Add(-int64(len(part))) < 0 {
-		r.room.Add(int64(len(r.answer.Body) + len(part)))
-		r.isShort, r.answer.Body = true, nil
+	if r.why == nil {
+		_, r.why = r.room.Write(part)
 	}
-	if r.isShort && r.isRead {
-		r.end()
-		return 0, errTooLong
-	} else if !r.isShort {
+	if r.why == nil {
 		r.answer.Body = append(r.answer.Body, part...)
+		return len(part), nil
+	}
+	_ = r.room.take(-int64(len(r.answer.Body)))
+	if r.answer.Body = nil; r.isRead {
+		r.end()
+		return 0, r.why
 	}
 	return len(part), nil
 }

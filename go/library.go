@@ -191,8 +191,7 @@ func Faults(batch []byte) (faults []*Fault, err error) {
 	}
 	text := string(line)
 	for _, it := range found {
-		fault := &Fault{Code: part(text, it.code), Name: part(text, it.name), Place: part(text, it.place)}
-		faults = append(faults, fault.at(it.position))
+		faults = append(faults, (&Fault{Code: part(text, it.code), Name: part(text, it.name), Place: part(text, it.place)}).at(it.position))
 	}
 	return faults, nil
 }
@@ -230,7 +229,7 @@ type Policy struct {
 
 func (p Policy) width() C.uint32_t { return number(or(p.Width, MaxWidth)) }
 
-// number returns a number for the library, which refuses 0 as a width or a status; so it does others that are none.
+// number returns a number for the library, which refuses 0 as a width, a limit or a status; so it does others that are none.
 func number(value int) C.uint32_t {
 	if value < 0 || value > MaxWidth {
 		return 0

@@ -20,7 +20,6 @@ import (
 	"runtime/debug"
 	"strings"
 	"sync"
-	"sync/atomic"
 	"time"
 	"unicode/utf8"
 )
@@ -46,27 +45,18 @@ type Refusal struct {
 
 func (r *Refusal) Error() string { return fmt.Sprintf("odb: %d %s: %s", r.Status, r.Code, r.Message) }
 
-// Answer returns the answer with the error object of OData (OData JSON Format 4.01, section 21.1).
-func (r *Refusal) Answer() Answer {
-	body, _ := encoded(map[string]any{"error": r})
-	return Answer{r.Status, joined(map[string]string{"content-type": "application/json"}, r.Headers), body}
-}
-
-// answerTo returns the answer that stands for an error.
+// answerTo returns the answer that stands for an error, with the error object of OData (OData JSON Format 4.01, section 21.1).
 func answerTo(err error) Answer {
-	var refusal *Refusal
 	var network net.Error
-	isNetwork := errors.As(err, &network)
-	switch {
-	case errors.As(err, &refusal):
-	case isNetwork && network.Timeout(): // as of a context whose deadline is over
+	refusal := &Refusal{Status: 500, Code: "InternalError", Message: "The request failed; the log says why"}
+	if errors.As(err, &network) && network.Timeout() { // as of a context whose deadline is over
 		refusal = &Refusal{Status: 504, Code: "Timeout", Message: "No answer came in time"}
-	case isNetwork, errors.Is(err, http.ErrAbortHandler):
+	} else if network != nil || errors.Is(err, http.ErrAbortHandler) {
 		refusal = &Refusal{Status: 502, Code: "BadGateway", Message: "The connection broke before an answer came"}
-	default:
-		refusal = &Refusal{Status: 500, Code: "InternalError", Message: "The request failed; the log says why"}
 	}
-	return refusal.Answer()
+	errors.As(err, &refusal)
+	body, _ := encoded(map[string]any{"error": refusal})
+	return Answer{refusal.Status, joined(map[string]string{"content-type": "application/json"}, refusal.Headers), body}
 }
 
 // whole returns an answer with a final status, and with names of headers in lower case.
@@ -182,7 +172,7 @@ func (p *performance) unit(ctx context.Context, ids []string) {
 		return
 	}
 	var once sync.Once
-	var isOver atomic.Bool
+	over := make(chan bool, 1) // has an element once do is over
 	open, last, failure := ids[0], Answer{}, errNotDone
 	err := guarded(func() error {
 		return p.Transaction(ctx, group, func(ctx context.Context) error {
@@ -190,12 +180,12 @@ func (p *performance) unit(ctx context.Context, ids []string) {
 			once.Do(func() {
 				open, last, failure = p.members(ctx, ids)
 				found = failure
-				isOver.Store(true)
+				over <- true
 			})
 			return found
 		})
 	})
-	isEarly := !isOver.Load()
+	isEarly := len(over) == 0
 	once.Do(func() {}) // lets no call begin, and waits for one that has
 	if err == nil && (isEarly || failure != nil) {
 		err = fmt.Errorf("%v, but returned nil after: %v", errNotDone, failure)
@@ -211,20 +201,19 @@ func (p *performance) unit(ctx context.Context, ids []string) {
 // members performs the requests of a group, and reports them but for the last one if it succeeds. It returns the request that has
 // started and is not reported, if there is one, and what it was answered.
 func (p *performance) members(ctx context.Context, ids []string) (open string, answer Answer, err error) {
-	for i, id := range ids {
-		if i > 0 && p.run.Start(id) != nil {
+	for i := 0; ; i++ {
+		if i > 0 && p.run.Start(ids[i]) != nil {
 			return "", answer, ErrGroupFailed
 		} else if ctx.Err() != nil {
-			return id, answer, ctx.Err()
+			return ids[i], answer, ctx.Err()
 		}
-		answer = p.answer(ctx, id)
+		answer = p.answer(ctx, ids[i])
 		if i == len(ids)-1 && answer.OK() {
-			return id, answer, ctx.Err()
-		} else if p.report(id, answer); !answer.OK() {
+			return ids[i], answer, ctx.Err()
+		} else if p.report(ids[i], answer); !answer.OK() {
 			return "", answer, ErrGroupFailed
 		}
 	}
-	return "", answer, nil
 }
 
 // answer sends a request, and returns what it is answered.
@@ -275,13 +264,11 @@ func (p *performance) report(id string, answer Answer) {
 	for _, name := range constants.Headers["not_shown"] {
 		delete(answer.Headers, name)
 	}
-	err := p.run.Report(id, answer.Status, answer.Headers, toJSON(answer.Body, answer.Headers["content-type"]))
-	if err != nil {
+	if err := p.run.Report(id, answer.Status, answer.Headers, toJSON(answer.Body, answer.Headers["content-type"])); err != nil {
 		p.Log.Printf("odb: the body of the answer to %s: %v", id, err)
-		err = p.run.Report(id, answer.Status, answer.Headers, asText(answer.Body))
-	}
-	if err != nil {
-		_ = p.run.Report(id, answer.Status, answer.Headers, nil)
+		if p.run.Report(id, answer.Status, answer.Headers, asText(answer.Body)) != nil {
+			_ = p.run.Report(id, answer.Status, answer.Headers, nil)
+		}
 	}
 }
 
@@ -330,10 +317,9 @@ func (p *performance) resolved(url, sent, location string, isPost bool) (string,
 		return C.odb_resolve(at(base), size(base), at(roots), size(roots), at(own), size(own), at(from), size(from), at(place),
 			size(place), bit[isPost], to.text, to.room, &to.length)
 	})
-	switch status {
-	case C.ODB_UNREADABLE, C.ODB_OUTSIDE:
+	if status == C.ODB_UNREADABLE || status == C.ODB_OUTSIDE {
 		return "", &Refusal{Status: 404, Code: "NotFound", Message: "The URL leads out of the service"}
-	case C.ODB_NO_LOCATION:
+	} else if status == C.ODB_NO_LOCATION {
 		return "", &Refusal{Status: 424, Code: "NoLocation", Message: "What it refers to was answered without the URL of what it has created"}
 	}
 	return string(text), failure(status, nil)
@@ -366,12 +352,11 @@ func toWire(text []byte, contentType string) ([]byte, error) {
 // toJSON returns the text in a batch or a response of a body on the wire; nil if it is empty.
 func toJSON(wire []byte, contentType string) []byte {
 	isJSON, isText, _ := mediaType(contentType)
-	switch {
-	case len(wire) == 0:
+	if len(wire) == 0 {
 		return nil
-	case isJSON:
+	} else if isJSON {
 		return bytes.TrimPrefix(wire, []byte("\xef\xbb\xbf"))
-	case isText:
+	} else if isText {
 		return asText(wire)
 	}
 	return []byte(`"` + base64.RawURLEncoding.EncodeToString(wire) + `"`)
@@ -379,15 +364,14 @@ func toJSON(wire []byte, contentType string) []byte {
 
 // asText returns bytes as a string of JSON; if they are not in UTF-8 each byte is a character.
 func asText(wire []byte) []byte {
-	value := string(wire)
 	if !utf8.Valid(wire) {
 		characters := make([]rune, len(wire))
 		for i, it := range wire {
 			characters[i] = rune(it)
 		}
-		value = string(characters)
+		wire = []byte(string(characters))
 	}
-	text, _ := encoded(value)
+	text, _ := encoded(string(wire))
 	return text
 }
 

@@ -122,15 +122,12 @@ func (r *LiveRun) NextUnit() ([]string, error) {
 // Part returns the next part of the run as a batch of its own, and the ids of its requests; none if nothing may be sent now. It has
 // limit requests at most, none of which was in a part before, and what they need is in it or has succeeded: $a in a URL is the
 // Location that was reported for a, and in If-Match or If-None-Match the ETag, and the part ends before the first unit for which there
-// is none. Once it is answered, start its units by StartUnit, and report their requests. The error is ErrOption if a group has more than
+// is none. Once it is answered, start its units by StartUnit, and report their requests. The error is ErrOption if a unit has more than
 // limit requests; F90 if there is no Location of use for the first unit that may begin, or F91 without an ETag: start and report that one.
 func (r *LiveRun) Part(limit int) (document []byte, ids []string, err error) {
-	if limit < 1 || limit > MaxRequests {
-		return nil, nil, ErrOption
-	}
 	ids, err = use(r, func() ([]string, error) {
 		status, text, found := called(len(r.batch)+more, func(to *positions) C.uint32_t {
-			return C.odb_run_part(&r.handle, at(r.batch), size(r.batch), C.uint32_t(limit), to.text, to.room, &to.length,
+			return C.odb_run_part(&r.handle, at(r.batch), size(r.batch), number(limit), to.text, to.room, &to.length,
 				to.items, to.most, &to.count, seed)
 		})
 		document = text
