@@ -14,6 +14,7 @@ import pytest
 from support import urls
 from support.answers import RUNS
 from support.commands import run
+from support.language_pages import LENT
 from support.languages import require_same
 from support.markdown import blocks, text_of
 from support.program import EXAMPLES, ROOT
@@ -101,9 +102,6 @@ def lending(library, tmp_path):
 
     with Process(str(tmp_path / "library")) as service:
         yield service
-
-
-LENT = '"Id":"{}","Title":"Solaris","Shelf":null,"Reader":{},"Price":9.990}}'
 
 
 def test_it_lends_books(built, lending):

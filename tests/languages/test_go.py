@@ -5,17 +5,16 @@ import os
 import re
 import shutil
 import subprocess
-import urllib.request
-from contextlib import contextmanager
 from pathlib import Path
 
 import pytest
 
 from support import urls
 from support.commands import run
-from support.markdown import blocks, text_of
+from support.language_pages import GO_PRINTS, serving, write_go
+from support.markdown import text_of
 from support.program import ROOT
-from support.servers import SECONDS, conformance, free_port, until
+from support.servers import conformance
 
 SOURCES = [Path(ROOT, "go"), Path(ROOT, "tests", "languages", "go")]
 BUILT = shutil.ignore_patterns("*.syso", "odb_batch.h", "allocator_darwin.c", "vendor")
@@ -76,26 +75,6 @@ def test_it_answers_the_same(name, programs, reference):
     require_same(reference, name, run(programs / "tries", name, reference, "400"))
 
 
-@contextmanager
-def serving(log, *words):
-    """Runs a program that serves books at the address which is its first argument; yields it with the URL."""
-    address = f"127.0.0.1:{free_port()}"
-    with open(log, "wb") as file, subprocess.Popen([words[0], address, *words[1:]], stderr=file) as process:
-        process.url = f"http://{address}/odata/"
-        try:
-            until(lambda: process.poll() is not None or answers(process.url))
-            yield process
-        finally:
-            process.kill()
-
-
-def answers(url):
-    try:
-        return urllib.request.urlopen(f"{url}Books", timeout=SECONDS).status == 200
-    except OSError:
-        return False
-
-
 @pytest.mark.slow
 @pytest.mark.parametrize("width", ["1", "8"])
 def test_its_service(width, programs, library, tmp_path):
@@ -111,18 +90,10 @@ def test_where_requests_lead(programs, tmp_path):
 
 def test_its_page(go, tmp_path):
     """The client of docs/go.md sends a batch to the service of that page."""
-    service, client = blocks(text_of("docs", "go.md"), "go")
-    main = 'package main\n\nimport (\n"context"\n"fmt"\n"log"\n"os"\n\n"odb_batch/odb"\n)\n\nfunc main() {\nctx := context.Background()\n'
-    client = client.replace('"http://localhost:8080/odata/$batch"', 'os.Args[1]+"$batch"')
-    shown = "fmt.Println(results.Of(order).Status, results.Of(lines).Status, err)\n}\n"
-    folder = go.top / "tests/languages/go"
-    for name, text in (("service", service), ("client", f"{main}{client}{shown}")):
-        (folder / "page" / name).mkdir(parents=True)
-        (folder / "page" / name / "main.go").write_text(text, encoding="utf-8")
+    write_go(text_of("docs", "go.md"), go.top / "tests/languages/go/page")
     go("build", "-o", f"{tmp_path}/", "./page/...")
     with serving(tmp_path / "log", tmp_path / "service") as process:
-        # A POST is answered without a Location, so what refers to it is not sent.
-        run(tmp_path / "client", process.url, wanted="200 424 <nil>\n")
+        run(tmp_path / "client", process.url, wanted=GO_PRINTS)
 
 
 def test_vendored(go, reference):

@@ -11,6 +11,7 @@ import pytest
 
 from support import urls
 from support.commands import run, with_package
+from support.language_pages import JAVA_PRINTS
 from support.markdown import blocks, text_of
 from support.program import ROOT
 from support.servers import SECONDS
@@ -28,8 +29,6 @@ SERVERS = {
     "servlet": (("servlet-api", *JETTY, *TOMCAT), ("JettyContainer", "TomcatContainer")),
     "jakarta": (("tomcat10-embed-core", "jakarta-annotation-api"), ("TomcatContainer",)),
 }
-# What the example of docs/java.md prints.
-WRITTEN = "4 requests\nbook 204\nmark 204\nloan 204\nlist 204\n"
 # What the line for a service of docs/java.md is part of.
 SERVICE = """
 import javax.servlet.ServletContext;
@@ -202,4 +201,4 @@ def test_the_page(built, tmp_path):
     for name, text in {"Example": program, "Service": service}.items():
         (tmp_path / f"{name}.java").write_text(text, encoding="utf-8")
         run("javac", "-Xlint:all", "-Werror", "--release", "11", "-d", tmp_path, "-cp", path, tmp_path / f"{name}.java")
-    run("java", "-cp", path, "Example", wanted=WRITTEN, cwd=ROOT)
+    run("java", "-cp", path, "Example", wanted=JAVA_PRINTS, cwd=ROOT)

@@ -24,6 +24,7 @@ import declarations
 from support import targets
 from support.commands import run
 from support.embedding import IN_NODE, IN_PYTHON, ONE, STRICT, block, check_in
+from support.language_pages import GO_PRINTS, JAVA_PRINTS, LENT, serving, write_go
 from support.markdown import blocks, text_of
 from support.program import ROOT
 
@@ -248,24 +249,27 @@ def test_the_archive_for_macos(archive, tmp_path):
 
 
 @pytest.mark.needs("mcs", "mono")
-def test_the_package_for_csharp(archive, tmp_path):
-    """Its assembly runs over the library that it has, and the types of all its files are declared, as NuGet wants it."""
+def test_the_package_for_csharp(archive, unpacked, python, tmp_path):
+    """The example of the page in it runs over the library that it has, against the service of the archive; and the types of all its
+    files are declared, as NuGet wants it."""
     with zipfile.ZipFile(made(archive, f"OdbBatch.{VERSION}.nupkg")) as package:
         package.extractall(tmp_path)
     types = (tmp_path / "[Content_Types].xml").read_text(encoding="utf-8")
     assert all(f'Extension="{it.suffix[1:] or it.name[1:]}"' in types for it in tmp_path.rglob("*") if it.is_file())
     assert f"<version>{VERSION}</version>" in (tmp_path / "OdbBatch.nuspec").read_text(encoding="utf-8")
-    source, assembly = tmp_path / "One.cs", tmp_path / "lib" / "netstandard2.0"
-    text = 'class One { static void Main() { System.Console.WriteLine(OdbBatch.Odb.Check("{\\"requests\\":[]}").Groups); } }'
-    source.write_text(text, encoding="utf-8")
-    run("mcs", "-r:OdbBatch.dll", "-out:One.exe", source, cwd=assembly)
+    assembly = tmp_path / "lib" / "netstandard2.0"
+    example = blocks((tmp_path / "dotnet.md").read_text(encoding="utf-8"), "csharp")[0]
+    (assembly / "Lend.cs").write_text(example, encoding="utf-8")
+    run("mcs", "-r:OdbBatch.dll", "-r:System.Net.Http.dll", "Lend.cs", cwd=assembly)
     variables = {**os.environ, "LD_LIBRARY_PATH": str(tmp_path / "runtimes" / "linux-x64" / "native")}
-    run("mono", "One.exe", wanted="0\n", cwd=assembly, env=variables)
+    with service(unpacked, python, tmp_path / "log") as url:
+        assert run("mono", "Lend.exe", url, cwd=assembly, env=variables).endswith(LENT.format("solaris", 42) + "\n")
 
 
 @pytest.mark.needs("java")
-def test_the_package_for_java(archive, tmp_path):
-    """Its jar has the libraries and both filters, and runs with JNA alone; the others are its sources and what describes it."""
+def test_the_package_for_java(archive, unpacked, tmp_path):
+    """Its jar has the libraries and both filters, and runs the example of the page with JNA alone; the others are its sources and what
+    describes it."""
     jar, jna = made(archive, f"odb_batch-{VERSION}.jar"), "/usr/share/java/jna.jar"
     with zipfile.ZipFile(jar) as package:
         names = package.namelist()
@@ -276,17 +280,25 @@ def test_the_package_for_java(archive, tmp_path):
     with zipfile.ZipFile(made(archive, f"odb_batch-{VERSION}-sources.jar")) as package:
         assert {f"{it}.java" for it in filters} <= set(package.namelist())
     assert f"<version>{VERSION}</version>" in made(archive, f"odb_batch-{VERSION}.pom").read_text(encoding="utf-8")
-    text = 'class One { public static void main(String[] words) { System.out.println(odbbatch.Odb.check("{\\"requests\\":[]}".getBytes()).groups()); } }'
-    (tmp_path / "One.java").write_text(text, encoding="utf-8")
-    run("java", "-cp", f"{jar}:{jna}", "One.java", wanted="0\n", cwd=tmp_path)
+    example = blocks(unpacked.page("docs/java.md"), "java")[0]
+    (tmp_path / "Example.java").write_text(example, encoding="utf-8")
+    run("java", "-cp", f"{jar}:{jna}", tmp_path / "Example.java", wanted=JAVA_PRINTS, cwd=unpacked.docs)
 
 
 @pytest.mark.needs("go")
-def test_the_package_for_go(archive, tmp_path):
-    """Its example and its tests of calls run over the library that it has."""
+def test_the_package_for_go(archive, unpacked, tmp_path):
+    """Its example and its tests of calls run over the library that it has; and in a module that names it as the page says, the client of
+    the page sends a batch to the service of the page."""
     top = unpack(made(archive, f"odb_batch-{VERSION}-go.tar.gz"), tmp_path)
     assert {"go.mod", "library.go", "odb_batch.h", "odb_batch_linux_amd64.syso"} <= set(os.listdir(top))
-    run("go", "test", "-run", "Example|Fault", ".", cwd=top, env={**os.environ, "GOPROXY": "off", "GOFLAGS": ""})
+    variables = {**os.environ, "GOPROXY": "off", "GOFLAGS": ""}
+    run("go", "test", "-run", "Example|Fault", ".", cwd=top, env=variables)
+    page, module = unpacked.page("docs/go.md"), tmp_path / "module"
+    write_go(page, module)
+    for line in ("go mod init example", re.search(r"(?m)^go mod edit .*$", page)[0], "go build -o bin/ ./..."):
+        run(*line.split(), cwd=module, env=variables)
+    with serving(tmp_path / "log", module / "bin" / "service") as process:
+        run(module / "bin" / "client", process.url, wanted=GO_PRINTS)
 
 
 def test_the_packages_are_files_of_the_release(unpacked, archive):
