@@ -311,6 +311,27 @@ class BatchClientTest {
     }
 
     @Test
+    void anEmptyLocationIsNone() {
+        for (String place : new String[] {"", "/odata/A(1)"}) {
+            serve((exchange, batch) -> reply(exchange, 200, BatchPerformer.of(batch, URI.create("http://localhost/odata/")).perform(request -> {
+                seen.add(request.url());
+                return Answer.of(201, Map.of("Location", "", "OData-EntityId", place), null);
+            })));
+            Batch batch = new Batch();
+            Batch.Name first = batch.post("A", "{}").add();
+            batch.get(first + "/B").add();
+            BatchResults results = client.limit(1).send(batch);
+            assertEquals(place.isEmpty() ? "{1=201, 2=424}" : "{1=201, 2=201}", shown(results));
+            assertEquals(!place.isEmpty(), results.error().isEmpty());
+            if (place.isEmpty()) {
+                assertEquals("F90", assertThrows(FaultException.class, results::rest).code());
+            }
+            server.removeContext("/odata/");
+        }
+        assertEquals(List.of("http://localhost/odata/A", "http://localhost/odata/A", "http://localhost/odata/A(1)/B"), seen);
+    }
+
+    @Test
     void aRequestHasBounds() throws Exception {
         server.createContext("/slow", exchange -> {
             exchange.sendResponseHeaders(200, 0);
