@@ -19,7 +19,7 @@ namespace OdbBatch {
         /// <summary>Checks a batch; returns whether it is accepted, else its first fault.</summary>
         public static bool TryCheck(Document batch, out Counts counts, out Fault fault) {
             uint status = Native.Write(128, (byte[] to, ulong room, out ulong length) =>
-                Native.odb_check_as(batch.At, batch.Size, 0, ref to[0], room, out length, Native.Seed), out byte[] text);
+                Native.odb_check_as(ref batch.At[0], batch.Size, 0, ref to[0], room, out length, Native.Seed), out byte[] text);
             fault = Native.FaultIn(status, text, batch, batch);
             counts = fault == null ? new Counts(Encoding.UTF8.GetString(text).Split(' ')) : default(Counts);
             return fault == null;
@@ -79,7 +79,7 @@ namespace OdbBatch {
         /// <summary>What is to be sent of each request of a batch, in its order.</summary>
         public static IReadOnlyList<BatchRequest> Requests(Document batch) {
             uint status = Native.List(Room(batch), Likely(batch), (byte[] to, ulong room, out ulong length, Native.Request[] items, ulong most, out ulong count) =>
-                Native.odb_requests(batch.At, batch.Size, ref to[0], room, out length, ref items[0], most, out count, Native.Seed), out byte[] text, out Native.Request[] found, out int many);
+                Native.odb_requests(ref batch.At[0], batch.Size, ref to[0], room, out length, ref items[0], most, out count, Native.Seed), out byte[] text, out Native.Request[] found, out int many);
             Native.Require(status, text, batch, batch);
             return BatchRequest.All(found, many, text, batch.Bytes);
         }

@@ -9,8 +9,8 @@ using Microsoft.Win32.SafeHandles;
 
 namespace OdbBatch {
     /// <summary>The functions of odb_batch.h. Sizes are ulong: there is no library for processes of 32 bits. Arrays are pinned during a
-    /// call and not copied: those that are read as they are, those that are written, or reported, by their first element, which takes less
-    /// time. None may be empty, since the library takes no null.</summary>
+    /// call and not copied: most that are read as they are, the others by their first element, which mono passes in less time. None may be
+    /// empty, since the library takes no null.</summary>
     internal static class Native {
         // libodb_batch.so, odb_batch.dll or libodb_batch.dylib: beside the assembly, or in runtimes/RID/native of the package.
         private const string Library = "odb_batch";
@@ -22,7 +22,7 @@ namespace OdbBatch {
         internal const int MaxDocument = 16777216, MaxRequests = 10000;
 
         [DllImport(Library)] internal static extern uint odb_version();
-        [DllImport(Library)] internal static extern uint odb_check_as(byte[] batch, ulong size, uint form, ref byte text, ulong room, out ulong length, ulong seed);
+        [DllImport(Library)] internal static extern uint odb_check_as(ref byte batch, ulong size, uint form, ref byte text, ulong room, out ulong length, ulong seed);
         [DllImport(Library)] internal static extern uint odb_plan_as(byte[] batch, ulong size, uint form, ref byte text, ulong room, out ulong length, ulong seed);
         [DllImport(Library)] internal static extern uint odb_canon_as(byte[] batch, ulong size, uint form, ref byte text, ulong room, out ulong length, ulong seed);
         [DllImport(Library)] internal static extern uint odb_match_with(byte[] batch, ulong size, byte[] second, ulong secondSize, uint mode, uint strict, uint form, ref byte text, ulong room, out ulong length, ulong seed);
@@ -33,10 +33,10 @@ namespace OdbBatch {
         [DllImport(Library)] internal static extern uint odb_constants(ref byte text, ulong room, out ulong length);
         [DllImport(Library)] internal static extern uint odb_where(byte[] document, ulong size, byte[] place, ulong placeSize, out Position position);
         [DllImport(Library)] internal static extern uint odb_faults(byte[] batch, ulong size, ref byte text, ulong room, out ulong length, ref FoundFault faults, ulong most, out ulong count, ulong seed);
-        [DllImport(Library)] internal static extern uint odb_requests(byte[] batch, ulong size, ref byte text, ulong room, out ulong length, ref Request requests, ulong most, out ulong count, ulong seed);
+        [DllImport(Library)] internal static extern uint odb_requests(ref byte batch, ulong size, ref byte text, ulong room, out ulong length, ref Request requests, ulong most, out ulong count, ulong seed);
         [DllImport(Library)] internal static extern uint odb_responses(byte[] document, ulong size, ref byte text, ulong room, out ulong length, ref Response responses, ulong most, out ulong count);
         [DllImport(Library)] internal static extern uint odb_report_fault(byte[] headers, ulong size, byte[] body, ulong bodySize, ref byte text, ulong room, out ulong length);
-        [DllImport(Library)] internal static extern uint odb_headers(byte[] headers, ulong size, ref byte text, ulong room, out ulong length, ref Header pairs, ulong most, out ulong count);
+        [DllImport(Library)] internal static extern uint odb_headers(ref byte headers, ulong size, ref byte text, ulong room, out ulong length, ref Header pairs, ulong most, out ulong count);
         [DllImport(Library)] internal static extern uint odb_resolve(byte[] root, ulong rootSize, byte[] roots, ulong rootsSize, byte[] url, ulong urlSize, byte[] sent, ulong sentSize, byte[] location, ulong locationSize, uint post, ref byte text, ulong room, out ulong length);
         [DllImport(Library)] internal static extern uint odb_run_open_requests(byte[] batch, ulong size, byte[] events, ulong eventsSize, uint mode, uint width, RunHandle run, ref byte text, ulong room, out ulong length, ref Request requests, ulong most, out ulong count, ulong seed);
         [DllImport(Library)] internal static extern uint odb_run_ready(RunHandle run, ref uint positions, ulong most, out ulong count);
@@ -133,7 +133,7 @@ namespace OdbBatch {
         /// <summary>The headers in an object of JSON by their names in lower case; null if it is not one of strings.</summary>
         internal static Dictionary<string, string> Headers(Document json) {
             uint status = List(json.Bytes.Length, json.Bytes.Length / 8, (byte[] to, ulong room, out ulong length, Header[] items, ulong most, out ulong count) =>
-                odb_headers(json.At, json.Size, ref to[0], room, out length, ref items[0], most, out count), out byte[] text, out Header[] pairs, out int many);
+                odb_headers(ref json.At[0], json.Size, ref to[0], room, out length, ref items[0], most, out count), out byte[] text, out Header[] pairs, out int many);
             var words = new Words(text);
             return status == Done ? pairs.Take(many).ToDictionary(it => words[it.Name], it => words[it.Value]) : status == Refused ? (Dictionary<string, string>)null : throw Failure(status);
         }
