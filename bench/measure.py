@@ -37,12 +37,14 @@ class BenchFault(Exception):
 @dataclass(frozen=True)
 class Run:
     """The measures of one run: its exit status, or less than 0 the signal that ended it; seconds of
-    time and of processor time, of the user and the system; and the greatest memory in bytes."""
+    time and of processor time, of the user and the system; the greatest memory in bytes; and the
+    faults of pages that no disk was read for."""
 
     status: int
     wall: float
     processor: float
     memory: int
+    faults: int
 
 
 def adopt_orphans():
@@ -124,4 +126,5 @@ def run(words, output=os.devnull):
         wall=wall,
         processor=usage.ru_utime + usage.ru_stime,
         memory=usage.ru_maxrss * 1024,
+        faults=usage.ru_minflt,
     )

@@ -4,13 +4,12 @@ use std::io::Write;
 
 use percent_encoding::percent_decode_str;
 use serde::Serialize;
-use serde_json::{Map, Value};
+use serde_json::Value;
 
-use crate::{as_map, at, is_whole, present, read_headers, text, whole, write_list, Checked, Headers};
+use crate::{as_map, at, is_whole, read_headers, whole, write_list, Checked, Headers};
 
 const MAX_REQUESTS: usize = 10_000;
 const METHODS: [&str; 5] = ["delete", "get", "patch", "post", "put"];
-const MEMBERS: [&str; 7] = ["id", "method", "url", "atomicityGroup", "dependsOn", "headers", "body"];
 const RESERVED: [&[u8]; 7] = [b"batch", b"crossjoin", b"all", b"entity", b"root", b"id", b"metadata"];
 
 /// A request; its members and their order are those of the canonical text.
@@ -58,17 +57,17 @@ fn is_body_of(headers: &Headers, body: &Value) -> bool {
 }
 
 fn is_nested_batch(url: &str) -> bool {
-    let path = url.split(['?', '#']).next().unwrap_or("");
-    let segment = path.rsplit('/').next().unwrap_or("");
+    let end = url.bytes().position(|byte| byte == b'?' || byte == b'#').unwrap_or(url.len());
+    let segment = url[..end].rsplit('/').next().unwrap_or("");
     percent_decode_str(segment).eq(b"$batch".iter().copied())
 }
 
 /// The id that the URL refers to, if any.
 fn reference_of(url: &str) -> Result<Option<String>, &'static str> {
-    let segment = url.split(['/', '?', '#']).next().unwrap_or("");
-    if !segment.starts_with(['$', '%']) {
+    if !url.starts_with(['$', '%']) {
         return Ok(None);
     }
+    let segment = url.split(['/', '?', '#']).next().unwrap_or("");
     let decoded: Vec<u8> = percent_decode_str(segment).collect();
     let Some(name) = decoded.strip_prefix(b"$") else { return Ok(None) };
     let run = name.iter().take_while(|byte| is_id_byte(**byte)).count();
@@ -81,8 +80,8 @@ fn reference_of(url: &str) -> Result<Option<String>, &'static str> {
     }
 }
 
-fn read_names(members: &Map<String, Value>) -> Option<Vec<&str>> {
-    let Some(value) = present(members, "dependsOn") else { return Some(Vec::new()) };
+fn read_names(value: Option<&Value>) -> Option<Vec<&str>> {
+    let Some(value) = value else { return Some(Vec::new()) };
     let elements = value.as_array()?;
     let mut names = Vec::with_capacity(elements.len());
     for element in elements {
@@ -95,24 +94,35 @@ fn read_names(members: &Map<String, Value>) -> Option<Vec<&str>> {
 }
 
 fn read_request(element: &Value) -> Result<Request<'_>, &'static str> {
-    let members = element.as_object().ok_or("F10 NotRequestObject")?;
-    if members.contains_key("if") {
-        return Err("F11 IfMember");
+    let (mut id, mut method, mut url, mut group, mut names, mut headers, mut body) = Default::default();
+    let mut unknown = false;
+    for (name, value) in element.as_object().ok_or("F10 NotRequestObject")? {
+        let given = Some(value).filter(|value| !value.is_null());
+        match name.as_str() {
+            "id" => id = value.as_str(),
+            "method" => method = value.as_str(),
+            "url" => url = value.as_str(),
+            "atomicityGroup" => group = given,
+            "dependsOn" => names = given,
+            "headers" => headers = given,
+            "body" => body = given,
+            "if" => return Err("F11 IfMember"),
+            _ => unknown |= !name.contains('@'),
+        }
     }
-    if members.keys().any(|name| !MEMBERS.contains(&name.as_str()) && !name.contains('@')) {
+    if unknown {
         return Err("F12 UnknownRequestMember");
     }
-    let id = text(members, "id").filter(|id| is_request_id(id)).ok_or("F13 BadId")?;
-    let method = text(members, "method").ok_or("F14 BadMethod")?;
+    let id = id.filter(|id| is_request_id(id)).ok_or("F13 BadId")?;
+    let method = method.ok_or("F14 BadMethod")?;
     let method = METHODS.into_iter().find(|known| known.eq_ignore_ascii_case(method)).ok_or("F14 BadMethod")?;
-    let url = text(members, "url").ok_or("F15 BadUrl")?;
-    let group = match present(members, "atomicityGroup") {
+    let url = url.ok_or("F15 BadUrl")?;
+    let group = match group {
         None => None,
         Some(value) => Some(value.as_str().filter(|group| is_request_id(group)).ok_or("F16 BadGroup")?),
     };
-    let names = read_names(members).ok_or("F17 BadDependsOn")?;
-    let headers = read_headers(members)?;
-    let body = present(members, "body");
+    let names = read_names(names).ok_or("F17 BadDependsOn")?;
+    let headers = read_headers(headers)?;
     if body.is_some() && matches!(method, "get" | "delete") {
         return Err("F20 BodyNotAllowed");
     }

@@ -45,8 +45,8 @@ fn is_whole(value: &Value) -> bool {
     }
 }
 
-fn read_headers(members: &Map<String, Value>) -> Result<Headers<'_>, &'static str> {
-    let Some(value) = present(members, "headers") else { return Ok(Vec::new()) };
+fn read_headers(value: Option<&Value>) -> Result<Headers<'_>, &'static str> {
+    let Some(value) = value else { return Ok(Vec::new()) };
     let given = value.as_object().ok_or("F18 BadHeaders")?;
     let mut headers = Vec::with_capacity(given.len());
     for (name, value) in given {

@@ -104,20 +104,23 @@ pub fn check(requests: Vec<Request<'_>>) -> Checked<Plan<'_>> {
     let group_count = groups.len();
     let mut plan = Plan { requests, positions, group_count, unit_of, members, needs, need_ends, levels };
     for i in 0..count {
-        let (request, start) = (&plan.requests[i], plan.needs.len());
+        let (names, start) = (plan.requests[i].names.len(), plan.needs.len());
         let (mut broken, mut level) = (None::<&str>, 0);
-        let names = request.names.iter().map(|name| named(&plan, &groups, i as u32, name));
-        let found: Vec<_> = names.collect();
-        let reference = request.reference.as_deref().map(|id| (id, referred(&plan, i as u32, id)));
-        let repeated = reference.as_ref().is_some_and(|(id, _)| request.names.contains(id));
-        for need in found.into_iter().chain(reference.filter(|_| !repeated).map(|(_, need)| need)) {
-            match need {
+        for k in 0..names {
+            match named(&plan, &groups, i as u32, plan.requests[i].names[k]) {
                 Ok(need) => plan.needs.push(need),
                 Err(rule) => broken = Some(broken.map_or(rule, |other| other.min(rule))),
             }
         }
         if let Some(rule) = broken {
             return Err(at(rule, "requests", i));
+        }
+        let request = &plan.requests[i];
+        if let Some(reference) = &request.reference {
+            let need = referred(&plan, i as u32, reference).map_err(|rule| at(rule, "requests", i))?;
+            if !request.names.contains(&reference.as_str()) {
+                plan.needs.push(need);
+            }
         }
         for need in &plan.needs[start..] {
             level = level.max(match *need {

@@ -7,7 +7,10 @@ use serde::Serialize;
 use serde_json::{Map, Value};
 
 use crate::plan::{Need, Plan};
-use crate::{as_map, at, is_whole, present, read_headers, text, whole, write_list, Checked, Headers};
+use crate::{as_map, at, is_whole, read_headers, text, whole, write_list, Checked, Headers};
+
+/// The headers and the body of an outcome.
+type Parts<'a> = (Headers<'a>, Option<&'a Value>);
 
 struct Outcome<'a> {
     status: u16,
@@ -147,14 +150,20 @@ fn only<'a>(document: &'a Value, name: &str) -> Option<&'a Vec<Value>> {
     document.as_object().filter(|members| members.len() == 1)?.get(name)?.as_array()
 }
 
-fn has_only(members: &Map<String, Value>, names: &[&str]) -> bool {
-    members.keys().all(|name| names.contains(&name.as_str()))
-}
-
-fn read_outcome(element: &Value) -> Option<(&str, &Value, Headers<'_>, Option<&Value>)> {
-    let members = element.as_object().filter(|it| has_only(it, &["id", "status", "headers", "body"]))?;
-    let status = members.get("status").filter(|status| status.is_number())?;
-    Some((text(members, "id")?, status, read_headers(members).ok()?, present(members, "body")))
+/// The members of an outcome or a report, or nothing if it has others.
+fn read_outcome<'a>(members: &'a Map<String, Value>, id_name: &str) -> Option<(&'a str, &'a Value, Parts<'a>)> {
+    let (mut id, mut status, mut headers, mut body) = Default::default();
+    for (name, value) in members {
+        let given = Some(value).filter(|value| !value.is_null());
+        match name.as_str() {
+            "status" => status = Some(value).filter(|status| status.is_number()),
+            "headers" => headers = given,
+            "body" => body = given,
+            name if name == id_name => id = value.as_str(),
+            _ => return None,
+        }
+    }
+    Some((id?, status?, (read_headers(headers).ok()?, body)))
 }
 
 fn read_outcomes<'a>(plan: &Plan, document: &'a Value) -> Checked<Vec<Option<Outcome<'a>>>> {
@@ -162,7 +171,8 @@ fn read_outcomes<'a>(plan: &Plan, document: &'a Value) -> Checked<Vec<Option<Out
     let mut outcomes: Vec<_> = plan.requests.iter().map(|_| None).collect();
     let mut unknown = HashSet::new();
     for (k, element) in elements.iter().enumerate() {
-        let (id, status, headers, body) = read_outcome(element).ok_or_else(|| at("F60 BadOutcomes", "outcomes", k))?;
+        let found = element.as_object().and_then(|members| read_outcome(members, "id"));
+        let (id, status, (headers, body)) = found.ok_or_else(|| at("F60 BadOutcomes", "outcomes", k))?;
         let position = plan.positions.get(id).map(|i| *i as usize);
         if position.map_or_else(|| !unknown.insert(id), |i| outcomes[i].is_some()) {
             return Err(at("F61 OutcomeTwice", "outcomes", k));
@@ -201,9 +211,9 @@ fn read_event(element: &Value) -> Option<(&str, Option<Outcome<'_>>)> {
     if let Some(id) = text(members, "start") {
         return (members.len() == 1).then_some((id, None));
     }
-    let id = text(members, "report").filter(|_| has_only(members, &["report", "status", "headers", "body"]))?;
-    let status = members.get("status")?.as_u64().and_then(|status| u16::try_from(status).ok())?;
-    Some((id, Some(Outcome { status, headers: read_headers(members).ok()?, body: present(members, "body") })))
+    let (id, status, (headers, body)) = read_outcome(members, "report")?;
+    let status = status.as_u64().and_then(|status| u16::try_from(status).ok())?;
+    Some((id, Some(Outcome { status, headers, body })))
 }
 
 fn read_events<'a>(plan: &Plan, document: &'a Value) -> Checked<Vec<Event<'a>>> {
