@@ -72,12 +72,21 @@ SHAPES = {
 }
 
 
+def names_in(word):
+    """The workloads that a word names."""
+    wanted = word.split(",")
+    if not set(wanted) <= set(SHAPES):
+        raise argparse.ArgumentTypeError(f"the workloads are {', '.join(SHAPES)}")
+    return wanted
+
+
 def read_words(words):
     """The words of the command line."""
     parser = argparse.ArgumentParser(description="Measures memory and times of odb_batch beside a plain Rust program.")
     option = parser.add_argument
     option("--turns", type=int, default=TURNS, metavar="N", help=f"how often each run is made; {TURNS} if left out")
     add_program(option)
+    option("--only", type=names_in, default=list(SHAPES), metavar="WORD,..", help=f"of {', '.join(SHAPES)}")
     option("--time", action="store_true", help="count no instructions, which takes minutes")
     option("--peer", default=PEER, metavar="PATH", help="the peer; else the one built in bench/peer, if it is")
     return parser.parse_args(words)
@@ -119,10 +128,11 @@ def try_job(job, content, folder):
         raise BenchFault(f"{job.of}: {job.command} of {job.shape} gave a wrong answer")
 
 
-def prepare(programs, folder):
+def prepare(programs, folder, names):
     """Makes the workloads, and tries each job on them once. Returns the jobs: those of the programs follow each other."""
     jobs = []
-    for name, (make, words) in SHAPES.items():
+    for name in names:
+        make, words = SHAPES[name]
         requests, outcomes = make(SIZE)
         texts, content = (compact("requests", requests), compact("outcomes", outcomes)), Content(requests, outcomes)
         case = workloads.write_case(folder, name, 1, words, (), texts, content)
@@ -186,9 +196,10 @@ def for_each(programs, cell):
     return [cell(of) for of in programs] + ["-"] * (2 - len(programs))
 
 
-def rows(cells):
+def rows(found, cells):
     """The rows of a table, one for each shape and command."""
-    return [[shape, command, *cells(shape, command)] for shape in SHAPES for command in KINDS]
+    shapes_found = dict.fromkeys(job.shape for job in found)
+    return [[shape, command, *cells(shape, command)] for shape in shapes_found for command in KINDS]
 
 
 def memory_text(found, programs):
@@ -202,7 +213,7 @@ def memory_text(found, programs):
             *for_each(programs, lambda of: f"{faults.median(shape, reading_of(command), of):,.0f}"),
         ]
 
-    return f"{tables.table([*HEADS, *MEMORY_HEADS], rows(cells), 2)}\n\n{MEMORY_LEGEND}"
+    return f"{tables.table([*HEADS, *MEMORY_HEADS], rows(found, cells), 2)}\n\n{MEMORY_LEGEND}"
 
 
 def time_text(found, programs):
@@ -212,7 +223,7 @@ def time_text(found, programs):
         own = for_each(programs, lambda of: tables.milliseconds(times.median(shape, command, of)))
         return [*own, times.ratio(shape, command, programs), times.ratio(shape, reading_of(command), programs)]
 
-    return f"{tables.table([*HEADS, *TIME_HEADS], rows(cells), 2)}\n\n{TIME_LEGEND}"
+    return f"{tables.table([*HEADS, *TIME_HEADS], rows(found, cells), 2)}\n\n{TIME_LEGEND}"
 
 
 def count_text(found, programs):
@@ -225,7 +236,7 @@ def count_text(found, programs):
         ratios = [counts.ratio(shape, it, programs) for it in (command, reading_of(command))]
         return [*own, *ratios, f"{share:.2f}"]
 
-    return f"{tables.table([*HEADS, *COUNT_HEADS], rows(cells), 2)}\n\n{COUNT_LEGEND}"
+    return f"{tables.table([*HEADS, *COUNT_HEADS], rows(found, cells), 2)}\n\n{COUNT_LEGEND}"
 
 
 def measured_text(words, folder):
@@ -233,7 +244,7 @@ def measured_text(words, folder):
     programs = {"program": os.path.realpath(ready(words.program))}
     if os.access(words.peer, os.X_OK):
         programs["peer"] = os.path.realpath(words.peer)
-    jobs = prepare(programs, folder)
+    jobs = prepare(programs, folder, words.only)
     before = os.getloadavg()[0]
     found = measured(jobs, words.turns)
     facts = f"{tables.machine()}; load {before:.1f} before and {os.getloadavg()[0]:.1f} after; turns: {words.turns}"
