@@ -19,7 +19,7 @@ ROOT = os.path.dirname(os.path.dirname(os.path.realpath(__file__)))
 HEADER = "include/odb_batch.h"
 EXPORTS = "crates/odb_ffi/src"
 NAME = "libodb_batch.so.0"
-MOST_BYTES = 845_000
+MOST_BYTES = 855_000
 
 # What a type of Rattle is for C; `alloc` is nothing.
 TYPES = {

@@ -132,8 +132,8 @@ public class ClientTests {
         CollectionAssert.AreEqual(new[] {
             "{\"requests\":[{\"body\":{\"x\":1.50},\"id\":\"a\",\"method\":\"post\",\"url\":\"Books\"},{\"id\":\"n\",\"method\":\"get\",\"url\":\"N\"}]}",
             "{\"requests\":[{\"id\":\"b\",\"method\":\"get\",\"url\":\"Books(7)/Pages?y=1\"}]}",
-            "{\"requests\":[{\"id\":\"c\",\"atomicityGroup\":\"g\",\"method\":\"patch\",\"url\":\"Books(7)\",\"headers\":{\"if-match\":\"\\\"1\\\"\"},\"body\":{}},"
-                + "{\"id\":\"d\",\"atomicityGroup\":\"g\",\"method\":\"get\",\"url\":\"Books(7)/Pages/First\"}]}",
+            "{\"requests\":[{\"atomicityGroup\":\"g\",\"body\":{},\"headers\":{\"if-match\":\"\\\"1\\\"\"},\"id\":\"c\",\"method\":\"patch\",\"url\":\"Books(7)\"},"
+                + "{\"atomicityGroup\":\"g\",\"id\":\"d\",\"method\":\"get\",\"url\":\"Books(7)/Pages/First\"}]}",
             "{\"requests\":[{\"id\":\"e\",\"method\":\"get\",\"url\":\"E\"}]}" }, service.Posted);
         Assert.Throws<ArgumentException>(() => Sent(Chain, service, 1)); // the group has two
         Assert.Throws<ArgumentException>(() => Sent(Chain, service, 0));

@@ -152,7 +152,7 @@ class BatchClientTest {
         BatchResults results = client.send(batch);
         assertEquals("{o=201, busy=503, b2=503, mark=424}", shown(results));
         assertEquals("{\"requests\":[{\"id\":\"busy\",\"method\":\"get\",\"url\":\"Busy\"},{\"id\":\"b2\",\"method\":\"get\",\"url\":\"Busy\"},"
-            + "{\"id\":\"mark\",\"dependsOn\":[\"b2\"],\"method\":\"patch\",\"url\":\"/odata/E(o)\",\"headers\":{\"content-type\":\"application/json\",\"if-match\":\"W/\\\"1\\\"\"},\"body\":{}}]}",
+            + "{\"body\":{},\"dependsOn\":[\"b2\"],\"headers\":{\"content-type\":\"application/json\",\"if-match\":\"W/\\\"1\\\"\"},\"id\":\"mark\",\"method\":\"patch\",\"url\":\"/odata/E(o)\"}]}",
             text(results.rest()));
         assertEquals("{busy=503, b2=503, mark=424}", shown(client.send(results.rest())));
     }
