@@ -162,13 +162,19 @@ class Results {
   }
 }
 
+/** A batch without headers and bodies: its rest has the same ids, and needs no ETag. */
+function withoutHeaders(document) {
+  const found = JSON.parse(document.toString()).requests
+  return { requests: found.map((members) => ({ ...members, headers: undefined, body: undefined })) }
+}
+
 /** What became of each request, by its id: `done`, `failed`, `left` or `unknown`. */
 function findKinds({ document, requests }, results) {
   const groupOf = ({ id }) => requests.get(id).group
   const headers = { location: 'x' } // any does for the ids of the rest
   const responses = results.map((result) => ({ id: result.id, status: result.status, atomicityGroup: groupOf(result), headers }))
   const unsuccessful = results.filter(({ ok }) => !ok)
-  const left = new Set(unsuccessful.length > 0 ? plan(rest(document, { responses })).map(({ id }) => id) : [])
+  const left = new Set(unsuccessful.length > 0 ? plan(rest(withoutHeaders(document), { responses })).map(({ id }) => id) : [])
   const undone = new Set(unsuccessful.map(groupOf).filter((group) => group !== null))
   const findKind = (result) => {
     if (left.has(result.id)) return 'left'

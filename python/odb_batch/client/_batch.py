@@ -13,7 +13,7 @@ from ..http.batches import responses_json
 from ..http.messages import Answer
 from ._builder import Builder, Reference
 from ._parts import Parts
-from ._rest import rest_document
+from ._rest import rest_document, without_headers
 from ._results import UNSURE, Outcome, RequestFailed, Result, seconds_of
 from ._transports import Posted
 
@@ -163,7 +163,7 @@ class Results(Mapping[str, Result]):
         unsuccessful = [result for result in self._found.values() if not result.is_success]
         # Any Location does for the ids of the rest.
         answers = {result.id: Answer(result.status, {"location": "x"}) for result in self._found.values()}
-        left = plan(rest(self._document, responses_json(answers, self._groups))) if unsuccessful else ()
+        left = plan(rest(without_headers(self._document), responses_json(answers, self._groups))) if unsuccessful else ()
         left_ids, undone = {request.id for request in left}, {self._groups[result.id] for result in unsuccessful} - {None}
 
         def find(result: Result) -> Outcome:

@@ -37,6 +37,13 @@ def rest_document(batch: bytes, responses: bytes) -> bytes:
         raise ValueError(describe(request, recorded)) from None
 
 
+def without_headers(batch: bytes) -> bytes:
+    """Returns a batch without headers and bodies: its rest has the same ids, and needs no ETag."""
+    found = json.loads(batch, parse_int=str, parse_float=str)["requests"]
+    left = [{name: value for name, value in members.items() if name not in ("headers", "body")} for members in found]
+    return json.dumps({"requests": left}).encode()
+
+
 def _describe_missing_place(request: Request, recorded: _Recorded) -> str:
     """Why the URL of a request of the rest cannot be replaced."""
     place = recorded[str(request.reference)].get("location")
