@@ -102,10 +102,11 @@ class Parts:
         also the units after it that refer to what was answered without one, and may begin."""
         first, *others = self._run.requests[position:]
         pending = {name for name, answer in self.answers.items() if not answer.is_success}
-        tagless = None if code == "F90" else self._refusal_of(first, pending) or self._refusal_of(first, self._units[first.group or first.id])
+        unit = self._units[first.group or first.id]
+        tagless = None if code == "F90" else self._refusal_of(first, pending) or self._refusal_of(first, unit)
         refusals = {first.id: tagless or _no_location(first)}
         if self._mode == "continue":
-            refusals.update((it.id, refusal) for it in others if (refusal := self._refusal_of(it, pending)))
+            refusals.update((other.id, refusal) for other in others if (refusal := self._refusal_of(other, pending)))
         for request_id, refusal in refusals.items():
             with contextlib.suppress(Refused):
                 self._run.start_unit(request_id)
