@@ -47,8 +47,7 @@ const REFERENCE: &str =
     r#"{"requests":[{"id":"a","method":"post","url":"A","body":{}},{"id":"b","method":"get","url":"$a/B","dependsOn":["a"]}]}"#;
 
 /// `b` and `c` refer to the ETag of `a`, and `c` to that of `b`.
-const CONDITIONS: &str =
-    r#"{"requests":[{"id":"a","method":"post","url":"A"},
+const CONDITIONS: &str = r#"{"requests":[{"id":"a","method":"post","url":"A"},
     {"id":"b","method":"patch","url":"B","dependsOn":["a"],"headers":{"If-Match":"$a","If-None-Match":"a"}},
     {"id":"c","method":"get","url":"C","dependsOn":["a","b"],"headers":{"X-A":"$a","If-Match":"$b","IF-NONE-MATCH":"$a"}}]}"#;
 
@@ -232,12 +231,10 @@ fn states_of(alloc: Global, letters: &str) -> Result<Vec<RequestState>, AllocErr
 fn answers_of(alloc: Global, pairs: &[Pair]) -> Result<Vec<Recorded<'static>>, AllocError> {
     let mut answers = Vec::with_capacity(alloc, pairs.len())?;
     for pair in pairs {
-        answers.push(
-            Recorded {
-                location: pair.0,
-                etag: pair.1,
-            },
-        )?;
+        answers.push(Recorded {
+            location: pair.0,
+            etag: pair.1,
+        })?;
     }
     Ok(answers)
 }

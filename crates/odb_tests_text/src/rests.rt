@@ -60,9 +60,7 @@ const ROWS: &[Row] = &[
     (
         r#"{"requests":[{"id":"b","method":"get","url":"B","headers":{"if-match":"$a"}},{"id":"a","method":"get","url":"A"}]}"#,
         r#"{"responses":[{"id":"a","status":200,"headers":{"ETag":"1"}},{"id":"b","status":503}]}"#,
-        Some(
-            r#"{"requests":[{"headers":{"if-match":"$a"},"id":"b","method":"get","url":"B"}]}"#,
-        ),
+        Some(r#"{"requests":[{"headers":{"if-match":"$a"},"id":"b","method":"get","url":"B"}]}"#),
     ),
     // What has failed has no ETag.
     (
