@@ -76,12 +76,12 @@ namespace OdbBatch {
         private static readonly IReadOnlyDictionary<string, string> Empty = new System.Collections.ObjectModel.ReadOnlyDictionary<string, string>(new Dictionary<string, string>());
         private static readonly string[] None = new string[0], ByLength = { "", "", "", "GET", "POST", "PATCH", "DELETE" };
 
-        private BatchRequest(int position, Native.Request it, Native.Words text, byte[] document, BatchRequest[] before, Dictionary<string, IReadOnlyDictionary<string, string>> known) {
+        private BatchRequest(int position, Native.Request it, Native.Words text, byte[] document, BatchRequest[] before, Dictionary<string, IReadOnlyDictionary<string, string>> known, ref string last) {
             Position = (uint)position; Id = text[it.Id]; Method = text.Like(ByLength[(int)Math.Min(it.Method.Length, 6)], it.Method); Url = text[it.Url]; Group = text[it.Group]; Body = Native.Slice(document, it.Body);
             Reference = it.Reference == Native.None ? null : before[it.Reference].Id;
             Rest = Reference == null ? Url : text[it.Rest]; Needs = it.Needs.Length == 0 ? None : text[it.Needs].Split(',');
-            string headers = it.Headers.Length <= 2 ? "{}" : text[it.Headers]; // which many requests have alike
-            Headers = headers == "{}" ? Empty : known.TryGetValue(headers, out var found) ? found : known[headers] = Native.Headers(headers);
+            if (it.Headers.Length > 2) last = text.Like(last, it.Headers); // which many requests have alike
+            Headers = it.Headers.Length <= 2 ? Empty : known.TryGetValue(last, out var found) ? found : known[last] = Native.Headers(last);
         }
 
         internal BatchRequest(BatchRequest of, string url, IReadOnlyDictionary<string, string> headers, byte[] body) {
@@ -118,8 +118,8 @@ namespace OdbBatch {
 
         internal static BatchRequest[] All(Native.Request[] parts, int count, byte[] text, byte[] document) {
             var found = new BatchRequest[count]; var words = new Native.Words(text);
-            var known = new Dictionary<string, IReadOnlyDictionary<string, string>>();
-            for (int i = 0; i < found.Length; i++) found[i] = new BatchRequest(i, parts[i], words, document, found, known);
+            var known = new Dictionary<string, IReadOnlyDictionary<string, string>>(); string last = "{}";
+            for (int i = 0; i < found.Length; i++) found[i] = new BatchRequest(i, parts[i], words, document, found, known, ref last);
             return found;
         }
     }

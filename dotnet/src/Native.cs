@@ -128,7 +128,10 @@ namespace OdbBatch {
         }
 
         /// <summary>The bytes of a part, or null if there is none.</summary>
-        internal static byte[] Slice(byte[] text, Part part) => part.Start == None ? null : new ArraySegment<byte>(text, (int)part.Start, (int)part.Length).ToArray();
+        internal static byte[] Slice(byte[] text, Part part) {
+            byte[] found = part.Start == None ? null : new byte[part.Length];
+            if (found != null) Buffer.BlockCopy(text, (int)part.Start, found, 0, found.Length); return found;
+        }
 
         /// <summary>The headers in an object of JSON by their names in lower case; null if it is not one of strings.</summary>
         internal static Dictionary<string, string> Headers(Document json) {

@@ -74,12 +74,10 @@ namespace OdbBatch.Client {
 
         /// <summary>The next part. What refers to an answer without a URL of use or an ETag is answered 424, and is in none.</summary>
         private (IReadOnlyList<string> Ids, byte[] Document) NextPart() {
-            while (true) {
-                try { return run.NextPart(most); } catch (FaultException problem) {
-                    int first = int.Parse(problem.Fault.Place.Substring(problem.Fault.Place.LastIndexOf('/') + 1), System.Globalization.CultureInfo.InvariantCulture);
-                    Refuse(run.Requests[first], problem.Code == "F90" ? "NoLocation" : "NoETag");
-                    if (mode == RunMode.Continue) foreach (var it in run.Requests.Skip(first + 1)) if (LackOf(it) is string code) Refuse(it, code);
-                }
+            while (true) try { return run.NextPart(most); } catch (FaultException problem) {
+                int first = int.Parse(problem.Fault.Place.Substring(problem.Fault.Place.LastIndexOf('/') + 1), System.Globalization.CultureInfo.InvariantCulture);
+                Refuse(run.Requests[first], problem.Code == "F90" ? "NoLocation" : "NoETag");
+                if (mode == RunMode.Continue) foreach (var it in run.Requests.Skip(first + 1)) if (LackOf(it) is string code) Refuse(it, code);
             }
         }
 
@@ -93,10 +91,7 @@ namespace OdbBatch.Client {
         private void Refuse(BatchRequest request, string code) {
             if (run.TryStartUnit(request.Id) != Native.Done) return;
             var refusal = new RefusalException(424, code, "What " + request.Id + " refers to was answered without " + (code == "NoETag" ? "an ETag" : "a URL of use"));
-            foreach (var it in units[request.Group ?? request.Id]) {
-                answers[it.Id] = refusal.Answer;
-                run.Report(it.Id, 424);
-            }
+            foreach (var it in units[request.Group ?? request.Id]) { answers[it.Id] = refusal.Answer; run.Report(it.Id, 424); }
         }
 
         private async Task InPartsAsync(byte[] sent, Func<byte[], Task<BatchAnswer>> post, Dictionary<string, BatchAnswer> answered, CancellationToken cancellation) {
@@ -152,8 +147,7 @@ namespace OdbBatch.Client {
         private Dictionary<string, string> Recorded(string id) {
             var headers = new Dictionary<string, string>();
             if (!found.TryGetValue(id, out var at)) return headers;
-            if (at.Place != null) headers["location"] = at.Place;
-            if (at.Tag != null) headers["etag"] = at.Tag;
+            if (at.Place != null) headers["location"] = at.Place; if (at.Tag != null) headers["etag"] = at.Tag;
             return headers;
         }
 
