@@ -312,7 +312,7 @@ func TestReferences(t *testing.T) {
 {"id":"c","method":"patch","url":"$b","headers":{"If-Match":"$a","Content-Type":"application/octet-stream"},"dependsOn":["a","b"],"body":"AP8"},
 {"id":"d","method":"get","url":"$c","dependsOn":["c"],"headers":{"If-None-Match":"$c"}},
 {"id":"e","method":"get","url":"../admin"},
-{"id":"f","method":"post","url":"Loans"},
+{"id":"f","method":"post","url":"Loans","headers":{"Content-Type":"application/octet-stream"},"body":"AP8="},
 {"id":"g","method":"get","url":"$f/x","dependsOn":["f"]}]}`)
 	got := map[string]odb.Request{}
 	send := func(ctx context.Context, request *odb.Request) (odb.Answer, error) {
@@ -336,6 +336,7 @@ func TestReferences(t *testing.T) {
 		"b": "https://host/other/Books(7)/Pages?x=1 map[] ",
 		"c": "https://host/other/Books(7)/Pages map[content-type:application/octet-stream if-match:W/\"1\"] \x00\xff",
 		"e": "https://host/admin map[] ",
+		"f": "https://host/odata/Loans map[content-type:application/octet-stream] \x00\xff",
 	} {
 		if found := fmt.Sprint(got[id].URL, got[id].Headers, string(got[id].Body)); strings.ReplaceAll(found, " ", "") != strings.ReplaceAll(wanted, " ", "") {
 			t.Errorf("%s: %q not %q", id, found, wanted)

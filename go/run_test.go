@@ -110,6 +110,16 @@ func TestDocumentsThatAreRefused(t *testing.T) {
 	}
 }
 
+func TestAUnitStartsAsAWhole(t *testing.T) {
+	run := opened(t, usual, odb.Policy{})
+	if err := run.StartUnit("q"); err != nil {
+		t.Fatal(err)
+	}
+	if running, err := run.Running(); err != nil || fmt.Sprint(running) != "[p q]" {
+		t.Error(running, err)
+	}
+}
+
 func TestRefusedEvents(t *testing.T) {
 	run := opened(t, usual, odb.Policy{Width: 1})
 	for _, it := range []struct {
