@@ -74,6 +74,14 @@ class LiveRunTest {
     }
 
     @Test
+    void aUnitStartsAsAWhole() {
+        try (LiveRun run = new LiveRun(Texts.USUAL, Mode.CONTINUE, 8)) {
+            run.startUnit("q");
+            assertEquals(List.of("p", "q"), run.running());
+        }
+    }
+
+    @Test
     void refusesWhatMayNotCome() {
         try (LiveRun run = new LiveRun(Texts.USUAL, Mode.CONTINUE, 1)) {
             RefusedException early = assertThrows(RefusedException.class, () -> run.start("b"));
