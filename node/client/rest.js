@@ -16,7 +16,8 @@ function describeMissingPlace({ id, reference, rest }, recorded) {
 
 /** Why a condition of a request of the rest cannot be replaced. */
 function describeMissingTag({ id, headers }, recorded) {
-  const referred = CONDITIONS.map((name) => headers[name]?.replace(/^\$/, ''))
+  const values = CONDITIONS.map((name) => headers[name] ?? '')
+  const referred = values.filter((value) => value.startsWith('$')).map((value) => value.slice(1))
   const other = referred.find((name) => recorded.has(name) && recorded.get(name).etag === undefined)
   return `${id} refers to ${other}, which was answered without an ETag`
 }

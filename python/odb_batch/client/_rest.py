@@ -54,6 +54,7 @@ def _describe_missing_place(request: Request, recorded: _Recorded) -> str:
 
 def _describe_missing_tag(request: Request, recorded: _Recorded) -> str:
     """Why a condition of a request of the rest cannot be replaced."""
-    referred = (request.headers.get(name, "").removeprefix("$") for name in CONDITIONS)
+    values = [request.headers.get(name, "") for name in CONDITIONS]
+    referred = [value[1:] for value in values if value.startswith("$")]
     other = next(name for name in referred if name in recorded and "etag" not in recorded[name])
     return f"{request.id} refers to {other}, which was answered without an ETag"
