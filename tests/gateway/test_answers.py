@@ -22,16 +22,11 @@ def raw(loop):
     """Makes services that answer by bytes."""
     from support.gateways import Raw
 
-    made = []
-
     def start(*lines, status=201, body=BODY):
         head = [b"HTTP/1.1 %d x" % status, b"Content-Type: application/json", b"Content-Length: %d" % len(body), *lines]
-        made.append(Raw(loop, b"\r\n".join([*head, b"Connection: close", b"", body])))
-        return made[-1]
+        return Raw(loop, b"\r\n".join([*head, b"Connection: close", b"", body]))
 
-    yield start
-    for it in made:
-        it.server.close()
+    return start
 
 
 def path_of(head):
@@ -171,7 +166,6 @@ def test_the_log_says_why_there_is_no_answer(upstream, running, kind, code, reas
 @pytest.mark.needs("openssl")
 def test_a_wrong_certificate_is_named(loop, running, tmp_path):
     """Nothing is sent to a service that cannot show who it is."""
-    import asyncio
     import ssl
 
     key, certificate, seen = str(tmp_path / "key"), str(tmp_path / "certificate"), []
@@ -183,10 +177,8 @@ def test_a_wrong_certificate_is_named(loop, running, tmp_path):
     async def note(reader, writer):
         seen.append(await reader.read())
 
-    server = loop.run(asyncio.start_server(note, "127.0.0.1", 0, ssl=context))
-    it = running("--upstream", f"https://localhost:{server.sockets[0].getsockname()[1]}")
+    it = running("--upstream", f"https://localhost:{loop.listen(note, ssl=context)}")
     assert it.statuses({"method": "post", "url": "x"}) == [503]
-    server.close()
     assert " code=Unreachable reason=certificate " in it.stop(15)[1] and seen == []
 
 

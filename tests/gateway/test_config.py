@@ -1,6 +1,5 @@
 """Options in a file: how they are read, what wins, and routes with limits, credentials and certificates of their own."""
 
-import asyncio
 import dataclasses
 import ssl
 import subprocess
@@ -172,9 +171,7 @@ def secure(loop, certificates):
         await writer.drain()
         writer.close()
 
-    server = loop.run(asyncio.start_server(answer, "127.0.0.1", 0, ssl=context))
-    yield f"https://localhost:{server.sockets[0].getsockname()[1]}/", seen
-    server.close()
+    return f"https://localhost:{loop.listen(answer, ssl=context)}/", seen
 
 
 @needs_tomllib

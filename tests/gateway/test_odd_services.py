@@ -18,7 +18,6 @@ JSON_TYPE = b"Content-Type: application/json\r\n"
 @pytest.fixture
 def odd(loop):
     """Makes services that answer by a function of a writer."""
-    made = []
 
     def start(answer):
         seen = []
@@ -29,12 +28,9 @@ def odd(loop):
                 await answer(writer)
             writer.close()
 
-        made.append(loop.run(asyncio.start_server(serve, "127.0.0.1", 0)))
-        return f"http://127.0.0.1:{made[-1].sockets[0].getsockname()[1]}", seen
+        return f"http://127.0.0.1:{loop.listen(serve)}", seen
 
-    yield start
-    for server in made:
-        server.close()
+    return start
 
 
 def again(part, pause=0.0, before=b""):

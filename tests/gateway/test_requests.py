@@ -162,16 +162,12 @@ def test_services_that_break(upstream, front):
 
 
 def test_a_service_that_speaks_no_http(loop, front):
-    import asyncio
-
     async def garbage(reader, writer):
         writer.write(b"SSH-2.0-OpenSSH\r\n\r\n")
         writer.close()
 
-    server = loop.run(asyncio.start_server(garbage, "127.0.0.1", 0))
-    it = front("--upstream", f"http://127.0.0.1:{server.sockets[0].getsockname()[1]}")
+    it = front("--upstream", f"http://127.0.0.1:{loop.listen(garbage)}")
     assert it.statuses({"url": "x"}) == [502]
-    server.close()
 
 
 @pytest.mark.parametrize("status, coding, wanted", [
@@ -313,7 +309,6 @@ def test_a_header_of_a_request_is_sent_in_utf_8(loop, front):
         {"method": "delete", "url": "b", "headers": {"If-Match": "$r0"}, "dependsOn": ["r0"]},
         {"method": "delete", "url": "c", "headers": {"If-Match": '"caf\xe9"'}},
     )
-    service.server.close()
     assert ['If-Match: "caf\xe9"'.lower().encode() in head.lower() for head in service.seen] == [False, True, True]
 
 

@@ -27,7 +27,7 @@ class Loop:
 
     def __init__(self):
         self.loop = asyncio.new_event_loop()
-        self.runners = []
+        self.runners, self.servers = [], []
         self.thread = threading.Thread(target=self.loop.run_forever, daemon=True)
         self.thread.start()
 
@@ -45,15 +45,24 @@ class Loop:
         await web.TCPSite(runner, "127.0.0.1", 0, shutdown_timeout=0.1).start()
         return runner.addresses[0][1]
 
+    def listen(self, serve, **options):
+        """Serves connections by a function of a reader and a writer until the end; returns its port."""
+        server = self.run(asyncio.start_server(serve, "127.0.0.1", 0, **options))
+        self.servers.append(server)
+        return server.sockets[0].getsockname()[1]
+
     def stop(self):
         for runner in self.runners:
             self.run(runner.cleanup())
-        self.run(self._cancel_rest())
+        self.run(self._end_rest())
         self.loop.call_soon_threadsafe(self.loop.stop)
         self.thread.join(SECONDS)
         self.loop.close()
 
-    async def _cancel_rest(self):
+    async def _end_rest(self):
+        """Closes the servers in the thread that they run in (in another, `close` may fail), and cancels all tasks."""
+        for server in self.servers:
+            server.close()
         rest = asyncio.all_tasks() - {asyncio.current_task()}
         for task in rest:
             task.cancel()
@@ -166,8 +175,7 @@ class Raw:
 
     def __init__(self, loop, answer):
         self.seen, self.answer = [], answer
-        self.server = loop.run(asyncio.start_server(self._served, "127.0.0.1", 0))
-        self.port = self.server.sockets[0].getsockname()[1]
+        self.port = loop.listen(self._served)
         self.url = f"http://127.0.0.1:{self.port}"
 
     async def _served(self, reader, writer):
