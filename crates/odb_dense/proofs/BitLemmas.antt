@@ -1,12 +1,13 @@
 -- The bits of the words of a set, and those of their summary, through its steps.
-use Rattle.std.proofs.Common.{◌≡◌, ◌≢◌, ℕ, suc, ◌<◌, ◌≤◌, ◌-◌, ◌*◌, ◌/◌, ◌%◌, ◌^◌, ◌∙◌, ap, sym, subst, arith, inl, inr, Bool, true, false, ◌==◌, nat_lt, List, length, get_or, set, w64, bit_and, bit_or}
+use Rattle.std.proofs.Common.{◌≡◌, ◌≢◌, ℕ, zero, suc, ◌<◌, ◌≤◌, ◌-◌, ◌*◌, ◌/◌, ◌%◌, ◌^◌, ◌∙◌, ap, sym, refl, subst, arith, inl, inr, Bool, true, false, ◌==◌, nat_lt, List, length, get_or, set, replicate, w64, bit_and, bit_or}
 use Rattle.std.proofs.Math.Nat.{two-pow-succ}
 use Rattle.std.specs.Int.{bit_at}
 use Rattle.std.proofs.lemmas.Bool.{cases_eq, cases_lt, lt-ltb, false≢true}
 use Rattle.std.proofs.lemmas.Nat.{and_le_l}
 use Rattle.std.proofs.lemmas.Nat.Bits.{bit_at-zero, bit_at_above, bit_at_set_same, bit_at_set_other, bit_at_clear_same, bit_at_clear_other}
-use Rattle.std.proofs.lemmas.List.{get_or_past, get_or_read, get_or-set_same, get_or-set_other, length-set}
-use Rattle.odb_dense.specs.Bits.{has, IsFirst, IsLast, AreBits}
+use Rattle.std.proofs.lemmas.List.{get_or_past, get_or_read, get_or-set_same, get_or-set_other, length-set, length-replicate, ext_get_or}
+use Rattle.std.proofs.lemmas.List.FromFn.{length-map-range_with_len, get_or-map-range_with_len}
+use Rattle.odb_dense.specs.Bits.{has, below, IsFirst, IsLast, HaveRoom, AreBits}
 use Rattle.odb_dense.specs.Extremes.{IsLeastOf, IsGreatestOf}
 
 -- a word has no bit above its highest
@@ -130,3 +131,26 @@ module _ (members : List Bool) (words summary : List ℕ) (kept : AreBits member
           exact = exact_after words i word (without_bit word (i % 64)) false place word_is (without_is word (i % 64) (omega arith)) members below kept.exact;
           summed = summed_after words summary (i / 64) (without_bit word (i % 64)) over (without_bit over (i / 64 % 64)) false place block over_is (without_is over (i / 64 % 64) (omega arith)) (ap (nat_lt 0) zeros) kept.summed;
         }
+
+-- the bits below the bound are the numbers of the set
+pub members_of : (members : List Bool) (words summary : List ℕ) (bound : ℕ) → length members ≡ bound → AreBits members words summary → below bound words ≡ members
+members_of members words summary bound long kept =
+    ext_get_or false (below bound words) members (length-map-range_with_len (has words) 0 bound ∙ sym long) (λ i less.
+    get_or-map-range_with_len (has words) 0 bound i i false (omega (arith, less, length-map-range_with_len (has words) 0 bound)) (omega arith) ∙ kept.exact i)
+
+-- and so it keeps them
+pub bits_of : (members : List Bool) (words summary : List ℕ) (bound : ℕ) → length members ≡ bound → AreBits members words summary → AreBits (below bound words) words summary
+bits_of members words summary bound long kept = subst (λ ms. AreBits ms words summary) (sym (members_of members words summary bound long kept)) kept
+
+-- before the first number is put in, all words are 0
+pub bits_zero : (bound words blocks : ℕ) → HaveRoom bound words blocks → AreBits (replicate bound false) (replicate words 0) (replicate blocks 0)
+bits_zero bound words blocks room = record {
+  room = rw (length-replicate {A = Bool} bound false, length-replicate {A = ℕ} words 0, length-replicate {A = ℕ} blocks 0) room;
+  exact = λ i. ap (λ word. bit_at word (i % 64) == 1) (read_same words (i / 64)) ∙ (ap (λ d. d == 1) (bit_at-zero (i % 64)) ∙ sym (read_same bound i));
+  summed = λ k. ap (λ word. bit_at word (k % 64) == 1) (read_same blocks (k / 64)) ∙ (ap (λ d. d == 1) (bit_at-zero (k % 64)) ∙ ap (nat_lt 0) (sym (read_same words k)));
+}
+  where
+    read_same : {X : Type 0} {x : X} (n i : ℕ) → get_or (replicate n x) i x ≡ x
+    read_same zero i = refl
+    read_same (suc n) zero = refl
+    read_same (suc n) (suc i) = read_same n i

@@ -1,5 +1,5 @@
 -- The parts of a list, once more was added to the list.
-use Rattle.std.proofs.Common.{◌≡◌, ◌≤◌, ◌-◌, ◌∙◌, ℕ, suc, zero, List, [], ◌∷◌, ◌++◌, refl, ap, arith, length, map, take, drop, length-append, length-drop, All}
+use Rattle.std.proofs.Common.{◌≡◌, ◌≤◌, ◌-◌, ◌∙◌, ℕ, suc, zero, List, [], ◌∷◌, ◌++◌, refl, ap, arith, length, take, drop, length-append, length-drop}
 use Rattle.std.proofs.Math.Seq.{drop-append_seam}
 use Rattle.std.proofs.lemmas.List.{map-append, take_all, take-append-le, drop-append-le}
 use Rattle.odb_dense.specs.Parts.{part_of, rows_of, IsPart, HasParts}
@@ -11,7 +11,7 @@ module _ {T : Type 0} where
       ap (take (part.1 - part.0)) (drop-append-le part.0 list row (omega (arith, is.0, is.1)))
       ∙ take-append-le (part.1 - part.0) (drop part.0 list) row (omega (arith, is.0, is.1, length-drop part.0 list))
 
-  parts_stay : (list row : List T) (parts : List (ℕ × ℕ)) → HasParts list parts → rows_of (list ++ row) parts ≡ rows_of list parts
+  pub parts_stay : (list row : List T) (parts : List (ℕ × ℕ)) → HasParts list parts → rows_of (list ++ row) parts ≡ rows_of list parts
   parts_stay list row [] are = refl
   parts_stay list row (part ∷ parts) are =
       let first : part_of (list ++ row) part ≡ part_of list part = part_stays list row part (are zero part (omega arith)) in

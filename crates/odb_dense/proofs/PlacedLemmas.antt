@@ -1,16 +1,68 @@
 -- The places of a set through its steps.
 use Rattle.std.proofs.Common.{◌≡◌, ◌≢◌, ℕ, zero, suc, min, ◌<◌, ◌≤◌, ◌+◌, ◌-◌, ◌==◌, ◌&&◌, ◌∙◌, sym, ap, refl, subst, arith, inl, inr, Bool, true, false, cond, List, [], ◌∷◌, Option, Some, None, is_some, length, get_or, take, set, map, replicate, All, count_by, nat_lt, if◌then◌else◌}
-use Rattle.std.proofs.lemmas.Bool.{cond-true, cond-false, cases_eq, cases_lt, false≢true, ne_eqb, eq-eqb, lt-ltb, and_from, and_right}
+use Rattle.std.proofs.lemmas.Bool.{cond-true, cond-false, cases_eq, cases_lt, ne_eqb, eq-eqb, lt-ltb, and_from, and_right}
 use Rattle.std.proofs.lemmas.Option.{none-some, same_Some}
-use Rattle.std.proofs.lemmas.List.{get_or_read, get_or-take, get_or_default, get_or_past, get_or-set_same, get_or-set_other, length-set, length-map, length-take, length-take-le, map-set, set-get_or}
+use Rattle.std.proofs.lemmas.List.{get_or_read, get_or-take, get_or_default, get_or_past, get_or-map, get_or-set_same, get_or-set_other, length-set, length-map, length-replicate, length-take, length-take-le, map-set, set-get_or}
 use Rattle.std.proofs.lemmas.List.Sums.{count_by-le-length}
 use Rattle.odb_dense.specs.Lists.{ListsOnce}
-use Rattle.odb_dense.specs.Places.{ArePlaced}
+use Rattle.odb_dense.specs.Places.{ArePlaced, place_of, places_of}
 use Rattle.odb_dense.proofs.CountLemmas.{count_none, count_one, count_set, count_below}
 
-pub members_none : (n : ℕ) → map (is_some {T = ℕ}) (replicate n None) ≡ replicate n false
+pub members_none : (n : ℕ) → map is_some (places_of (replicate n 4294967295)) ≡ replicate n false
 members_none zero = refl
 members_none (suc n) = ap (λ (rest : List Bool). false ∷ rest) (members_none n)
+
+-- a number below the greatest stands for itself
+pub place_below : (n : ℕ) → n < 4294967295 → place_of n ≡ Some n
+place_below n less = cond-false (n == 4294967295) None (Some n) (ne_eqb n 4294967295 (λ e. omega (arith, e, less)))
+
+-- the greatest stands for none
+pub place_absent : (n : ℕ) → n ≡ 4294967295 → place_of n ≡ None
+place_absent n same = cond-true (n == 4294967295) None (Some n) (eq-eqb n 4294967295 same)
+
+-- what was read stands for the place of its number
+pub read_number : (numbers : List ℕ) (i n : ℕ) → i < length (places_of numbers) → n ≡ get_or numbers i n → get_or (places_of numbers) i None ≡ place_of n
+read_number numbers i n within read =
+    let below : i < length numbers = omega (arith, length-map numbers place_of) in
+    get_or-map place_of numbers i 0 None below ∙ ap place_of (sym (get_or_read numbers i n below read 0))
+
+-- a number other than the greatest is the place that it stands for
+pub read_place : (numbers : List ℕ) (i n : ℕ) → i < length (places_of numbers) → n ≡ get_or numbers i n → n ≢ 4294967295 → get_or (places_of numbers) i None ≡ Some n
+read_place numbers i n within read other = read_number numbers i n within read ∙ cond-false (n == 4294967295) None (Some n) (ne_eqb n 4294967295 other)
+
+-- the greatest tells that there is no place
+pub read_free : (numbers : List ℕ) (i n : ℕ) → i < length (places_of numbers) → n ≡ get_or numbers i n → n ≡ 4294967295 → get_or (places_of numbers) i None ≡ None
+read_free numbers i n within read absent = read_number numbers i n within read ∙ place_absent n absent
+
+-- a place below the greatest that is written
+pub written : (numbers : List ℕ) (i n : ℕ) → n < 4294967295 → places_of (set numbers i n) ≡ set (places_of numbers) i (Some n)
+written numbers i n less = map-set place_of numbers i n ∙ ap (set (places_of numbers) i) (place_below n less)
+
+-- a place that goes from one number to another
+pub removed : (numbers : List ℕ) (last i place : ℕ) → place < 4294967295 → places_of (set (set numbers last place) i 4294967295) ≡ set (set (places_of numbers) last (Some place)) i None
+removed numbers last i place less = map-set place_of (set numbers last place) i 4294967295 ∙ ap (λ ps. set ps i None) (written numbers last place less)
+
+absent_each : (n : ℕ) → places_of (replicate n 4294967295) ≡ replicate n None
+absent_each zero = refl
+absent_each (suc n) = ap (λ (rest : List (Option ℕ)). None ∷ rest) (absent_each n)
+
+read_absent : (n i : ℕ) → get_or (replicate {A = Option ℕ} n None) i None ≡ None
+read_absent zero i = refl
+read_absent (suc n) zero = refl
+read_absent (suc n) (suc i) = read_absent n i
+
+count_absent : (n : ℕ) → count_by is_some (replicate {A = Option ℕ} n None) ≡ 0
+count_absent n = count_none is_some (replicate n None) (λ k d less. ap is_some (get_or_default (replicate n None) k d None less ∙ read_absent n k))
+
+-- before the first number has a place
+pub none_placed : (items : List ℕ) (n : ℕ) → n ≤ 4294967295 → length items ≡ n → ArePlaced items (places_of (replicate n 4294967295)) 0
+none_placed items n few room = subst (λ places. ArePlaced items places 0) (sym (absent_each n)) (record {
+  few = omega (arith, few, length-replicate {A = Option ℕ} n None);
+  room = room ∙ sym (length-replicate n None);
+  counted = sym (count_absent n);
+  placed = λ k less. absurd (omega arith);
+  listed = λ i k at. absurd (none-some k (sym (read_absent n i) ∙ at));
+})
 
 -- a number with a place is below the bound
 placed_within : (places : List (Option ℕ)) (i k : ℕ) → get_or places i None ≡ Some k → i < length places
@@ -114,23 +166,10 @@ placed_more items places count i kept within free =
 pub in_bound : (places : List (Option ℕ)) (value : List Bool) (i : ℕ) → map is_some places ≡ value → i < length value → i < length places
 in_bound places value i view within = omega (arith, length-map places (is_some {T = ℕ}), ap length view)
 
-no_place : (place : Option ℕ) → is_some place ≡ false → place ≡ None
-no_place None e = refl
-no_place (Some k) e = absurd (false≢true (sym e))
-
--- what was read has no place
-pub read_free : (places : List (Option ℕ)) (i : ℕ) (place : Option ℕ) → i < length places → place ≡ get_or places i place → is_some place ≡ false → get_or places i None ≡ None
-read_free places i place within read free = sym (get_or_read places i place within read None) ∙ no_place place free
-
--- what was read is the place
-pub read_place : (places : List (Option ℕ)) (value : List Bool) (i : ℕ) (entry : Option ℕ) (place : ℕ) → map is_some places ≡ value → i < length value → entry ≡ get_or places i entry → entry ≡ Some place → get_or places i None ≡ Some place
-read_place places value i entry place view within read is = sym (get_or_read places i entry (in_bound places value i view within) read None) ∙ is
-
 -- nothing is to be done if the number is in or out already
-pub members_same : (places : List (Option ℕ)) (value : List Bool) (i : ℕ) (place : Option ℕ) (b : Bool) → map is_some places ≡ value → i < length value → place ≡ get_or places i place → is_some place ≡ b → value ≡ set value i b
-members_same places value i place b view within read is =
-    let here : place ≡ get_or places i None = get_or_read places i place (in_bound places value i view within) read None in
-    let holds : get_or value i false ≡ b = ap (λ (v : List Bool). get_or v i false) (sym view) ∙ (read_members places i ∙ (ap is_some (sym here) ∙ is)) in
+pub members_same : (places : List (Option ℕ)) (value : List Bool) (i : ℕ) (place : Option ℕ) → map is_some places ≡ value → get_or places i None ≡ place → value ≡ set value i (is_some place)
+members_same places value i place view here =
+    let holds : get_or value i false ≡ is_some place = ap (λ (v : List Bool). get_or v i false) (sym view) ∙ (read_members places i ∙ ap is_some here) in
     sym (ap (λ x. set value i x) (sym holds) ∙ set-get_or value i false)
 
 -- what the set is after what was written

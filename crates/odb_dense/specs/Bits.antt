@@ -1,7 +1,8 @@
 -- What a set keeps that returns its least and its greatest number: for its invariant, nothing to believe.
-use Rattle.std.specs.Prelude.{◌≡◌, ℕ, ◌<◌, ◌≤◌, ◌*◌, ◌/◌, ◌%◌, ◌==◌, Bool, true, false, nat_lt, List, length, slice_index_or}
+use Rattle.std.specs.Prelude.{◌≡◌, ℕ, ◌<◌, ◌≤◌, ◌*◌, ◌/◌, ◌%◌, ◌==◌, Bool, true, false, nat_lt, List, length, map, slice_index_or}
 use Rattle.std.specs.Int.{bit_at}
-use Rattle.odb_dense.specs.declared.min_max_set.MinMaxSet.TheInside.{Inside}
+use Rattle.std.specs.List.{range_with_len}
+use Rattle.odb_dense.specs.declared.bit_set.BitSet.TheInside.{Inside}
 
 -- whether a number is among the bits of words, 64 to a word
 abbrev pub has : List ℕ → ℕ → Bool
@@ -27,10 +28,14 @@ pub record AreBits (members : List Bool) (words summary : List ℕ) : Type 0 whe
   pub exact : (i : ℕ) → has words i ≡ slice_index_or members i false
   pub summed : (k : ℕ) → has summary k ≡ nat_lt 0 (slice_index_or words k 0)
 
+-- the numbers below a bound that are among the bits
+abbrev pub below : ℕ → List ℕ → List Bool
+below bound words = map (has words) (range_with_len 0 bound)
+
 -- which numbers are in a set
 abbrev pub members : Inside → List Bool
-members s = s.set
+members s = below s.bound s.words.items
 
 -- what a set keeps
 abbrev pub HasBits : Inside → Type 0
-HasBits s = AreBits s.set s.words.items s.summary.items
+HasBits s = AreBits (members s) s.words.items s.summary.items

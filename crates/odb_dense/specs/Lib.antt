@@ -5,6 +5,7 @@ pub mod Lists
 pub mod Marks
 -- What invariants and private clauses cite: nothing to believe.
 pub mod Bits
+pub mod Both
 pub mod Parts
 pub mod Places
 pub mod Queue

@@ -6,6 +6,7 @@
 #![tactic(auto)]
 
 mod absent;
+mod bit_set;
 mod bits;
 mod min_max_set;
 mod rows;
@@ -13,6 +14,7 @@ mod sparse_set;
 mod worklist;
 
 pub use absent::none_for_each;
+pub use bit_set::BitSet;
 pub use min_max_set::MinMaxSet;
 pub use rows::Rows;
 pub use worklist::{Mark, Worklist};

@@ -4,20 +4,16 @@ ghost use Rattle.std.specs.Prelude.{◌≡◌, ◌<◌, ◌≤◌, ◌==◌, ℕ
 ghost use Rattle.odb_dense.specs.Extremes.{IsLeastOf, IsGreatestOf};
 ghost use Rattle.odb_dense.specs.Lists.{ListsOnce};
 
-use crate::bits;
+use crate::bit_set::BitSet;
 use crate::sparse_set::SparseSet;
 use std::alloc::{AllocError, Global};
 use std::marker::Model;
 
-/// A set of the numbers below a bound, which returns its least and its greatest number.
-///
-/// Beside the set there is a bit for each of its numbers, 64 to a word, and a summary with a bit for
-/// each word that is not 0. An end is found by the summary and one word.
+/// A set of the numbers below a bound, as a list, which returns its least and its greatest number, as bits.
 #[derive(Drop)]
 pub struct MinMaxSet {
-    set: SparseSet,
-    words: Vec<u64>,
-    summary: Vec<u64>,
+    listed: SparseSet,
+    bits: BitSet,
 }
 
 impl Model for MinMaxSet {
@@ -25,11 +21,11 @@ impl Model for MinMaxSet {
 
     ghost Value = { List Bool };
 
-    ghost use Rattle.odb_dense.specs.Bits.{members, HasBits};
+    ghost use Rattle.odb_dense.specs.Both.{members, AreSame};
 
     ghost view = { members };
 
-    ghost invariant = { HasBits };
+    ghost invariant = { AreSame };
 }
 
 impl MinMaxSet {
@@ -41,11 +37,9 @@ impl MinMaxSet {
     pub fn new(alloc: Global, bound: u32) -> Result<MinMaxSet, AllocError>
         ensures { IfOk result (λ s. s ≡ replicate bound false) }
     {
-        let count = bound as usize / 64 + 1;
         Ok(MinMaxSet {
-            set: SparseSet::new(alloc, bound)?,
-            words: vec![in alloc; 0_u64; count]?,
-            summary: vec![in alloc; 0_u64; count / 64 + 1]?,
+            listed: SparseSet::new(alloc, bound)?,
+            bits: BitSet::new(alloc, bound)?,
         })
     }
 
@@ -55,21 +49,21 @@ impl MinMaxSet {
         ensures listed { ListsOnce (length self.now) (λ i. slice_index_or self.now i false)
             result.now }
     {
-        self.set.as_slice()
+        self.listed.as_slice()
     }
 
     /// Returns how many numbers are in the set.
     pub fn len(&self) -> usize
         ensures { result ≡ count_by (λ b. b) self.now }
     {
-        self.set.len()
+        self.listed.len()
     }
 
     /// Returns whether the set is empty.
     pub fn is_empty(&self) -> bool
         ensures { result ≡ (count_by (λ b. b) self.now == 0) }
     {
-        self.set.is_empty()
+        self.listed.is_empty()
     }
 
     /// Adds a number below the bound to the set, if it is not in it.
@@ -77,10 +71,8 @@ impl MinMaxSet {
         requires { i < length self.old }
         ensures { self.new ≡ slice_set self.old i true }
     {
-        self.set.insert(i);
-        let at = i / 64;
-        self.words[at as usize] |= 1 << (i % 64);
-        self.summary[(at / 64) as usize] |= 1 << (at % 64);
+        self.listed.insert(i);
+        self.bits.insert(i);
     }
 
     /// Removes a number below the bound from the set, if it is in it.
@@ -88,12 +80,8 @@ impl MinMaxSet {
         requires { i < length self.old }
         ensures { self.new ≡ slice_set self.old i false }
     {
-        self.set.remove(i);
-        let at = i / 64;
-        self.words[at as usize] &= !(1 << (i % 64));
-        if self.words[at as usize] == 0 {
-            self.summary[(at / 64) as usize] &= !(1 << (at % 64));
-        }
+        self.listed.remove(i);
+        self.bits.remove(i);
     }
 
     /// Returns the least number of the set, or `None` if it is empty.
@@ -102,8 +90,7 @@ impl MinMaxSet {
         ensures none { result ≡ None → (i : ℕ) → slice_index_or self.old i false ≡ false }
         ensures some { IfSome result (IsLeastOf self.old) }
     {
-        let at = bits::first(&self.summary)?;
-        Some(bits::first_at(&self.words, at))
+        self.bits.least()
     }
 
     /// Returns the greatest number of the set, or `None` if it is empty.
@@ -112,7 +99,6 @@ impl MinMaxSet {
         ensures none { result ≡ None → (i : ℕ) → slice_index_or self.old i false ≡ false }
         ensures some { IfSome result (IsGreatestOf self.old) }
     {
-        let at = bits::last(&self.summary)?;
-        Some(bits::last_at(&self.words, at))
+        self.bits.greatest()
     }
 }

@@ -1,17 +1,20 @@
 //! A set of numbers below a bound, as a list and the place of each number in it.
 
-ghost use Rattle.std.specs.Prelude.{◌≡◌, ◌<◌, ◌==◌, false, true, None, length, count_by, replicate, slice_index_or, slice_set, IfOk};
+ghost use Rattle.std.specs.Prelude.{◌≡◌, ◌<◌, ◌==◌, false, true, length, count_by, replicate, slice_index_or, slice_set, IfOk};
 ghost use Rattle.odb_dense.specs.Lists.{ListsOnce};
 
 use std::alloc::{AllocError, Global};
 use std::marker::Model;
+
+/// The place of a number that is not in the set. No list is so long.
+const ABSENT: u32 = u32::MAX;
 
 /// A set of the numbers below a bound, as a sparse set (Briggs and Torczon): a list that begins with
 /// the numbers of the set, and for each number below the bound its place in that list.
 #[derive(Drop)]
 pub(crate) struct SparseSet {
     items: Vec<u32>,
-    places: Vec<Option<u32>>,
+    places: Vec<u32>,
     count: usize,
 }
 
@@ -38,7 +41,7 @@ impl SparseSet {
     {
         Ok(SparseSet {
             items: vec![in alloc; 0_u32; bound as usize]?,
-            places: vec![in alloc; None; bound as usize]?,
+            places: vec![in alloc; ABSENT; bound as usize]?,
             count: 0,
         })
     }
@@ -71,9 +74,9 @@ impl SparseSet {
         requires { i < length self.old }
         ensures { self.new ≡ slice_set self.old i true }
     {
-        if self.places[i as usize].is_none() {
+        if self.places[i as usize] == ABSENT {
             self.items[self.count] = i;
-            self.places[i as usize] = Some(self.count as u32);
+            self.places[i as usize] = self.count as u32;
             self.count += 1;
         }
     }
@@ -84,12 +87,13 @@ impl SparseSet {
         requires { i < length self.old }
         ensures { self.new ≡ slice_set self.old i false }
     {
-        if let Some(place) = self.places[i as usize] {
+        let place = self.places[i as usize];
+        if place != ABSENT {
             self.count -= 1;
             let last = self.items[self.count];
             self.items[place as usize] = last;
-            self.places[last as usize] = Some(place);
-            self.places[i as usize] = None;
+            self.places[last as usize] = place;
+            self.places[i as usize] = ABSENT;
         }
     }
 }

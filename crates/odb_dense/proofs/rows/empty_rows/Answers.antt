@@ -12,7 +12,7 @@ overflow_add-index_mut c =
     let counts = c.loop-key.counts.items in
     let key = (get_or ps n (0, 0)).0 in
     let room : length counts ≡ c.args.keys = c.loop-key.invariant.room in
-    let below : key < c.args.keys = c.requires n c.loop-key-test.true in
+    let below : key < c.args.keys = c.requires.keys n c.loop-key-test.true in
     let read : c.index_mut.result.now ≡ get_or counts key 0 = get_or_read counts key c.index_mut.result.now (omega arith) c.index_mut.ensures.value 0 in
     let few : at_key key (take n ps) ≤ n = at_key_first key n ps in
     let counted : get_or counts key 0 ≡ at_key key (take n ps) = c.loop-key.invariant.counted key (omega arith) in
@@ -27,7 +27,7 @@ loop-key-preserved c =
     let key = (get_or ps n (0, 0)).0 in
     let count = c.index_mut.result.now in
     let room : length counts ≡ c.args.keys = c.loop-key.invariant.room in
-    let below : key < c.args.keys = c.requires n c.loop-key-test.true in
+    let below : key < c.args.keys = c.requires.keys n c.loop-key-test.true in
     let read : count ≡ get_or counts key 0 = get_or_read counts key count (omega arith) c.index_mut.ensures.value 0 in
     record {
       room = length-set counts key (count + 1) ∙ room;

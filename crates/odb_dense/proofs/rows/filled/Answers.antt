@@ -1,4 +1,4 @@
-use Rattle.std.proofs.Common.{◌≡◌, ◌<◌, ◌+◌, ◌∙◌, ℕ, List, ap, arith, rules, length, get_or, subst, take}
+use Rattle.std.proofs.Common.{◌≡◌, ◌<◌, ◌+◌, ◌∙◌, ℕ, List, arith, rules, length, get_or, subst, take}
 use Rattle.std.proofs.lemmas.List.{get_or_read, length-map, length-set, take_all}
 use Rattle.odb_dense.specs.Parts.{part_of}
 use Rattle.odb_dense.specs.Starts.{AreParts, AreRowsOf}
