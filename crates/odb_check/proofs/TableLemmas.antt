@@ -5,6 +5,7 @@ use Rattle.std.specs.List.{IsDistinct, list_any}
 use Rattle.std.proofs.lemmas.Bool.{both_ways, cases_Bool, cases_lt, eq-eqb, ne_eqb}
 use Rattle.std.proofs.lemmas.List.{get_or_append_left, get_or_push}
 use Rattle.std.proofs.lemmas.Option.{slice_get_within}
+use Rattle.std.proofs.lemmas.Slice.Eq.{bytes_eq-Decides}
 use Rattle.odb_doc.specs.batch.Records.{Record}
 use Rattle.odb_check.specs.declared.table.Table.{Table}
 use Rattle.odb_check.specs.Firsts.{or_else, is_text, first_below, list_below}
@@ -112,3 +113,27 @@ apart_more rs i r ids here are new before = below_more i (λ k. ¬ IsBrokenAt Id
         let id_is : id_at rs i ≡ Some r.id = ap (λ o. option_map (λ x. x.id) o) here in
         let twice : IsIdBefore rs r.id i = subst (λ o. IsSomeAnd o (λ id. IsIdBefore rs id i)) id_is broken in
         text_none (id_at rs) r.id i (sym (are r.id) ∙ new) twice.0 twice.1 twice.2
+
+-- a group whose unit is not the next one is in the table
+known : (groups : Table) (name : List ℕ) (unit next : ℕ) → unit ≡ unit_among groups (Some name) next → unit ≢ next → at_text groups name ≢ None
+known groups name unit next is other none = other (is ∙ ap (λ o. unwrap_or o next) none)
+
+-- so the table needs no text more
+pub kept_len : (groups : Table) (name : List ℕ) (unit next : ℕ) → unit ≡ unit_among groups (Some name) next → unit ≢ next → table_len groups ≡ table_len groups + more_with groups (Some name)
+kept_len groups name unit next is other = by (at_text groups name) refl
+  where
+    by : (found : Option ℕ) → at_text groups name ≡ found → table_len groups ≡ table_len groups + more_with groups (Some name)
+    by None none = absurd (known groups name unit next is other none)
+    by (Some at) some = let none_more : more_with groups (Some name) ≡ 0 = ap (λ o. cond (is_some o) 0 1) some in omega arith
+
+-- and each text keeps its number
+pub kept_texts : (groups : Table) (name : List ℕ) (unit next : ℕ) → unit ≡ unit_among groups (Some name) next → unit ≢ next → (q : List ℕ) → at_text groups q ≡ or_else (at_text groups q) (cond (bytes_eq q name) (Some unit) None)
+kept_texts groups name unit next is other q = by (at_text groups q) refl
+  where
+    by : (found : Option ℕ) → at_text groups q ≡ found → at_text groups q ≡ or_else (at_text groups q) (cond (bytes_eq q name) (Some unit) None)
+    by (Some at) some = some ∙ ap (λ o. or_else o (cond (bytes_eq q name) (Some unit) None)) (sym some)
+    by None none = none ∙ (sym (out (bytes_eq q name) refl) ∙ ap (λ o. or_else o (cond (bytes_eq q name) (Some unit) None)) (sym none))
+      where
+        out : (same : Bool) → bytes_eq q name ≡ same → cond (bytes_eq q name) (Some unit) None ≡ None
+        out true equal = absurd (known groups name unit next is other (ap (at_text groups) (sym ((bytes_eq-Decides q name).0 equal)) ∙ none))
+        out false other_text = ap (λ b. cond b (Some unit) None) other_text

@@ -167,6 +167,14 @@ impl<'b> Plan<'b> {
         self.tables.position_of(id)
     }
 
+    /// Returns what [`Plan::position_of`] returns. It is faster if the request at position `guess`, counted from 0, has the
+    /// identifier, as in a list that has the order of the batch. `guess` may be any number.
+    pub fn position_near(&self, guess: usize, id: &str) -> Option<u32>
+        ensures { result ≡ units.position_of (plan_records self.now) id.now }
+    {
+        self.tables.position_near(guess, id)
+    }
+
     /// Returns the position of the request that the URL of request `i` refers to, if it refers to one.
     pub fn referred(&self, i: u32) -> Option<u32>
         requires { i < length (plan_records self.now) }

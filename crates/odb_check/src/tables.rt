@@ -25,13 +25,16 @@ fn unit_in(groups: &Table<'_>, group: Option<&str>, next: u32) -> u32
     }
 }
 
-/// Records the unit of a group, if there is one, unless the group has one.
+/// Records the unit of a group, if there is one. A group that was recorded before has a unit other than `next`, and
+/// nothing is done.
 fn note_group<'b>(
     alloc: Global,
     groups: &mut Table<'b>,
     group: Option<&'b str>,
     unit: u32,
+    next: u32,
 ) -> Result<(), AllocError>
+    requires { unit ≡ unit_among groups.old (option_copied group) next }
     ensures len { OnOk result (table_len groups.new
         ≡ table_len groups.old + more_with groups.old (option_copied group.entry)) }
     ensures texts { OnOk result ((q : List ℕ) → at_text groups.new q
@@ -39,7 +42,10 @@ fn note_group<'b>(
         (cond (is_text q (option_copied group.entry)) (Some unit) None)) }
     ensures start { table_start groups.new ≡ table_start groups.old }
 {
-    if let Some(name) = group {
+    let Some(name) = group else {
+        return Ok(());
+    };
+    if unit == next {
         let _is_new = groups.note(alloc, name, unit)?;
     }
     Ok(())
@@ -99,9 +105,10 @@ impl<'b> FirstTables<'b> {
         ensures groups { table_start self.new.groups ≡ table_start self.old.groups }
     {
         let request = self.batch.request(i);
-        let unit = unit_in(&self.groups, request.group, self.starts.len() as u32);
+        let next = self.starts.len() as u32;
+        let unit = unit_in(&self.groups, request.group, next);
         let is_new = self.ids.note(alloc, request.id, i)?;
-        note_group(alloc, &mut self.groups, request.group, unit)?;
+        note_group(alloc, &mut self.groups, request.group, unit, next)?;
         note_start(&mut self.starts, unit, i)?;
         self.units.push(unit)?;
         self.has_repeated_id |= !is_new;
@@ -281,23 +288,24 @@ impl<'b> Tables<'b> {
         self.all.groups.get(group)
     }
 
-    /// What a name resolves to, if no two requests have one id. The request at `guess` is looked at before
-    /// the tables are, which takes a quarter of the time where the name is its id.
+    /// The position with the identifier, if no two requests have one. The request at `guess` is looked at before the
+    /// table is, which takes a quarter of the time where the identifier is its own.
+    pub(crate) fn position_near(&self, guess: usize, id: &str) -> Option<u32>
+        requires { HasValidIds (requests self.now) }
+        ensures { result ≡ spec.position_of (requests self.now) id.now }
+    {
+        if guess < self.len() as usize && self.id(guess as u32) == id {
+            return Some(guess as u32);
+        }
+        self.position_of(id)
+    }
+
+    /// What a name resolves to, if no two requests have one id. The request at `guess` is looked at first.
     pub(crate) fn need_near(&self, guess: u32, name: &str) -> Option<Need>
         requires { HasValidIds (requests self.now) }
         ensures { result ≡ need_of (requests self.now) name.now }
     {
-        if guess < self.len() && self.id(guess) == name {
-            return Some(Need::One(guess));
-        }
-        self.need_of(name)
-    }
-
-    /// What a name resolves to.
-    pub(crate) fn need_of(&self, name: &str) -> Option<Need>
-        ensures { result ≡ need_of (requests self.now) name.now }
-    {
-        match self.position_of(name) {
+        match self.position_near(guess as usize, name) {
             Some(position) => Some(Need::One(position)),
             None => self.unit_of_group(name).map(Need::Group),
         }

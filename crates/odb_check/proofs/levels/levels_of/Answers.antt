@@ -14,7 +14,7 @@ pub next_level-level-requires-clause-within : goal.next_level-level-requires-cla
 next_level-level-requires-clause-within c =
     let rs = records c.args.tables.now.all.batch.now in
     let row = (row_is rs c.args.needs.now c.loop-i.i c.requires.needs (omega (arith, c.loop-i-test.true))).1 in
-    rw (c.row.ensures, row) (levels_known rs (needs_before rs c.requires.good) c.loop-i.i (omega (arith, c.loop-i-test.true)) _ _
+    rw (c.row.ensures.row, row) (levels_known rs (needs_before rs c.requires.good) c.loop-i.i (omega (arith, c.loop-i-test.true)) _ _
     (ap length c.deref.ensures.value ∙ ap length c.loop-i.invariant.levels_are ∙ length-levels_below rs c.loop-i.i) (ap length c.deref-in-loop-i.ensures.value ∙ c.loop-i.invariant.unit_levels_count))
 
 pub loop-i-preserved : goal.loop-i-preserved
@@ -23,7 +23,7 @@ loop-i-preserved c =
     let unit_levels = c.loop-i.unit_levels.items in
     let unit = c.unit_of-unit.result in
     let row = (row_is rs c.args.needs.now c.loop-i.i c.requires.needs (omega (arith, c.loop-i-test.true))).1 in
-    let level = rw (c.deref.ensures.value, c.deref-in-loop-i.ensures.value, c.row.ensures, row) at c.next_level-level.ensures in
+    let level = rw (c.deref.ensures.value, c.deref-in-loop-i.ensures.value, c.row.ensures.row, row) at c.next_level-level.ensures in
     let within : unit < unit_count rs = c.unit_of-unit.ensures.within in
     let read : c.index.result.now ≡ slice_index unit_levels unit = c.index.ensures ∙ get_or_default_zero unit_levels unit c.index.result.now (omega (arith, c.loop-i.invariant.unit_levels_count)) in
     let set : slice_set unit_levels unit c.max.result ≡ slice_set unit_levels (unit_at rs c.loop-i.i) (max (slice_index unit_levels (unit_at rs c.loop-i.i)) c.next_level-level.result) =

@@ -1,4 +1,4 @@
-use Rattle.std.proofs.Common.{◌≡◌, ◌∙◌, ◌<◌, ℕ, Bool, true, length, replicate, ap, sym, subst, arith}
+use Rattle.std.proofs.Common.{◌≡◌, ◌∙◌, ◌<◌, true, length, replicate, ap, sym, subst, arith}
 use Rattle.odb_check.specs.Plans.{plan_graph}
 use Rattle.odb_check.specs.PlanGraph.{ArePassing, unit_of}
 use Rattle.odb_check.proofs.PassingLemmas.{passing-none, passing-more, passing-less}

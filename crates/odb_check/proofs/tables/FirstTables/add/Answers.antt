@@ -10,7 +10,7 @@ pub returns-clause-tables : goal.returns-clause-tables
 returns-clause-tables c =
     let old = c.args.self.now in
     let request = record_of c.request-request.result.now in
-    let next : c.len.result ≡ length old.starts.items = search rules in
+    let next : c.len-next.result ≡ length old.starts.items = search rules in
     let among : c.unit_in-unit.result ≡ unit_among old.groups request.group (length old.starts.items) =
     c.unit_in-unit.ensures ∙ ap (unit_among old.groups request.group) next in
     rw add-one (tables_more (records old.batch.now) c.args.i request old.ids c.note.new.self old.groups c.note_group.new.groups
