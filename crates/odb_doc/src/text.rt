@@ -65,6 +65,39 @@ pub fn push_quoted(alloc: Global, text: &mut String, piece: &str) -> Result<(), 
     }
 }
 
+/// Appends two lines in quotes, if nothing in them has to be escaped but the newline between them.
+fn push_plain_lines(text: &mut String, first: &str, second: &str) -> Result<(), AllocError>
+    requires first { AllPass is_plain first.now }
+    requires second { AllPass is_plain second.now }
+    ensures { OnOk result (string_bytes text.new
+        ≡ string_bytes text.old ++ compact_text (string (first.now ++ 10 ∷ second.now))) }
+{
+    text.push_str("\"")?;
+    text.push_str(first)?;
+    text.push_str("\\n")?;
+    text.push_str(second)?;
+    text.push_str("\"")
+}
+
+/// Appends the JSON text of a string of two lines.
+pub fn push_quoted_lines(
+    alloc: Global,
+    text: &mut String,
+    first: &str,
+    second: &str,
+) -> Result<(), AllocError>
+    ensures { OnOk result (string_bytes text.new
+        ≡ string_bytes text.old ++ compact_text (string (first.now ++ 10 ∷ second.now))) }
+{
+    if are_plain(first) && are_plain(second) {
+        return push_plain_lines(text, first, second);
+    }
+    let mut lines = String::from_str(alloc, first)?;
+    lines.push_str("\n")?;
+    lines.push_str(second)?;
+    push_quoted(alloc, text, lines.as_str())
+}
+
 /// Appends a piece if the condition holds.
 pub fn push_if(text: &mut String, holds: bool, piece: &str) -> Result<(), AllocError>
     ensures { OnOk result (string_bytes text.new

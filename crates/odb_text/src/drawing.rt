@@ -1,7 +1,8 @@
 //! A plan as a drawing in the language DOT of Graphviz.
 
-ghost use Rattle.std.specs.Prelude.{◌≡◌, ◌<◌, ◌+◌, ◌++◌, All, length, option_copied, IfOk, OnOk, string_bytes};
+ghost use Rattle.std.specs.Prelude.{◌≡◌, ◌<◌, ◌+◌, ◌++◌, All, codes, length, option_copied, IfOk, OnOk, string_bytes};
 ghost use Rattle.std.specs.List.{flat_map};
+ghost use Rattle.odb_names.specs.Methods.{method_name};
 ghost use Rattle.odb_doc.specs.batch.Records.{record_of};
 ghost use Rattle.odb_check.specs.Firsts.{joined_below, list_below};
 ghost use Rattle.odb_check.specs.PlanGraph.{IsNeed};
@@ -14,31 +15,29 @@ use crate::label::push_shown;
 use crate::rows::{Row, first_of_unit, rows_of};
 use odb_check::{Need, Plan};
 use odb_doc::Request;
-use odb_doc::text::push_quoted;
+use odb_doc::text::{push_quoted, push_quoted_lines};
 use std::alloc::{AllocError, Global};
 use std::fmt::Write;
 
-/// Returns the label of a request.
-fn request_label(alloc: Global, request: &Request<'_>) -> Result<String, AllocError>
-    ensures { IfOk result (λ label. string_bytes label
-        ≡ drawings.request_label (record_of request.now)) }
+/// Returns a text as the label of a node or of a cluster shows it.
+fn shown_in_label(alloc: Global, piece: &str) -> Result<String, AllocError>
+    ensures { IfOk result (λ label. string_bytes label ≡ shown piece.now) }
 {
     let mut label = String::new(alloc);
-    push_shown(&mut label, request.id)?;
-    label.push_str("\n")?;
-    label.push_str(request.method.name())?;
-    label.push_str(" ")?;
-    push_shown(&mut label, request.url)?;
+    push_shown(&mut label, piece)?;
     Ok(label)
 }
 
-/// Returns the label of a group.
-fn group_label(alloc: Global, group: &str) -> Result<String, AllocError>
-    ensures { IfOk result (λ label. string_bytes label ≡ shown group.now) }
+/// Returns the second line of the label of a request.
+fn method_and_url(alloc: Global, request: &Request<'_>) -> Result<String, AllocError>
+    ensures { IfOk result (λ line. string_bytes line
+        ≡ method_name request.now.method ++ codes " " ++ shown request.now.url.now) }
 {
-    let mut label = String::new(alloc);
-    push_shown(&mut label, group)?;
-    Ok(label)
+    let mut line = String::new(alloc);
+    line.push_str(request.method.name())?;
+    line.push_str(" ")?;
+    push_shown(&mut line, request.url)?;
+    Ok(line)
 }
 
 /// Appends the node of a request.
@@ -52,7 +51,8 @@ fn push_node(
         ++ drawings.node_line i (record_of request.now)) }
 {
     write!(text, "  {i} [label=").map_err(|_| AllocError)?;
-    push_quoted(alloc, text, &request_label(alloc, request)?)?;
+    let id = shown_in_label(alloc, request.id)?;
+    push_quoted_lines(alloc, text, &id, &method_and_url(alloc, request)?)?;
     text.push_str("]\n")
 }
 
@@ -70,7 +70,7 @@ fn push_cluster(
     match group {
         Some(group) => {
             write!(text, "  subgraph cluster_{unit} {{ label=").map_err(|_| AllocError)?;
-            push_quoted(alloc, text, &group_label(alloc, group)?)?;
+            push_quoted(alloc, text, &shown_in_label(alloc, group)?)?;
             write!(text, "; {i} }}\n").map_err(|_| AllocError)
         }
         None => Ok(()),

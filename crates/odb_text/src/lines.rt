@@ -9,6 +9,9 @@ use odb_doc::Place;
 use std::alloc::{AllocError, Global};
 use std::fmt::Write;
 
+/// Room for the line of any batch that is accepted, so that the text does not grow.
+const ACCEPTED_BYTES: usize = 32;
+
 /// Returns the text of a place.
 pub fn place_text(alloc: Global, place: Place) -> Result<String, AllocError>
     ensures { IfOk result (λ text. string_bytes text ≡ lines.place_text place) }
@@ -75,5 +78,7 @@ pub fn match_lines(alloc: Global, plan: &Plan<'_>, statuses: &[u16]) -> Result<S
 pub fn accepted_line(alloc: Global, requests: u32, groups: u32) -> Result<String, AllocError>
     ensures { IfOk result (λ line. string_bytes line ≡ lines.accepted_line requests groups) }
 {
-    format!(in alloc; "ok {requests} requests {groups} groups\n")
+    let mut line = String::with_capacity(alloc, ACCEPTED_BYTES)?;
+    write!(line, "ok {requests} requests {groups} groups\n").map_err(|_| AllocError)?;
+    Ok(line)
 }
