@@ -1,4 +1,5 @@
 -- What public clauses cite, and has to be believed.
+pub mod Contents
 pub mod EventFaults
 pub mod EventLists
 pub mod Events

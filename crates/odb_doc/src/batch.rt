@@ -1,6 +1,6 @@
 //! A batch as it was read: its requests, in the order of the document.
 
-ghost use Rattle.std.specs.Prelude.{◌==◌, ◌≡◌, ◌≤◌, ◌<◌, length, map, vec_len, slice_get, Some, IfOk, IfErr, OnOk, OnErr};
+ghost use Rattle.std.specs.Prelude.{◌==◌, ◌≡◌, ◌≢◌, ◌≤◌, ◌<◌, length, map, vec_len, slice_get, Some, IfOk, IfErr, OnOk, OnErr};
 ghost use Rattle.std.specs.List.{AllZip};
 ghost use Rattle.serde_json.specs.View.{view};
 ghost use Rattle.odb_doc.specs.declared.fault.DocFault.TheVariants as faults;
@@ -25,7 +25,7 @@ pub mod request;
 mod url_rest;
 
 use crate::batch::asked::Asked;
-use crate::batch::object::{broken_rule, elements_in};
+use crate::batch::object::{broken_rule, elements_of};
 use crate::batch::request::Request;
 use crate::fault::DocFault;
 use serde_json::Value;
@@ -36,6 +36,18 @@ use std::alloc::Global;
 pub struct Batch<'a> {
     requests: Vec<Request<'a>>,
     ghost small: { vec_len requests ≤ 10000 },
+}
+
+/// Returns the first rule that the document as a whole breaks, as its fault.
+fn whole_fault_of(document: &Value) -> DocFault
+    requires { ¬ IsBatchObject (view document.now) }
+    ensures least { IsLeastFault result (view document.now) }
+    ensures rule { result ≢ faults.OutOfMemory }
+{
+    match broken_rule(document) {
+        Some(rule) => DocFault::Document(rule),
+        None => unreachable!(),
+    }
 }
 
 /// Returns the first rule that the element at a position breaks, as the fault of its document.
@@ -95,10 +107,10 @@ impl<'a> Batch<'a> {
         ensures memory { IfErr result (λ fault. fault ≡ faults.OutOfMemory
             → IsBatchObject (view document.now) × (0 < length (elements (view document.now)))) }
     {
-        if let Some(rule) = broken_rule(document) {
-            return Err(DocFault::Document(rule));
-        }
-        let requests = requests_from(alloc, elements_in(document))?;
+        let Some(elements) = elements_of(document) else {
+            return Err(whole_fault_of(document));
+        };
+        let requests = requests_from(alloc, elements)?;
         Ok(Batch { requests })
     }
 

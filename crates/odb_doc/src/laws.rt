@@ -103,7 +103,9 @@ pub fn one_history()
 pub fn every_outcome(outcome: &Outcome)
     ensures { IsInOrder outcome.now.headers }
 {
-    let _headers = outcome.headers.iter();
+    if let Some(headers) = outcome.headers() {
+        let _headers = headers.iter();
+    }
 }
 
 /// What a text is read as, and that what is written for a value is read back as that value.

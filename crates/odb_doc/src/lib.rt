@@ -14,6 +14,7 @@
 mod batch;
 mod broken;
 mod canonical;
+mod disposal;
 mod document;
 mod fault;
 mod headers;
@@ -31,6 +32,7 @@ pub use batch::Batch;
 pub use batch::all_faults::shape_faults;
 pub use batch::folded::{Header, Headers};
 pub use batch::request::Request;
+pub use disposal::Disposal;
 pub use document::{MAX_DOCUMENT_BYTES, parse};
 pub use fault::{DocFault, DocumentRule, Place, RequestRule, TextFault};
 pub use member::{array_at, text_at};

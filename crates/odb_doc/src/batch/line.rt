@@ -41,6 +41,7 @@ pub(crate) fn method_of(members: &Members<'_>) -> Option<Method>
 }
 
 /// Returns the group at `atomicityGroup`, if any; `None` if it is not an identifier.
+#[inline(always)]
 pub(crate) fn group_of<'a>(members: &Members<'a>) -> Option<Option<&'a str>>
     ensures { (d : Data) → AreMembersOf d members.now → MatchOption result
         ((group : Option (List ℕ)) → ¬ HasGroup d group)

@@ -1,6 +1,6 @@
 //! The batch document as a whole: its rules, F03 to F06, and its elements.
 
-ghost use Rattle.std.specs.Prelude.{◌≡◌, ◌↔◌, IsTrue, IfNone, IfSome, map, string_bytes};
+ghost use Rattle.std.specs.Prelude.{◌≡◌, ◌↔◌, IsTrue, IfNone, IfSome, OnSome, map, string_bytes};
 ghost use Rattle.std.specs.BTreeMap.{keys};
 ghost use Rattle.std.specs.List.{list_any};
 ghost use Rattle.serde_json.specs.View.{view};
@@ -47,6 +47,20 @@ fn has_unknown(document: &Value) -> bool
         Some(members) => has_unknown_among(members),
         None => false,
     }
+}
+
+/// Returns the elements of `requests`; `None` if the document as a whole breaks a rule. The array is looked
+/// up once.
+pub(crate) fn elements_of(document: &Value) -> Option<&[Value]>
+    ensures none { IfNone result (¬ IsBatchObject (view document.now)) }
+    ensures some { OnSome result (IsBatchObject (view document.now)) }
+    ensures elements { IfSome result (λ found. elements (view document.now) ≡ map view found.now) }
+{
+    let elements = array_at(document, "requests")?;
+    if has_unknown(document) || elements.len() > MAX_REQUESTS {
+        return None;
+    }
+    Some(elements)
 }
 
 /// Returns the elements of `requests`, none if there is no array.

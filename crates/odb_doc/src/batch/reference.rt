@@ -10,6 +10,7 @@ use std::alloc::{AllocError, Global};
 
 /// Returns the identifier that the URL of a request refers to, if any; `None` if the URL names a batch, or
 /// begins with `$` and refers to nothing.
+#[inline(always)]
 pub(crate) fn reference_of(alloc: Global, url: &str) -> Result<Option<Option<String>>, AllocError>
     ensures plain { IfOk result (λ found. OnSome found (¬ IsNestedBatch url.now)) }
     ensures fits { IfOk result (λ found. OnSome found (¬ HasFront url.now bad)) }

@@ -80,11 +80,7 @@ fn read_report(alloc: Global, element: &mut Value) -> Result<NamedEvent, Broken<
     let raw = raw_outcome_of(alloc, Object::Report, "report", element, bad)?;
     match status_in(&raw) {
         Ok(status) => {
-            let outcome = Outcome {
-                status,
-                headers: raw.headers,
-                body: raw.body,
-            };
+            let outcome = Outcome::new(alloc, status, raw.headers, raw.body)?;
             Ok(NamedEvent::Report(raw.id, outcome))
         }
         Err(rule) => Err(Broken::Rule(rule)),

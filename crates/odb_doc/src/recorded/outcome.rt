@@ -1,7 +1,8 @@
 //! An outcome: a status, optional headers and an optional body.
 
-ghost use Rattle.std.specs.Prelude.{◌≡◌, ℕ, List, false, bytes_eq, codes, IfOk, IfErr};
+ghost use Rattle.std.specs.Prelude.{◌≡◌, ℕ, List, [], false, None, option_map, bytes_eq, codes, IfOk, IfErr};
 ghost use Rattle.std.specs.BTreeMap.{get_by_text};
+ghost use Rattle.std.specs.Option.{option_map_or};
 ghost use Rattle.serde_json.specs.Data.{object, no_members};
 ghost use Rattle.serde_json.specs.View.{view, members_view};
 ghost use Rattle.odb_doc.specs.declared.member.Object.{Object};
@@ -15,21 +16,26 @@ use crate::broken::Broken;
 use crate::headers::headers_from;
 use crate::member::{Object, text_of, unless_null};
 use serde_json::{Map, Number, Value};
-use std::alloc::Global;
+use std::alloc::{AllocError, Global};
 use std::collections::BTreeMap;
 use std::marker::Model;
 
+/// The headers and the body of an answer that has one of them.
+#[derive(Debug, Drop)]
+struct Content {
+    headers: BTreeMap<String, String>,
+    body: Option<Value>,
+}
+
 /// How a request ended: what its service answered (OData JSON Format 4.01, section 19.5).
 ///
-/// Contracts compare outcomes by value: two are equal if their statuses, headers and bodies are.
+/// Contracts compare outcomes by value: two are equal if their statuses, headers and bodies are. An outcome is small: what it
+/// has beside its status lies in a box.
 #[derive(Debug, Drop)]
 pub struct Outcome {
     /// The HTTP status. A run takes those from 200 to 599.
     pub status: u16,
-    /// The headers of the answer by their names, which are in lower case if they were read.
-    pub headers: BTreeMap<String, String>,
-    /// The body of the answer, if it has one.
-    pub body: Option<Value>,
+    content: Option<Box<Content>>,
 }
 
 impl Model for Outcome {
@@ -39,15 +45,73 @@ impl Model for Outcome {
 
     ghost coded = { outcome_code };
 
-    ghost use Rattle.std.specs.Prelude.{option_map};
-    ghost use Rattle.serde_json.specs.View.{view as data_of};
-    ghost use Rattle.odb_doc.specs.Headers.{headers_in};
+    ghost use Rattle.odb_doc.specs.recorded.Contents.{body_of, headers_of};
 
     ghost view = { λ outcome. record {
       status = outcome.status;
-      headers = headers_in outcome.headers;
-      body = option_map data_of outcome.body;
+      headers = headers_of outcome.content;
+      body = body_of outcome.content;
     } };
+}
+
+impl Outcome {
+    /// Returns an outcome of a status alone. It allocates nothing.
+    pub fn bare(status: u16) -> Outcome
+        ensures { result ≡ record { status = status; headers = []; body = None } }
+    {
+        Outcome {
+            status,
+            content: None,
+        }
+    }
+
+    /// Returns an outcome of its status, its headers by their names, and its body, if there is one.
+    ///
+    /// # Errors
+    ///
+    /// If memory for the box cannot be allocated, which a status alone does not need.
+    pub fn new(
+        alloc: Global,
+        status: u16,
+        headers: BTreeMap<String, String>,
+        body: Option<Value>,
+    ) -> Result<Outcome, AllocError>
+        ensures { IfOk result (λ outcome. outcome ≡ record {
+          status = status;
+          headers = headers_in headers;
+          body = option_map view body;
+        }) }
+    {
+        if headers.is_empty() && body.is_none() {
+            return Ok(Outcome::bare(status));
+        }
+        let content = Box::new(alloc, Content { headers, body })?;
+        Ok(Outcome {
+            status,
+            content: Some(content),
+        })
+    }
+
+    /// Returns the headers of the answer by their names, which are in lower case if they were read; `None` if it has
+    /// neither headers nor a body.
+    pub fn headers(&self) -> Option<&BTreeMap<String, String>>
+        ensures { option_map_or (λ headers. headers_in headers.now) result [] ≡ self.now.headers }
+    {
+        match &self.content {
+            Some(content) => Some(&content.headers),
+            None => None,
+        }
+    }
+
+    /// Returns the body of the answer, if it has one.
+    pub fn body(&self) -> Option<&Value>
+        ensures { option_map (λ body. view body.now) result ≡ self.now.body }
+    {
+        match &self.content {
+            Some(content) => content.body.as_ref(),
+            None => None,
+        }
+    }
 }
 
 /// The members that an outcome may have, moved out of its object, and whether it has another one.

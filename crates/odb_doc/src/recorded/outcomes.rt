@@ -17,6 +17,7 @@ ghost use Rattle.odb_doc.specs.SameTexts.{IsFirstRepeat};
 ghost use Rattle.odb_doc.specs.WholeNumbers.{IsWhole};
 
 use crate::broken::Broken;
+use crate::disposal::Disposal;
 use crate::member::{Object, text_at};
 use crate::recorded::outcome::{Outcome, RawOutcome, raw_outcome_of};
 use crate::recorded::outcome_fault::{OutcomeFault, OutcomeRule};
@@ -36,10 +37,19 @@ pub struct Outcomes {
 }
 
 /// The hollowed-out JSON that remains after reading. Dropping it is slow for large documents; a
-/// program about to exit can leak it instead.
+/// program about to exit can leak it instead: see [`Husk::end`].
 #[derive(Drop)]
 pub struct Husk {
     pub(crate) elements: Vec<Value>,
+}
+
+impl Husk {
+    /// Drops or leaks what remains. The list of its elements is freed in any case: it is in one piece.
+    pub fn end(self, disposal: Disposal) {
+        for element in self.elements {
+            disposal.end(element);
+        }
+    }
 }
 
 /// Returns the status, or `None` if it is not a whole number from 200 to 599.
@@ -117,11 +127,7 @@ fn read_outcome(
     let bad = OutcomeRule::BadOutcomes;
     let raw = raw_outcome_of(alloc, Object::Outcome, "id", element, bad)?;
     let status = status_in(repeats, &raw)?;
-    let outcome = Outcome {
-        status,
-        headers: raw.headers,
-        body: raw.body,
-    };
+    let outcome = Outcome::new(alloc, status, raw.headers, raw.body)?;
     Ok((raw.id, outcome))
 }
 

@@ -23,7 +23,7 @@ impl Outcome {
     ///
     /// # Errors
     ///
-    /// If memory for the map of the headers cannot be allocated.
+    /// If memory for the headers and the body cannot be allocated.
     pub fn of_parts(
         alloc: Global,
         status: u16,
@@ -44,10 +44,6 @@ impl Outcome {
         if !has_whole_body(body.as_ref()) {
             return Ok(None);
         }
-        Ok(Some(Outcome {
-            status,
-            headers,
-            body,
-        }))
+        Ok(Some(Outcome::new(alloc, status, headers, body)?))
     }
 }

@@ -17,7 +17,7 @@ returns-clause-unbroken c = λ before repeats. c.in_ok-status.ensures.unbroken (
 pub returns-clause-says : goal.returns-clause-says
 returns-clause-says c =
     let has = c.in_ok-raw.ensures.has in
-    record {
+    rw c.in_ok-outcome.ensures record {
       id = has.id;
       status = rw (← c.in_ok-status.ensures.status.1) has.status;
       headers = has.headers;
