@@ -24,7 +24,7 @@ use std::alloc::{AllocError, Global};
 #[derive(Drop)]
 pub(crate) struct Counts {
     /// Of each request, how many of its needs are not satisfied.
-    pub(crate) unmet: Vec<usize>,
+    pub(crate) unmet: Vec<u32>,
     /// For each unit the number of its members that have not succeeded.
     pub(crate) pending: Vec<u32>,
     /// The units that have failed.
@@ -38,12 +38,12 @@ pub(crate) struct Counts {
 }
 
 /// Returns for each request the number of its dependencies.
-fn need_counts(alloc: Global, graph: &Graph) -> Result<Vec<usize>, AllocError>
+fn need_counts(alloc: Global, graph: &Graph) -> Result<Vec<u32>, AllocError>
     ensures { IfOk result (λ found. found.items ≡ counted.need_counts graph.now.plan_graph) }
 {
     let mut counts = Vec::with_capacity(alloc, graph.len() as usize)?;
     for i in 0..graph.len() {
-        counts.push(graph.needs(i).len())?;
+        counts.push(graph.needs(i).len() as u32)?;
     }
     Ok(counts)
 }
@@ -62,7 +62,7 @@ fn member_counts(alloc: Global, graph: &Graph) -> Result<Vec<u32>, AllocError>
 }
 
 /// Returns the requests whose count is 0.
-fn without_any(alloc: Global, len: u32, counts: &[usize]) -> Result<MinMaxSet, AllocError>
+fn without_any(alloc: Global, len: u32, counts: &[u32]) -> Result<MinMaxSet, AllocError>
     requires { length counts.now ≡ len }
     ensures each { IfOk result (λ free. length free ≡ len) }
     ensures exact { IfOk result (λ free. (i : ℕ) → i < len

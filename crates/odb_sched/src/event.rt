@@ -22,7 +22,7 @@ use crate::policy::Policy;
 use crate::refusal::RunRefusal;
 use crate::scheduler::Scheduler;
 use odb_check::Plan;
-use odb_doc::{Events, NamedEvent, Outcome, Place, Refusal, Rule, RuleFault};
+use odb_doc::{Disposal, Events, NamedEvent, Outcome, Place, Refusal, Rule, RuleFault};
 use std::alloc::Global;
 use thiserror::Error;
 
@@ -148,27 +148,39 @@ fn id_of(event: &NamedEvent) -> &str
     }
 }
 
-/// Returns the event at the position of its request.
-fn at_position(event: NamedEvent, i: u32) -> Event
+/// Returns the event at the position of its request, and drops or leaks its id.
+fn at_position(event: NamedEvent, i: u32, disposal: Disposal) -> Event
     ensures place { event_position result ≡ i }
     ensures same { (batch : List Record) → id_at batch i ≡ Some (named_id (event_value event))
         → IsResolved batch (event_value event) result }
 {
     match event {
-        NamedEvent::Start(_) => Event::Start(i),
-        NamedEvent::Report(_, outcome) => Event::Report(i, outcome),
+        NamedEvent::Start(id) => {
+            disposal.end(id);
+            Event::Start(i)
+        }
+        NamedEvent::Report(id, outcome) => {
+            disposal.end(id);
+            Event::Report(i, outcome)
+        }
     }
 }
 
 /// Returns the event at index `at` of its list, at the position of its request.
-fn resolved(plan: &Plan<'_>, at: usize, event: NamedEvent) -> Result<Event, ResolveFault>
+fn resolved(
+    plan: &Plan<'_>,
+    at: usize,
+    event: NamedEvent,
+    disposal: Disposal,
+) -> Result<Event, ResolveFault>
     ensures resolved { IfOk result (IsResolved (plan_records plan.now) (event_value event)) }
     ensures within { IfOk result (λ found. event_position found < length (plan_records plan.now)) }
     ensures place { IfErr result (λ fault. fault ≡ Broken at UnknownEvent) }
     ensures unknown { IsErr result → ¬ IsKnown (plan_records plan.now) (event_value event) }
 {
-    match plan.position_of(id_of(&event)) {
-        Some(i) => Ok(at_position(event, i)),
+    // A run that starts and reports one request after the other has two events for each.
+    match plan.position_near(at / 2, id_of(&event)) {
+        Some(i) => Ok(at_position(event, i, disposal)),
         None => Err(ResolveFault::Broken {
             at,
             rule: ResolveRule::UnknownEvent,
@@ -196,9 +208,32 @@ pub fn resolve(alloc: Global, plan: &Plan<'_>, events: Events) -> Result<Vec<Eve
         (entries events)) }
     ensures memory { result ≡ Err OutOfMemory → entries events ≢ [] }
 {
+    resolve_with(alloc, plan, events, Disposal::Drop)
+}
+
+/// Returns what [`resolve`] returns. The ids of the events are dropped or leaked.
+///
+/// # Errors
+///
+/// Those of [`resolve`].
+pub fn resolve_with(
+    alloc: Global,
+    plan: &Plan<'_>,
+    events: Events,
+    disposal: Disposal,
+) -> Result<Vec<Event>, ResolveFault>
+    ensures known { OnOk result (All (IsKnown (plan_records plan.now)) (entries events)) }
+    ensures events { IfOk result (λ found. AllZip (IsResolved (plan_records plan.now))
+        (entries events) found.items) }
+    ensures within { IfOk result (λ found. All (λ event. event_position event
+        < length (plan_records plan.now)) found.items) }
+    ensures least { IfErr result (λ fault. RefusesNamed fault (plan_records plan.now)
+        (entries events)) }
+    ensures memory { result ≡ Err OutOfMemory → entries events ≢ [] }
+{
     let mut found = Vec::with_capacity(alloc, events.len())?;
     for event in events.into_vec() {
-        let next = resolved(plan, found.len(), event)?;
+        let next = resolved(plan, found.len(), event, disposal)?;
         found.push(next)?;
     }
     Ok(found)

@@ -176,6 +176,7 @@ impl Graph {
         requires { i < length self.now.plan_graph.units }
         ensures needs { result.now ≡ plan_graphs.needs_of self.now.plan_graph i }
         ensures known { All (IsNeed self.now.plan_graph) result.now }
+        ensures few { length result.now ≤ 4294967295 }
     {
         self.needs.row(i)
     }

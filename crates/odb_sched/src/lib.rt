@@ -29,7 +29,7 @@ mod states;
 
 pub use answer::Answer;
 pub use done::Done;
-pub use event::{Event, ResolveFault, ResolveRule, Step, resolve, run};
+pub use event::{Event, ResolveFault, ResolveRule, Step, resolve, resolve_with, run};
 pub use order::Order;
 pub use owned::OwnedRun;
 pub use policy::{MAX_WIDTH, Mode, Policy};

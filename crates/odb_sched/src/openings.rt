@@ -9,7 +9,7 @@ ghost use Rattle.odb_sched.specs.invariants.Openings as openings;
 
 use crate::graph::Graph;
 use odb_check::Need;
-use odb_dense::{MinMaxSet, Worklist};
+use odb_dense::{BitSet, Worklist};
 use std::alloc::{AllocError, Global};
 
 /// What is counted of the units of a run, to find the first that may begin.
@@ -20,12 +20,12 @@ pub(crate) struct Openings {
     /// Whether a unit was asked for. Until then the rest is not kept.
     pub(crate) asked: bool,
     /// Of each request, how many of its needs are on its own unit.
-    pub(crate) inner: Vec<usize>,
+    pub(crate) inner: Vec<u32>,
     /// Of each unit, how many of its members have more open needs than those. If the unit has not begun, they
     /// wait for other units.
     pub(crate) waiting: Vec<u32>,
     /// The units without such members. One that has begun or failed may be missing.
-    pub(crate) free: MinMaxSet,
+    pub(crate) free: BitSet,
 }
 
 /// Returns the unit that a need is about.
@@ -40,7 +40,7 @@ pub(crate) fn unit_needed(graph: &Graph, need: Need) -> u32
 }
 
 /// Returns how many needs of a request are on its own unit.
-fn inner_count(graph: &Graph, i: u32) -> usize
+fn inner_count(graph: &Graph, i: u32) -> u32
     requires { i < length graph.now.plan_graph.units }
     ensures { result ≡ openings.inner_count graph.now.plan_graph i }
 {
@@ -65,14 +65,14 @@ impl Openings {
             (replicate (length graph.now.plan_graph.units) Unstarted) unmet t) }
     {
         let begun = vec![in alloc; false; graph.unit_count() as usize]?;
-        let inner = vec![in alloc; 0_usize; graph.len() as usize]?;
+        let inner = vec![in alloc; 0_u32; graph.len() as usize]?;
         let waiting = vec![in alloc; 0_u32; graph.unit_count() as usize]?;
         Ok(Openings {
             begun,
             asked: false,
             inner,
             waiting,
-            free: MinMaxSet::new(alloc, graph.unit_count())?,
+            free: BitSet::new(alloc, graph.unit_count())?,
         })
     }
 
@@ -86,7 +86,7 @@ impl Openings {
     }
 
     /// Counts the members of each unit that have more open needs than those on the unit.
-    fn count(&mut self, graph: &Graph, unmet: &[usize])
+    fn count(&mut self, graph: &Graph, unmet: &[u32])
         requires each { length unmet.now ≡ length graph.now.plan_graph.units }
         requires entries { HaveUnits graph.now.plan_graph self.old }
         ensures waiting { AreWaiting graph.now.plan_graph unmet.now self.new }
@@ -121,7 +121,7 @@ impl Openings {
     }
 
     /// Begins to keep which units are free.
-    pub(crate) fn ask(&mut self, graph: &Graph, unmet: &[usize])
+    pub(crate) fn ask(&mut self, graph: &Graph, unmet: &[u32])
         requires each { length unmet.now ≡ length graph.now.plan_graph.units }
         requires entries { HaveUnits graph.now.plan_graph self.old }
         ensures asked { self.new.asked ≡ true }
@@ -155,7 +155,7 @@ impl Openings {
     }
 
     /// Counts one need of a request as satisfied, of those that `unmet` still has.
-    pub(crate) fn satisfy(&mut self, graph: &Graph, i: u32, unmet: &[usize])
+    pub(crate) fn satisfy(&mut self, graph: &Graph, i: u32, unmet: &[u32])
         requires request { i < length graph.now.plan_graph.units }
         requires each { length unmet.now ≡ length graph.now.plan_graph.units }
         requires some { 0 < slice_index_or unmet.now i 0 }

@@ -9,7 +9,7 @@ row-requires c =
     omega (arith, c.self.invariant.order.as_long)
 
 pub returns-clause-needs : goal.returns-clause-needs
-returns-clause-needs c = rw (← c.self.view_is) c.row.ensures
+returns-clause-needs c = rw (← c.self.view_is) c.row.ensures.row
 
 pub returns-clause-known : goal.returns-clause-known
 returns-clause-known c = subst (All (IsNeed c.args.self.now.plan_graph)) (sym (returns-clause-needs c))

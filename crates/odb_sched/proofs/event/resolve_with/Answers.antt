@@ -6,7 +6,7 @@ use Rattle.odb_doc.specs.recorded.EventLists.{entries}
 use Rattle.odb_doc.specs.recorded.Events.{event_value}
 use Rattle.odb_sched.specs.run.Resolving.{IsKnown, RefusesNamed}
 use Rattle.odb_sched.proofs.ResolveLemmas.{resolved_none, resolved_more, resolved_all, resolved_as, unknown_next}
-use Rattle.odb_sched.proofs.event.resolve.Goals as goal
+use Rattle.odb_sched.proofs.event.resolve_with.Goals as goal
 
 pub loop-event-init : goal.loop-event-init
 loop-event-init c =

@@ -4,7 +4,7 @@ use Rattle.odb_check.specs.Plans.{plan_records}
 use Rattle.odb_doc.specs.recorded.EventLists.{entries}
 use Rattle.odb_doc.specs.recorded.Events.{event_value}
 use Rattle.odb_sched.proofs.ResolveLemmas.{HasResolved}
-use Rattle.odb_sched.proofs.event.resolve.Given as goal
+use Rattle.odb_sched.proofs.event.resolve_with.Given as goal
 
 -- the events so far have their positions
 abbrev pub invariant-loop-event : goal.invariant-loop-event
