@@ -1,5 +1,5 @@
 -- Events one by one await no more than one report of a unit, and close no run.
-use Rattle.std.proofs.Common.{◌≡◌, ◌∙◌, ◌+◌, ℕ, zero, suc, false, List, [], ◌∷◌, replicate, refl, ap, arith}
+use Rattle.std.proofs.Common.{◌≡◌, ℕ, zero, suc, false, List, [], ◌∷◌, replicate, refl, ap, arith}
 use Rattle.odb_doc.specs.batch.Records.{Record}
 use Rattle.odb_check.specs.PlanGraph.{unit_of}
 use Rattle.odb_sched.specs.declared.event.Event.{Event}

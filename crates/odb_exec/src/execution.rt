@@ -258,7 +258,7 @@ fn prepared<'a: 'p, 'p>(
 /// ([`crate::laws::every_call`]). The chooser is asked once for each step before which it names no
 /// order, and for nothing else, as far as its relation `chooses` does.
 ///
-/// Example: `respond` in crates/odb_tests_engine/src/examples.rt.
+/// Example: `answer` in crates/odb_tests_engine/src/examples.rt.
 ///
 /// # Errors
 ///

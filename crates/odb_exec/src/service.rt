@@ -10,7 +10,7 @@ ghost use Rattle.odb_doc.specs.recorded.OutcomeLists.{entries};
 
 use odb_check::Plan;
 use odb_dense::none_for_each;
-use odb_doc::{Outcome, Outcomes, Request};
+use odb_doc::{Disposal, Outcome, Outcomes, Request};
 use std::alloc::{AllocError, Global};
 use std::marker::Model;
 use thiserror::Error;
@@ -82,21 +82,23 @@ impl Model for Recorded {
 }
 
 /// Records the outcome of the request with this id. An id that the plan does not have is ignored.
-fn note(plan: &Plan<'_>, outcomes: &mut [Option<Outcome>], id: &str, outcome: Outcome)
+fn note(plan: &Plan<'_>, outcomes: &mut [Option<Outcome>], guess: usize, id: &str, outcome: Outcome)
     requires { length outcomes.old ≡ length (plan_records plan.now) }
     ensures { outcomes.new ≡ noted_at (position_of (plan_records plan.now) id.now) outcomes.old
         outcome }
 {
-    if let Some(i) = plan.position_of(id) {
+    if let Some(i) = plan.position_near(guess, id) {
         outcomes[i as usize] = Some(outcome);
     }
 }
 
-/// Returns the recorded outcome for each request of the plan: that of the first entry with its id.
+/// Returns the recorded outcome for each request of the plan: that of the first entry with its id. The ids are dropped or
+/// leaked.
 fn by_position(
     alloc: Global,
     plan: &Plan<'_>,
     mut entries: Vec<(String, Outcome)>,
+    disposal: Disposal,
 ) -> Result<Vec<Option<Outcome>>, AllocError>
     ensures { IfOk result (λ outcomes. outcomes.items
         ≡ recorded_for (plan_records plan.now) (map recorded entries.items)) }
@@ -104,7 +106,8 @@ fn by_position(
     odb_check::laws::every_plan(plan);
     let mut outcomes = none_for_each(alloc, plan.len())?;
     while let Some((id, outcome)) = entries.pop() {
-        note(plan, &mut outcomes, &id, outcome);
+        note(plan, &mut outcomes, entries.len(), &id, outcome);
+        disposal.end(id);
     }
     Ok(outcomes)
 }
@@ -116,7 +119,20 @@ impl Recorded {
         ensures { IfOk result (λ recorded. recorded
             ≡ recorded_for (plan_records plan.now) (entries outcomes)) }
     {
-        let outcomes = by_position(alloc, plan, outcomes.into_vec())?;
+        Recorded::with_disposal(alloc, plan, outcomes, Disposal::Drop)
+    }
+
+    /// Returns what [`Recorded::new`] returns. The ids of the outcomes are dropped or leaked.
+    pub fn with_disposal(
+        alloc: Global,
+        plan: &Plan<'_>,
+        outcomes: Outcomes,
+        disposal: Disposal,
+    ) -> Result<Recorded, AllocError>
+        ensures { IfOk result (λ recorded. recorded
+            ≡ recorded_for (plan_records plan.now) (entries outcomes)) }
+    {
+        let outcomes = by_position(alloc, plan, outcomes.into_vec(), disposal)?;
         Ok(Recorded { outcomes })
     }
 }
