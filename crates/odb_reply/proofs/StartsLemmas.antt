@@ -1,8 +1,8 @@
 -- Which requests can have started, by the flags of all, and what that says of the rules of statuses.
-use Rattle.std.proofs.Common.{◌≡◌, ◌≢◌, ◌∙◌, ◌<◌, ◌≤◌, ◌+◌, ◌==◌, ◌&&◌, ◌||◌, ℕ, zero, suc, Bool, true, false, List, [], ◌∷◌, ◌++◌, length, get_or, Some, IsTrue, inl, inr, ◌⊎◌, refl, ap, sym, subst, arith, eq-eqb, eqb-true, replicate, set, get_or-set_same, get_or-set_other, Contains, IsSome, rules}
+use Rattle.std.proofs.Common.{◌≡◌, ◌≢◌, ◌∙◌, ◌<◌, ◌≤◌, ◌+◌, ◌==◌, ◌&&◌, ◌||◌, ℕ, zero, suc, Bool, true, false, List, [], ◌∷◌, ◌++◌, length, get_or, IsTrue, inl, inr, ◌⊎◌, refl, ap, sym, subst, arith, eq-eqb, eqb-true, replicate, Contains, IsSome, rules}
 use Rattle.std.specs.List.{list_all}
-use Rattle.std.proofs.lemmas.Bool.{cases_Bool, cases_eq, cases_lt, both_ways, and_from, and_parts, or_left, or_right, or_cases, false≢true, false_from_ne_true, true_from_ne_false}
-use Rattle.std.proofs.lemmas.List.{get_or-replicate, get_or_past, length-replicate, length-set}
+use Rattle.std.proofs.lemmas.Bool.{cases_Bool, cases_eq, both_ways, and_from, and_parts, or_left, or_right, or_cases, false≢true, false_from_ne_true, true_from_ne_false}
+use Rattle.std.proofs.lemmas.List.{length-replicate}
 use Rattle.odb_doc.proofs.OneLeast.{one_first}
 use Rattle.odb_doc.specs.Statuses.{is_success, is_status}
 use Rattle.odb_check.specs.declared.need.Need.{Need}
@@ -12,7 +12,7 @@ use Rattle.odb_sched.specs.run.Possible.{CanHaveSucceeded}
 use Rattle.odb_sched.specs.run.PossibleLive.{CanHaveBeenSent, IsAnswered2xx}
 use Rattle.odb_sched.proofs.BelowLemmas.{list_all-from, list_all-each}
 use Rattle.odb_reply.specs.Starts.{can_have_succeeded, can_start, is_met_outside, met_outside, sends_units, AreSent, AreStarts, HaveStarts, IsSound, IsFirstAt}
-use Rattle.odb_reply.specs.StatusFaults.{status_at, BreaksStatus, CanHaveStartedBy, IsPossibleBy, status_number, status_row, RefusesStatuses, StatusFault}
+use Rattle.odb_reply.specs.StatusFaults.{BreaksStatus, CanHaveStartedBy, IsPossibleBy, status_number, status_row, RefusesStatuses, StatusFault}
 use Rattle.odb_doc.specs.declared.rule_fault.RuleFault.TheVariants as faults
 use Rattle.odb_reply.specs.declared.strictness.Strictness.{Strictness}
 use Rattle.odb_reply.specs.declared.strictness.Strictness.TheVariants.{Requests, Units}

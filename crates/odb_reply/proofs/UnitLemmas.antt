@@ -1,16 +1,11 @@
 -- Needs are of requests and units of the plan.
-use Rattle.std.proofs.Common.{◌≡◌, ◌∙◌, ◌+◌, ◌<◌, ℕ, Bool, true, false, List, length, set, replicate, get_or, Some, slice_get, inl, inr, ap, sym, subst, arith, Contains}
-use Rattle.std.proofs.lemmas.Bool.{cases_eq, true≢false}
-use Rattle.std.proofs.lemmas.List.{length-set, length-replicate}
+use Rattle.std.proofs.Common.{◌<◌, ℕ, List, length, sym, subst, arith, Contains}
 use Rattle.odb_doc.specs.batch.Records.{Record}
 use Rattle.odb_check.specs.declared.need.Need.{Need}
 use Rattle.odb_check.specs.declared.need.Need.TheVariants.{One, Group}
 use Rattle.odb_check.specs.Needs.{needs_at}
 use Rattle.odb_check.specs.PlanGraph.{PlanGraph, IsPlan, IsPlanGraphOf, IsNeed, IsNeedAmong, IsEarlier}
-use Rattle.odb_check.specs.Units.{unit_at, unit_count}
-use Rattle.odb_doc.specs.Statuses.{is_success}
-use Rattle.odb_reply.proofs.SliceLemmas.{slice_get-set_same, slice_get-set_other, slice_get-replicate}
-use Rattle.odb_reply.specs.Fits.{AreUnits}
+use Rattle.odb_check.specs.Units.{unit_count}
 
 -- a dependency that the plan has is a request or a unit of the batch
 pub known_within : (rs : List Record) (plan : PlanGraph) (need : Need) → IsPlanGraphOf rs plan → IsNeed plan need → IsNeedAmong (length rs) (unit_count rs) need

@@ -37,7 +37,7 @@ fn marks_of(
     odb_check::laws::every_plan(plan);
     let mut marks = vec![in alloc; false; plan.len() as usize]?;
     for at in 0..responses.len() {
-        if let Some(i) = plan.position_of(responses.entry(at).id) {
+        if let Some(i) = plan.position_near(at, responses.entry(at).id) {
             marks[i as usize] = true;
         }
     }

@@ -42,7 +42,7 @@ fn push_answer_body(
 {
     match (answer, reported) {
         (Answer::Reported(_), Some(body)) => push_body_text(text, body),
-        (Answer::Reported(outcome), None) => push_body(alloc, text, outcome.body.as_ref()),
+        (Answer::Reported(outcome), None) => push_body(alloc, text, outcome.body()),
         (Answer::FailedDependency, _) => Ok(()),
     }
 }
@@ -58,7 +58,10 @@ fn push_answer_headers(
         (headers_value (responses.answer_headers (shown answer.now)))) }
 {
     match answer {
-        Answer::Reported(outcome) => push_headers(alloc, text, &outcome.headers),
+        Answer::Reported(outcome) => match outcome.headers() {
+            Some(headers) => push_headers(alloc, text, headers),
+            None => Ok(()),
+        },
         Answer::FailedDependency => Ok(()),
     }
 }

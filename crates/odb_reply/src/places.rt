@@ -24,7 +24,7 @@ fn note_place(
     ensures noted { OnOk result (IsNoted (plan_records plan.now) id.now at places.old places.new) }
     ensures misplaced { IfErr result (IsMisplaced (plan_records plan.now) id.now places.old) }
 {
-    let Some(i) = plan.position_of(id) else {
+    let Some(i) = plan.position_near(at, id) else {
         return Err(MatchRule::UnknownResponse);
     };
     if places[i as usize].is_some() {

@@ -116,7 +116,7 @@ pub fn response_of<L: Labels>(
 /// Returns the text of the response to a batch whose run has finished (OData JSON Format 4.01,
 /// section 19.5): that of [`response_of`] for the ids and groups of the plan.
 ///
-/// Example: `respond` in crates/odb_tests_engine/src/examples.rt.
+/// Example: `answer` in crates/odb_tests_engine/src/examples.rt.
 ///
 /// # Errors
 ///

@@ -29,7 +29,7 @@ fn has_whole_value(answer: &Answer<'_>, reported: Option<&str>) -> bool
     every_outcome(outcome);
     match reported {
         Some(_) => true,
-        None => has_whole_body(outcome.body.as_ref()),
+        None => has_whole_body(outcome.body()),
     }
 }
 

@@ -28,11 +28,11 @@ loop-at-preserved c =
     let at = c.loop-at.at in
     let e = entry_of c.entry.result.now in
     let law = c.every_plan.ensures.positions in
-    elim c.match-position_of.branch [
+    elim c.match-position_near.branch [
       | in-Some w ↦
           let position : id_at rs w.in-Some.i ≡ Some e.id = (law.found e.id w.in-Some.i).0 (sym w.in-Some.ensures) in
           rw w.marks-is (AreMarks-known rs es at w.in-Some.i e c.loop-at.marks.items (one_position rs law) c.loop-at.invariant c.entry.ensures position)
       | in_default w ↦
-          let unknown : (p : ℕ) → id_at rs p ≢ Some e.id = λ p is. let found = (law.found e.id p).1 is in absurd (cc (found, w.in_default.is, c.position_of.ensures)) in
+          let unknown : (p : ℕ) → id_at rs p ≢ Some e.id = λ p is. let found = (law.found e.id p).1 is in absurd (cc (found, w.in_default.is, c.position_near.ensures)) in
           rw w.marks-is (AreMarks-unknown rs es at e c.loop-at.marks.items c.loop-at.invariant c.entry.ensures unknown)
     ]

@@ -5,7 +5,7 @@ use Rattle.odb_reply.proofs.SliceLemmas.{taken, free}
 use Rattle.odb_reply.proofs.places.note_place.Goals as goal
 
 pub returns-in_default-clause-misplaced : goal.returns-in_default-clause-misplaced
-returns-in_default-clause-misplaced c = λ known. let found = (c.requires.positions.found c.args.id.now known.0).1 known.1 in absurd (cc (found, c.in_default.is, c.position_of.ensures))
+returns-in_default-clause-misplaced c = λ known. let found = (c.requires.positions.found c.args.id.now known.0).1 known.1 in absurd (cc (found, c.in_default.is, c.position_near.ensures))
 
 pub bounds-places-i : goal.bounds-places-i
 bounds-places-i c =
