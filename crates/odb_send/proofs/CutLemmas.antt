@@ -19,7 +19,7 @@ use Rattle.odb_send.specs.Faults.{Breaks, Lacks, LacksLocation, LacksTag, Refuse
 use Rattle.odb_send.specs.Marks.{marked_before}
 use Rattle.odb_send.specs.NextPart.{BreaksFirst, HasLack, HasSome, IsCut, IsPartOf, RefusesPart}
 use Rattle.odb_send.specs.declared.rest.Rest.{Rest}
-use Rattle.odb_send.specs.Rests.{Change, HasChanges, Leaves, change_at, changes, is_kept, kept}
+use Rattle.odb_send.specs.Rests.{Change, HasChanges, Leaves, RefersOut, change_at, changes, is_kept, kept, tagged_at}
 use Rattle.odb_send.specs.Units.{marked}
 use Rattle.odb_send.proofs.MarkLemmas.{not_marked}
 use Rattle.odb_send.proofs.NextPartLemmas.{unit_member}
@@ -97,15 +97,12 @@ module _ (rs : List Record) (good : HasGoodNames rs) (fitting part : List Bool) 
         not_marked (marked fitting u) (λ there. true≢false (sym (part-there u known less there) ∙ none u known));
   }
 
-  -- a URL that leaves the part leaves what fits
-  leaves-fitting : (i p : ℕ) → Leaves rs part i p → unit_at rs i < unit_at rs at → is_kept rs fitting i ≡ true → Leaves rs fitting i p
-  leaves-fitting i p leaves less there = record {
+  -- what refers out of the part, and not to a later unit, refers out of what fits
+  leaves-fitting : (target : ℕ → Option ℕ) (i p : ℕ) → RefersOut rs part target i p → p < length rs → unit_at rs p ≤ unit_at rs i → unit_at rs i < unit_at rs at → is_kept rs fitting i ≡ true → RefersOut rs fitting target i p
+  leaves-fitting target i p leaves inside before less there = record {
     stays = there;
     refers = leaves.refers;
-    leaves = not_marked (is_kept rs fitting p) (λ fits.
-        let known : unit_at rs p < unit_count rs = unit_before rs p (length rs) (referred_within rs i p leaves.refers) in
-        let before = refers_before rs good i p leaves.refers in
-        true≢false (sym (part-there (unit_at rs p) known (omega (arith, before, less)) fits) ∙ leaves.leaves));
+    leaves = not_marked (is_kept rs fitting p) (λ fits. true≢false (sym (part-there (unit_at rs p) (unit_before rs p (length rs) inside) (omega (arith, before, less)) fits) ∙ leaves.leaves));
   }
 
   -- no request of the part lacks a Location
@@ -113,12 +110,13 @@ module _ (rs : List Record) (good : HasGoodNames rs) (fitting part : List Bool) 
   cut-placed i bad =
       let inside : i < length rs = referring rs i bad.position bad.leaves.refers in
       let first = part-first (unit_at rs i) (unit_before rs i (length rs) inside) bad.leaves.stays in
-      let leaves = leaves-fitting i bad.position bad.leaves first.0 first.1 in
+      let p = bad.position in
+      let leaves = leaves-fitting (referred_at rs) i p bad.leaves (referred_within rs i p bad.leaves.refers) (refers_before rs good i p bad.leaves.refers) first.0 first.1 in
       least i (earlier i first.0) (inl (record {
         position = bad.position;
         leaves = leaves;
         none = λ url moves.
-            let same = one_position rs fitting i bad.position moves.position leaves moves.leaves in
+            let same = one_position rs fitting (referred_at rs) i bad.position moves.position leaves moves.leaves in
             bad.none url (record {
               position = moves.position;
               leaves = subst (λ q. Leaves rs part i q) same bad.leaves;
@@ -142,12 +140,7 @@ module _ (rs : List Record) (good : HasGoodNames rs) (fitting part : List Bool) 
       let before = (needs_before rs good).order p i (omega (arith, less)) in
       least i (earlier i first.0) (lacks i (record {
         position = p;
-        leaves = record {
-          stays = first.1;
-          refers = bad.leaves.refers;
-          leaves = not_marked (is_kept rs fitting p) (λ fits.
-              true≢false (sym (part-there (unit_at rs p) (unit_before rs p (length rs) within) (omega (arith, before, first.0)) fits) ∙ bad.leaves.leaves));
-        };
+        leaves = leaves-fitting (tagged_at rs name) i p bad.leaves within before first.0 first.1;
         none = bad.none;
       }))
 

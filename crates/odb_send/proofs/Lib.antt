@@ -1,3 +1,4 @@
+pub mod PairLemmas
 mod PartLemmas
 mod ResponseLemmas
 pub mod MarkLemmas

@@ -1,25 +1,22 @@
 -- The next part of a batch: what its units are, and that it is determined.
-use Rattle.std.proofs.Common.{◌≡◌, ◌∙◌, ◌⊎◌, ◌+◌, ◌-◌, ◌<◌, ◌≤◌, ◌==◌, ◌&&◌, ◌||◌, ℕ, zero, suc, Bool, true, false, not, cond, if◌then◌else◌, List, [], ◌∷◌, ◌++◌, length, set, replicate, inl, inr, refl, ap, sym, subst, arith, eq-eqb, append-nil}
+use Rattle.std.proofs.Common.{◌≡◌, ◌∙◌, ◌+◌, ◌-◌, ◌<◌, ◌≤◌, ◌==◌, ℕ, zero, suc, Bool, true, false, cond, if◌then◌else◌, List, [], ◌∷◌, ◌++◌, length, set, replicate, inl, inr, refl, ap, sym, subst, arith, eq-eqb, append-nil}
 use Rattle.std.specs.Prelude.{Result, Ok, Err, IfOk, IfErr}
-use Rattle.std.specs.List.{list_any}
 use Rattle.std.proofs.lemmas.Bool.{cases_Bool, cases_eq, eqb-true, ne_eqb, true≢false, false≢true}
 use Rattle.std.proofs.lemmas.List.{length-set, length-replicate}
 use Rattle.odb_doc.specs.batch.Records.{Record}
 use Rattle.odb_check.specs.Firsts.{count_below, joined_below}
-use Rattle.odb_check.specs.LeastNameFault.{HasGoodNames}
-use Rattle.odb_check.specs.Needs.{needs_at}
-use Rattle.odb_check.specs.PlanGraph.{PlanGraph, IsPlanGraphOf, IsSpan, plan_graph_of, unit_of, unit_needed}
+use Rattle.odb_check.specs.PlanGraph.{PlanGraph, IsPlanGraphOf, IsSpan, plan_graph_of, unit_of}
 use Rattle.odb_check.specs.Units.{unit_at, unit_count}
 use Rattle.odb_check.proofs.PlanLemmas.{in_plan_graph, is_plan_graph}
 use Rattle.odb_sched.specs.run.State.{members_in}
 use Rattle.odb_sched.proofs.CountLemmas.{count_same, count_none, count_either}
 use Rattle.odb_sched.proofs.FirstLemmas.{members_of_span}
 use Rattle.odb_sched.proofs.LiveLemmas.{populated}
-use Rattle.odb_send.specs.Marks.{AreBarred, AreFirst, waits_at}
+use Rattle.odb_send.specs.Marks.{AreFirst}
 use Rattle.odb_send.specs.NextPart.{AreFitting, HasToWait, MayGo, member_count, position_in, request_count}
 use Rattle.odb_send.specs.Rests.{is_kept}
 use Rattle.odb_send.specs.Units.{AreMarksOf, marked}
-use Rattle.odb_send.proofs.MarkLemmas.{AreBarred-exempt, AreBarred-kept, AreBarred-more, barred-needing, barred-own, marked-cases, marked-kept, marked-none, marked-other, marked-set, not_marked}
+use Rattle.odb_send.proofs.MarkLemmas.{marked-cases, marked-kept, marked-none, marked-other, marked-set, not_marked}
 
 -- ---- counts
 
@@ -69,42 +66,6 @@ more_requests rs units u known out = count_either (length rs) (is_kept rs units)
       | inl same ↦ rw (eq-eqb (unit_at rs i) u same) (ap (marked (set units u true)) same ∙ marked-set units u known)
       | inr other ↦ rw (ne_eqb (unit_at rs i) u other) (marked-other units u (unit_at rs i) other)
     ])
-
--- ---- units that have to wait
-
-waits_true : (d l a : Bool) → (not d && (not l || a)) ≡ true → (d ≡ false) × ((l ≡ false) ⊎ (a ≡ true))
-waits_true true l a is = absurd (false≢true is)
-waits_true false true a is = (refl, inr is)
-waits_true false false a is = (refl, inl refl)
-
-waits_false : (d l a : Bool) → (not d && (not l || a)) ≡ false → (d ≡ true) ⊎ ((l ≡ true) × (a ≡ false))
-waits_false true l a is = inl refl
-waits_false false true a is = inr (refl, is)
-waits_false false false a is = absurd (true≢false is)
-
-abbrev is_left : List Record → List Bool → ℕ → Bool
-is_left rs left i = marked left (unit_at rs i)
-
-abbrev needs_held : List Record → List Bool → ℕ → Bool
-needs_held rs units i = list_any (λ need. marked units (unit_needed (unit_at rs) need)) (needs_at rs i)
-
--- the unit of the next request has to wait
-pub held_more : (rs : List Record) (done left : List Bool) (n : ℕ) (units : List Bool) → HasGoodNames rs → AreBarred rs (marked done) (λ i. marked left (unit_at rs i)) n units → n < length rs → unit_at rs n < unit_count rs → waits_at rs done left units n ≡ true
-    → AreBarred rs (marked done) (λ i. marked left (unit_at rs i)) (n + 1) (set units (unit_at rs n) true)
-held_more rs done left n units good before within known is =
-    let (bound, why) = waits_true (marked done (unit_at rs n)) (is_left rs left n) (needs_held rs units n) is in
-    AreBarred-more rs (marked done) (is_left rs left) n units good before known (elim why [
-      | inl bad ↦ barred-own rs (marked done) (is_left rs left) n within bound bad
-      | inr some ↦ barred-needing rs (marked done) (is_left rs left) n units before within bound some
-    ])
-
--- it need not wait for this request
-pub held_same : (rs : List Record) (done left : List Bool) (n : ℕ) (units : List Bool) → AreBarred rs (marked done) (λ i. marked left (unit_at rs i)) n units → waits_at rs done left units n ≡ false
-    → AreBarred rs (marked done) (λ i. marked left (unit_at rs i)) (n + 1) units
-held_same rs done left n units before is = elim (waits_false (marked done (unit_at rs n)) (is_left rs left n) (needs_held rs units n) is) [
-  | inl over ↦ AreBarred-exempt rs (marked done) (is_left rs left) n units before over
-  | inr (passes, none) ↦ AreBarred-kept rs (marked done) (is_left rs left) n units before passes none
-]
 
 -- ---- one unit after another
 

@@ -9,6 +9,7 @@ use Rattle.odb_doc.specs.Documents.{IsJson}
 use Rattle.odb_doc.specs.Members.{elements_at}
 use Rattle.odb_doc.specs.batch.Records.{Record}
 use Rattle.odb_doc.specs.declared.rule_fault.RuleFault.TheVariants as faults
+use Rattle.odb_check.specs.Units.{referred_at}
 use Rattle.odb_spans.specs.Spans.{EachSpan, HasMemberAt, IsPlaceOfMember}
 use Rattle.odb_spans.specs.declared.span.Span.{Span}
 use Rattle.odb_send.specs.declared.fault.RestRule.{RestRule}
@@ -16,14 +17,14 @@ use Rattle.odb_send.specs.declared.fault.RestRule.TheVariants.{NoETag, NoLocatio
 use Rattle.odb_send.specs.declared.rest.Rest.{Rest}
 use Rattle.odb_send.specs.Answers.{Answer}
 use Rattle.odb_send.specs.Faults.{Breaks, RefusesRest, RestFault, rest_row}
-use Rattle.odb_send.specs.Rests.{Change, HasChanges, IsChange, IsJoined, IsRestOf, IsTag, IsUrl, Moves, change_at, changes, is_kept, kept, select, unchanged}
+use Rattle.odb_send.specs.Rests.{Change, HasChanges, IsChange, IsJoined, IsRestOf, IsTag, IsUrl, Moves, change_at, changes, is_kept, kept, select, tagged_at, unchanged}
 use Rattle.odb_send.specs.Rests.IsTag.{replaced, stays}
 use Rattle.odb_send.specs.Rests.IsUrl.{same, moved}
 use Rattle.odb_send.specs.Texts.{IsTextOf, bodies_in, joined, text_of, text_of_request}
 use Rattle.odb_send.specs.Units.{IsInRest}
 use Rattle.odb_send.proofs.MarkLemmas.{one_marks}
 use Rattle.odb_send.proofs.CutLemmas.{lacks_within}
-use Rattle.odb_send.proofs.UrlLemmas.{breaks_lacks, has_change, one_joined, one_position, one_tagged}
+use Rattle.odb_send.proofs.UrlLemmas.{breaks_lacks, has_change, one_joined, one_position}
 
 -- ---- the change of each request
 
@@ -33,7 +34,7 @@ of-values url first second = record { url = url; if_match = first; if_none_match
 module _ (rs : List Record) (kept : List Bool) (answers : ℕ → Answer) (i : ℕ) where
   one-moved : (url other : List ℕ) → Moves rs kept answers i url → Moves rs kept answers i other → url ≡ other
   one-moved url other one two =
-      let position = one_position rs kept i one.position two.position one.leaves two.leaves in
+      let position = one_position rs kept (referred_at rs) i one.position two.position one.leaves two.leaves in
       let request = same_Some one.request two.request (sym one.is ∙ two.is) in
       let location = same_Some one.location two.location (sym one.recorded ∙ ap (λ p. (answers p).location) position ∙ two.recorded) in
       one_joined two.location two.request.url url other (subst (λ l. IsJoined l two.request.url url) location (subst (λ (r : Record). IsJoined one.location r.url url) request one.joined)) two.joined
@@ -49,7 +50,7 @@ module _ (rs : List Record) (kept : List Bool) (answers : ℕ → Answer) (i : �
   one-tag name _ _ (stays none) (replaced p tag leaves is) = absurd (none p leaves)
   one-tag name _ _ (replaced p tag leaves is) (stays none) = absurd (none p leaves)
   one-tag name _ _ (replaced p tag leaves is) (replaced q other also there) =
-      let position = one_tagged rs kept name i p q leaves also in
+      let position = one_position rs kept (tagged_at rs name) i p q leaves also in
       sym is ∙ ap (λ r. (answers r).etag) position ∙ there
 
   one-change : (change other : Change) → IsChange rs kept answers i change → IsChange rs kept answers i other → change ≡ other
@@ -86,7 +87,7 @@ module _ (rs : List Record) (statuses : List ℕ) (answers : ℕ → Answer) (re
 
   pub one-text : IsOnePlace → (document : List ℕ) (d : Data) (text different : List ℕ) → IsJson document d → IsTextOf document d rs rest text → IsTextOf document d rs other different → text ≡ different
   one-text law document d text different json is also =
-      let spans = law (codes "requests") (codes "body") document d is.spans also.spans json is.bodies is.places also.bodies also.places in
+      let spans = law (codes "requests") (codes "body") document d is.spans also.spans json is.bodies.values is.bodies.places also.bodies.values also.bodies.places in
       is.is ∙ same-text-of (bodies_in document is.spans) ∙ ap (λ s. text_of rs other (bodies_in document s)) spans ∙ sym also.is
 
 -- ---- the first fault

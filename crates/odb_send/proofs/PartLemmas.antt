@@ -1,20 +1,15 @@
 -- Where pieces of a growing text lie.
-use Rattle.std.proofs.Common.{◌≡◌, ◌∙◌, ◌+◌, ◌-◌, ◌<◌, ◌≤◌, ℕ, Bool, true, false, if◌then◌else◌, List, [], ◌∷◌, ◌++◌, length, take, Option, Some, None, option_and_then, option_map, unwrap_or, inl, inr, refl, sym, ap, subst, arith, append_assoc, get_or, slice_get}
-use Rattle.std.proofs.lemmas.List.{append-nil, length-append, map-append, take_more}
-use Rattle.std.proofs.lemmas.Option.{get_or_from_slice_get, slice_get_cases, slice_get_within}
-use Rattle.std.proofs.lemmas.Slice.Zip.{AllZip-long}
-use Rattle.std.specs.List.{AllZip, filter_map}
-use Rattle.serde_json.specs.Data.{Data}
-use Rattle.odb_doc.specs.batch.Shapes.{elements}
+use Rattle.std.proofs.Common.{◌≡◌, ◌∙◌, ◌+◌, ◌-◌, ◌≤◌, ℕ, Bool, true, false, if◌then◌else◌, List, [], ◌∷◌, ◌++◌, length, Option, Some, None, option_and_then, option_map, unwrap_or, refl, sym, ap, subst, arith, append_assoc, slice_get}
+use Rattle.std.proofs.lemmas.List.{append-nil, length-append}
+use Rattle.std.specs.List.{filter_map}
 use Rattle.odb_names.specs.Segments.{is_in_segment}
-use Rattle.odb_doc.specs.batch.Records.{Record, ReadsAs}
+use Rattle.odb_doc.specs.batch.Records.{Record}
 use Rattle.odb_doc.specs.batch.UrlRests.{past_segment, rest_after}
 use Rattle.odb_check.specs.Needs.{further_names, need_of, needs_at}
 use Rattle.odb_check.specs.Units.{position_of, referred_at}
-use Rattle.odb_spans.specs.Spans.{HasBodyAt}
 use Rattle.odb_spans.specs.declared.span.Span.{Span}
 use Rattle.odb_send.specs.declared.parts.RequestParts.{RequestParts}
-use Rattle.odb_send.specs.Parts.{HasPart, HasPartIf, HasParts, bodies_of, needs_of}
+use Rattle.odb_send.specs.Parts.{HasPart, HasPartIf, HasParts, needs_of}
 use Rattle.odb_send.specs.Pieces.{Extends}
 
 -- ---- a text that grows
@@ -108,37 +103,6 @@ kept-parts batch old new r parts grows held = record {
   group = kept-part-if old new _ _ grows held.group;
   needs = kept-part old new _ _ grows held.needs;
 }
-
--- one request more, by a text that has grown
-pub push-parts : (batch : List Record) (old new : List ℕ) (rs : List Record) (found : List RequestParts) (r : Record) (parts : RequestParts) → Extends old new → AllZip (HasParts batch old) rs found → HasParts batch new r parts
-    → AllZip (HasParts batch new) (rs ++ r ∷ []) (found ++ parts ∷ [])
-push-parts batch old new [] [] r parts grows held is = (is, tt)
-push-parts batch old new [] (p ∷ found) r parts grows held is = absurd held
-push-parts batch old new (q ∷ rs) [] r parts grows held is = absurd held
-push-parts batch old new (q ∷ rs) (p ∷ found) r parts grows held is = (kept-parts batch old new q p grows held.0, push-parts batch old new rs found r parts grows held.1 is)
-
--- the requests up to the next one
-pub next-taken : (rs : List Record) (i : ℕ) (r : Record) → slice_get rs i ≡ Some r → take (i + 1) rs ≡ take i rs ++ r ∷ []
-next-taken rs i r at = take_more rs i r (slice_get_within rs i r at) ∙ ap (λ (x : Record). take i rs ++ x ∷ []) (get_or_from_slice_get rs i r r at)
-
-pub push-next : (batch : List Record) (old new : List ℕ) (i : ℕ) (found : List RequestParts) (parts : RequestParts) → i < length batch → Extends old new → AllZip (HasParts batch old) (take i batch) found
-    → ((r : Record) → slice_get batch i ≡ Some r → HasParts batch new r parts) → AllZip (HasParts batch new) (take (i + 1) batch) (found ++ parts ∷ [])
-push-next batch old new i found parts within grows zip is =
-    elim ((slice_get_cases batch i).1) [
-      | inl (r, _, got, _) ↦ subst (λ (rs : List Record). AllZip (HasParts batch new) rs (found ++ parts ∷ [])) (sym (next-taken batch i r got)) (push-parts batch old new (take i batch) found r parts grows zip (is r got))
-      | inr (past, _) ↦ absurd (omega (arith, within, past))
-    ]
-
--- ---- bodies
-
-pub push-body : (found : List RequestParts) (parts : RequestParts) (bodies : List (Option Span)) (i : ℕ) → i < length bodies → parts.body ≡ get_or bodies i None → bodies_of found ≡ take i bodies
-    → bodies_of (found ++ parts ∷ []) ≡ take (i + 1) bodies
-push-body found parts bodies i within is so =
-    map-append (λ (p : RequestParts). p.body) found (parts ∷ []) ∙ ap (λ (bs : List (Option Span)). bs ++ parts.body ∷ []) so ∙ ap (λ (b : Option Span). take i bodies ++ b ∷ []) is ∙ sym (take_more bodies i None within)
-
--- as many bodies as requests
-pub as-many : (document : List ℕ) (d : Data) (batch : List Record) (bodies : List (Option Span)) → AllZip ReadsAs (elements d) batch → AllZip (HasBodyAt document) (elements d) bodies → length bodies ≡ length batch
-as-many document d batch bodies read held = AllZip-long (HasBodyAt document) (elements d) bodies held ∙ sym (AllZip-long ReadsAs (elements d) batch read)
 
 -- ---- one of a list
 

@@ -217,7 +217,7 @@ whole-read rs rest bodies tail none given =
 
 module _ (document : List ℕ) (d : Data) (rs : List Record) (rest : Rest) (text : List ℕ) (batch : IsBatchIn document d rs) (is : IsTextOf document d rs rest text) where
   given-all : (k : ℕ) (r : Record) → slice_get rs k ≡ Some r → IsGiven r (text_at (bodies_in document is.spans) k)
-  given-all = are-given document (elements d) rs is.spans batch.is is.bodies
+  given-all = are-given document (elements d) rs is.spans batch.is is.bodies.values
 
   -- the text is read as the canonical value of the requests of the rest
   pub rest-read : read text ≡ Some (canonical_value (records_in rs rest))

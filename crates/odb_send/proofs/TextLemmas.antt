@@ -3,12 +3,10 @@ use Rattle.std.proofs.Common.{◌≡◌, ◌∙◌, ◌+◌, ◌++◌, ◌<◌, 
 use Rattle.std.specs.Prelude.{IfSome}
 use Rattle.std.specs.List.{AllZip, filter}
 use Rattle.std.proofs.lemmas.Option.{slice_get-map, slice_get-get_or}
-use Rattle.std.proofs.lemmas.Slice.Zip.{AllZip-long}
 use Rattle.serde_json.specs.Data.{Data, string}
 use Rattle.serde_json.specs.Written.{comma_if}
 use Rattle.odb_doc.proofs.ElementLemmas.{drop_at}
-use Rattle.odb_doc.specs.batch.Records.{Record, ReadsAs}
-use Rattle.odb_doc.specs.batch.Shapes.{elements}
+use Rattle.odb_doc.specs.batch.Records.{Record}
 use Rattle.odb_doc.specs.canonical.Canonical.{headers_value, names_value}
 use Rattle.odb_doc.specs.Texts.{member_part, request_end}
 use Rattle.odb_reply.specs.BodyTexts.{text_at}
@@ -94,7 +92,3 @@ bodies_texts document (d ∷ ds) (span ∷ spans) zip = each (bodies_texts docum
     each : AreTexts document spans → (k : ℕ) (e : Option Span) → k < length (span ∷ spans) → IfSome (get_or (span ∷ spans) k e) (IsTextIn document)
     each more zero e less = body_text document d span zip.0
     each more (suc k) e less = more k e (omega arith)
-
--- as many bodies as requests
-pub as_many : (document : List ℕ) (d : Data) (rs : List Record) (spans : List (Option Span)) → AllZip ReadsAs (elements d) rs → AllZip (HasBodyAt document) (elements d) spans → length spans ≡ length rs
-as_many document d rs spans read held = AllZip-long (HasBodyAt document) (elements d) spans held ∙ sym (AllZip-long ReadsAs (elements d) rs read)

@@ -1,7 +1,7 @@
 -- Where URLs refer to, and what follows their first segment.
 use Rattle.std.proofs.Common.{◌≡◌, ◌≢◌, ◌∙◌, ◌+◌, ◌-◌, ◌<◌, ℕ, Bool, true, false, cond, nat_lt, List, [], ◌∷◌, ◌++◌, length, inl, inr, Option, None, Some, option_and_then, option_map, slice_get, refl, ap, sym, subst, arith, get_or, map, codes, bytes_eq}
 use Rattle.std.specs.Borrow.{Bor}
-use Rattle.std.specs.Prelude.{◌==◌, MatchOption}
+use Rattle.std.specs.Prelude.{◌==◌, IfSome, MatchOption}
 use Rattle.std.specs.Map.{lookup}
 use Rattle.std.proofs.lemmas.Option.{same_Some, slice_get_cases}
 use Rattle.std.proofs.lemmas.Bool.{cases_eq, eqb-true, ltb-true}
@@ -22,10 +22,10 @@ use Rattle.odb_send.specs.Faults.{Breaks, Lacks, LacksETag, LacksLocation, Lacks
 use Rattle.odb_send.specs.declared.fault.RestRule.{RestRule}
 use Rattle.odb_doc.specs.declared.rule_fault.RuleFault.TheVariants as faults
 use Rattle.odb_send.specs.declared.fault.RestRule.TheVariants.{NoETag, NoLocation}
-use Rattle.odb_send.specs.Marks.{AreChanges, IsBroken, IsLackingTag}
+use Rattle.odb_send.specs.Marks.{AreChanges, IsBroken, IsLacking}
 use Rattle.odb_send.specs.Answers.{Answer, answer_of, answers_in, nothing}
 use Rattle.odb_send.specs.declared.answers.Recorded.{Recorded}
-use Rattle.odb_send.specs.Rests.{Change, HasChanges, IsChange, IsJoined, IsPlain, IsTag, IsUrl, Leaves, LeavesTag, Moves, before, change_at, header_at, tag_id, tagged_at, unchanged}
+use Rattle.odb_send.specs.Rests.{Change, HasChanges, IsChange, IsJoined, IsPlain, IsTag, IsUrl, Leaves, Moves, RefersOut, before, change_at, header_at, tag_id, tagged_at, unchanged}
 use Rattle.odb_send.specs.Rests.IsUrl.{same, moved}
 use Rattle.odb_send.specs.Rests.IsTag.{replaced, stays}
 
@@ -53,6 +53,11 @@ referred_within rs i p is = by_reference (reference_at rs i) is
     by_reference : (o : Option (List ℕ)) → option_and_then (position_of rs) o ≡ Some p → p < length rs
     by_reference None none = absurd (cc (none))
     by_reference (Some id) found = (position_first rs id p found).0
+
+-- so does a position that may be none
+pub within_if : (o : Option ℕ) (n : ℕ) → ((p : ℕ) → o ≡ Some p → p < n) → IfSome o (λ p. p < n)
+within_if None n less = tt
+within_if (Some p) n less = less p refl
 
 -- what refers to a request is one of the batch
 pub referring : (rs : List Record) (i p : ℕ) → referred_at rs i ≡ Some p → i < length rs
@@ -84,16 +89,16 @@ url_made rs kept answers i p r location url leaves is recorded filled joined pla
   plain = plain;
 })
 
--- a URL that moves goes by the one position that it refers to
-pub one_position : (rs : List Record) (kept : List Bool) (i p q : ℕ) → Leaves rs kept i p → Leaves rs kept i q → p ≡ q
-one_position rs kept i p q one other = same_Some p q (sym one.refers ∙ other.refers)
+-- a request refers to one position
+pub one_position : (rs : List Record) (kept : List Bool) (target : ℕ → Option ℕ) (i p q : ℕ) → RefersOut rs kept target i p → RefersOut rs kept target i q → p ≡ q
+one_position rs kept target i p q one other = same_Some p q (sym one.refers ∙ other.refers)
 
 pub lacks_recorded : (rs : List Record) (kept : List Bool) (answers : ℕ → Answer) (i p : ℕ) → Leaves rs kept i p → (answers p).location ≡ None → LacksLocation rs kept answers i
 lacks_recorded rs kept answers i p leaves none = record {
   position = p;
   leaves = leaves;
   none = λ url moves.
-      let same : p ≡ moves.position = one_position rs kept i p moves.position leaves moves.leaves in
+      let same : p ≡ moves.position = one_position rs kept (referred_at rs) i p moves.position leaves moves.leaves in
       let bad : None ≡ Some moves.location = sym none ∙ ap (λ q. (answers q).location) same ∙ moves.recorded in
       cc (bad);
 }
@@ -104,7 +109,7 @@ lacks_plain rs kept answers i p r location made leaves is recorded joined bad = 
   position = p;
   leaves = leaves;
   none = λ url moves.
-      let same : p ≡ moves.position = one_position rs kept i p moves.position leaves moves.leaves in
+      let same : p ≡ moves.position = one_position rs kept (referred_at rs) i p moves.position leaves moves.leaves in
       let request : moves.request ≡ r = same_Some moves.request r (sym moves.is ∙ is) in
       let at : moves.location ≡ location = same_text (answers p).location moves.location location (ap (λ q. (answers q).location) same ∙ moves.recorded) recorded in
       let text_joined : IsJoined location r.url url = subst (λ (l : List ℕ). IsJoined l r.url url) at (subst (λ (q : Record). IsJoined moves.location q.url url) request moves.joined) in
@@ -161,10 +166,6 @@ tagging rs name i p is =
       | inr (past, none) ↦ absurd (cc (sym (ap (λ (o : Option Record). option_and_then (before i) (option_and_then (position_of rs) (option_and_then tag_id (option_and_then (λ (q : Record). lookup (bytes_eq name) q.headers) o)))) none) ∙ is))
     ]
 
--- a condition refers to one position
-pub one_tagged : (rs : List Record) (kept : List Bool) (name : List ℕ) (i p q : ℕ) → LeavesTag rs kept name i p → LeavesTag rs kept name i q → p ≡ q
-one_tagged rs kept name i p q one other = same_Some p q (sym one.refers ∙ other.refers)
-
 -- what has a URL lacks none
 pub has_url : (rs : List Record) (kept : List Bool) (answers : ℕ → Answer) (i : ℕ) (url : Option (List ℕ)) → IsUrl rs kept answers i url → ¬ LacksLocation rs kept answers i
 has_url rs kept answers i url (same none) lacks = none lacks.position lacks.leaves
@@ -172,16 +173,16 @@ has_url rs kept answers i url (moved text moves) lacks = lacks.none text moves
 
 -- a fault of a condition is one of the request, whose URL has been found
 pub broken_by : (rs : List Record) (kept : List Bool) (answers : ℕ → Answer) (name : List ℕ) (i : ℕ) (url : Option (List ℕ)) (fault : RestFault) → (LacksTag rs kept answers name i → LacksETag rs kept answers i) → IsUrl rs kept answers i url
-    → IsLackingTag rs kept answers name i fault → IsBroken rs kept answers i fault
-broken_by rs kept answers name i url (faults.Broken at NoLocation) lacks has broken = absurd broken
-broken_by rs kept answers name i url (faults.Broken at NoETag) lacks has broken = (broken.0, (lacks broken.1, has_url rs kept answers i url has))
+    → IsLacking NoETag (LacksTag rs kept answers name) i fault → IsBroken rs kept answers i fault
+broken_by rs kept answers name i url (faults.Broken at NoLocation) lacks has broken = let other : NoLocation ≡ NoETag = broken.1 in cc (other)
+broken_by rs kept answers name i url (faults.Broken at NoETag) lacks has broken = (broken.0, (lacks broken.2, has_url rs kept answers i url has))
 broken_by rs kept answers name i url faults.OutOfMemory lacks has broken = tt
 
 -- what has a value lacks none
 pub has_tag : (rs : List Record) (kept : List Bool) (answers : ℕ → Answer) (name : List ℕ) (i : ℕ) (tag : Option (List ℕ)) → IsTag rs kept answers name i tag → ¬ LacksTag rs kept answers name i
 has_tag rs kept answers name i _ (stays none) lacks = none lacks.position lacks.leaves
 has_tag rs kept answers name i _ (replaced p tag leaves is) lacks =
-    let one = one_tagged rs kept name i p lacks.position leaves lacks.leaves in
+    let one = one_position rs kept (tagged_at rs name) i p lacks.position leaves lacks.leaves in
     let bad : Some tag ≡ None = sym is ∙ ap (λ q. (answers q).etag) one ∙ lacks.none in
     cc (bad)
 

@@ -1,4 +1,5 @@
 -- What public clauses cite, and has to be believed.
+pub mod Places
 pub mod Parts
 pub mod ResponseParts
 pub mod Repeats

@@ -1,15 +1,14 @@
 -- For invariants and private clauses: the marks of units while the requests are gone through.
-use Rattle.std.specs.Prelude.{◌≡◌, ◌+◌, ◌<◌, ◌&&◌, ◌||◌, ℕ, Bool, true, false, nat_lt, not, List, length, Contains, Option, None, Some, IfSome, All, IsUtf8, ◌≤◌, drop}
-use Rattle.std.specs.List.{list_any}
+use Rattle.std.specs.Prelude.{◌≡◌, ◌+◌, ◌<◌, ◌&&◌, ℕ, Bool, true, false, nat_lt, not, List, length, Contains, Option, None, Some, IfSome, All, IsUtf8, ◌≤◌, drop}
 use Rattle.odb_doc.specs.batch.Records.{Record}
 use Rattle.odb_check.specs.PlanGraph.{unit_needed}
 use Rattle.odb_check.specs.declared.need.Need.{Need}
 use Rattle.odb_check.specs.Needs.{needs_at}
 use Rattle.odb_check.specs.Units.{unit_at, unit_count}
 use Rattle.odb_send.specs.Answers.{Answer}
-use Rattle.odb_send.specs.Faults.{Breaks, LacksLocation, LacksTag, RestFault}
+use Rattle.odb_send.specs.Faults.{Breaks, RestFault}
 use Rattle.odb_doc.specs.declared.rule_fault.RuleFault.TheVariants as faults
-use Rattle.odb_send.specs.declared.fault.RestRule.TheVariants.{NoETag, NoLocation}
+use Rattle.odb_send.specs.declared.fault.RestRule.{RestRule}
 use Rattle.odb_send.specs.Rests.{Change, HasChanges, IsChange, change_at, changes, is_kept, kept, select}
 use Rattle.odb_send.specs.Texts.{joined, text_of_request}
 use Rattle.odb_spans.specs.Spans.{bytes_of}
@@ -35,17 +34,10 @@ abbrev pub IsBroken : List Record → List Bool → (ℕ → Answer) → ℕ →
 IsBroken rs kept answers i (faults.Broken at rule) = (at ≡ i) × Breaks rule rs kept answers i
 IsBroken rs kept answers i faults.OutOfMemory = Unit {0}
 
--- the fault is that the URL at i lacks a Location
-abbrev pub IsLacking : List Record → List Bool → (ℕ → Answer) → ℕ → RestFault → Type 0
-IsLacking rs kept answers i (faults.Broken at NoLocation) = (at ≡ i) × LacksLocation rs kept answers i
-IsLacking rs kept answers i (faults.Broken at NoETag) = ⊥
-IsLacking rs kept answers i faults.OutOfMemory = Unit {0}
-
--- the fault is that this header at i lacks an ETag
-abbrev pub IsLackingTag : List Record → List Bool → (ℕ → Answer) → List ℕ → ℕ → RestFault → Type 0
-IsLackingTag rs kept answers name i (faults.Broken at NoLocation) = ⊥
-IsLackingTag rs kept answers name i (faults.Broken at NoETag) = (at ≡ i) × LacksTag rs kept answers name i
-IsLackingTag rs kept answers name i faults.OutOfMemory = Unit {0}
+-- the fault is that the request at i breaks this rule, since it lacks something. Out of memory says nothing.
+abbrev pub IsLacking : RestRule → (ℕ → Type 0) → ℕ → RestFault → Type 0
+IsLacking rule Lacks i (faults.Broken at broken) = (at ≡ i) × (broken ≡ rule) × Lacks i
+IsLacking rule Lacks i faults.OutOfMemory = Unit {0}
 
 -- the first n requests change as they do in the rest
 pub record AreChanges (rs : List Record) (kept : List Bool) (answers : ℕ → Answer) (n : ℕ) (changes : List Change) : Type 0 where
@@ -75,10 +67,6 @@ texts_left rs units changes bodies later i = joined later (select (is_kept rs un
 pub record AreFirst (rs : List Record) (done left : List Bool) (limit n room : ℕ) (units : List Bool) : Type 0 where
   pub marks : AreMarksOf rs (λ u. (u < n) × MayGo rs done left u) units
   pub count : request_count rs units + room ≡ limit
-
--- the unit of the request at a position is not done, and it is not left or needs something that has a mark
-abbrev pub waits_at : List Record → (done left units : List Bool) → ℕ → Bool
-waits_at rs done left units i = not (marked done (unit_at rs i)) && (not (marked left (unit_at rs i)) || list_any (λ need. marked units (unit_needed (unit_at rs) need)) (needs_at rs i))
 
 -- the mark of a unit that comes before this one
 abbrev pub marked_before : List Bool → ℕ → ℕ → Bool

@@ -8,16 +8,15 @@ use Rattle.odb_names.specs.Methods.{http_name}
 use Rattle.odb_doc.specs.Documents.{IsJson}
 use Rattle.odb_doc.specs.canonical.Canonical.{header_members}
 use Rattle.odb_doc.specs.batch.Records.{Record, IsBatchOf}
-use Rattle.odb_doc.specs.batch.Shapes.{elements}
 use Rattle.odb_doc.specs.batch.UrlRests.{url_rest}
 use Rattle.odb_check.specs.Needs.{further_names, need_of}
 use Rattle.odb_check.specs.Texts.{further_text, need_name}
 use Rattle.odb_check.specs.Units.{position_of}
 use Rattle.odb_check.specs.declared.need.Need.{Need}
-use Rattle.odb_spans.specs.Spans.{EachSpan, HasBodyAt, IsPlaceOfBody}
 use Rattle.odb_spans.specs.declared.span.Span.{Span}
 use Rattle.odb_send.specs.declared.parts.RequestParts.{RequestParts}
 use Rattle.odb_send.specs.declared.requests.Requests.{Requests}
+use Rattle.odb_send.specs.Places.{AreBodiesIn}
 
 -- the span of the text is this part
 pub record HasPart (text part : List ℕ) (span : Span) : Type 0 where
@@ -65,8 +64,7 @@ bodies_of parts = map (λ p. p.body) parts
 -- what is to be sent of each request of the batch in the document, in order
 pub record AreRequestsOf (document : List ℕ) (d : Data) (batch : List Record) (found : Requests) : Type 0 where
   pub parts : AllZip (HasParts batch (string_bytes found.text)) batch found.parts.items
-  pub bodies : AllZip (HasBodyAt document) (elements d) (bodies_of found.parts.items)
-  pub places : EachSpan (IsPlaceOfBody document d) 0 (bodies_of found.parts.items)
+  pub bodies : AreBodiesIn document d (bodies_of found.parts.items)
 
 -- the bytes are the JSON text of the batch
 pub record IsBatchIn (document : List ℕ) (d : Data) (batch : List Record) : Type 0 where

@@ -4,9 +4,9 @@ use Rattle.std.specs.Prelude.{◌≡◌, ℕ, List, map, Option, codes, string_b
 use Rattle.std.specs.List.{AllZip}
 use Rattle.serde_json.specs.Data.{Data}
 use Rattle.odb_reply.specs.ResponseDocuments.{Entry, ReadsAs, responses_in}
-use Rattle.odb_spans.specs.Spans.{EachSpan, HasMemberAt, IsPlaceOfMember}
 use Rattle.odb_spans.specs.declared.span.Span.{Span}
 use Rattle.odb_send.specs.Parts.{HasPart, HasPartIf}
+use Rattle.odb_send.specs.Places.{AreMembers}
 use Rattle.odb_send.specs.declared.responses.ResponseParts as declared
 use Rattle.odb_send.specs.declared.responses.ResponseList.{ResponseList}
 
@@ -23,14 +23,9 @@ headers_of parts = map (λ p. p.headers) parts
 abbrev pub bodies_of : List declared.ResponseParts → List (Option Span)
 bodies_of parts = map (λ p. p.body) parts
 
--- the spans are where this member of each response lies in the document
-pub record AreMembers (document : List ℕ) (d : Data) (name : List ℕ) (spans : List (Option Span)) : Type 0 where
-  pub values : AllZip (HasMemberAt name document) (responses_in d) spans
-  pub places : EachSpan (IsPlaceOfMember (codes "responses") name document d) 0 spans
-
 -- the responses of the document, in order, by the entries that its elements are read as
 pub record AreResponsesOf (document : List ℕ) (d : Data) (entries : List Entry) (found : ResponseList) : Type 0 where
   pub read : AllZip ReadsAs (responses_in d) entries
   pub parts : AllZip (HasResponseParts (string_bytes found.text)) entries found.parts.items
-  pub headers : AreMembers document d (codes "headers") (headers_of found.parts.items)
-  pub bodies : AreMembers document d (codes "body") (bodies_of found.parts.items)
+  pub headers : AreMembers (codes "responses") (codes "headers") document d (headers_of found.parts.items)
+  pub bodies : AreMembers (codes "responses") (codes "body") document d (bodies_of found.parts.items)

@@ -28,11 +28,15 @@ is_kept_need rs kept (Some need) = marked kept (unit_needed (unit_at rs) need)
 abbrev pub is_kept_name : List Record → List Bool → List ℕ → Bool
 is_kept_name rs kept name = is_kept_need rs kept (need_of rs name)
 
--- the request at i is in the rest, and its URL refers to one at p that is not
-pub record Leaves (rs : List Record) (kept : List Bool) (i p : ℕ) : Type 0 where
+-- the request at i is in the rest, and refers to one at p that is not, by this function from positions
+pub record RefersOut (rs : List Record) (kept : List Bool) (target : ℕ → Option ℕ) (i p : ℕ) : Type 0 where
   pub stays : is_kept rs kept i ≡ true
-  pub refers : referred_at rs i ≡ Some p
+  pub refers : target i ≡ Some p
   pub leaves : is_kept rs kept p ≡ false
+
+-- its URL refers to one that is not
+abbrev pub Leaves : List Record → List Bool → ℕ → ℕ → Type 0
+Leaves rs kept = RefersOut rs kept (referred_at rs)
 
 -- a URL that refers to no request, reserves no name, and names no batch
 abbrev pub IsPlain : List ℕ → Type 0
@@ -82,10 +86,8 @@ abbrev pub tagged_at : List Record → List ℕ → ℕ → Option ℕ
 tagged_at rs name i = option_and_then (before i) (option_and_then (position_of rs) (option_and_then tag_id (header_at rs name i)))
 
 -- the request at i is in the rest, and this header refers to the ETag of one at p that is not
-pub record LeavesTag (rs : List Record) (kept : List Bool) (name : List ℕ) (i p : ℕ) : Type 0 where
-  pub stays : is_kept rs kept i ≡ true
-  pub refers : tagged_at rs name i ≡ Some p
-  pub leaves : is_kept rs kept p ≡ false
+abbrev pub LeavesTag : List Record → List Bool → List ℕ → ℕ → ℕ → Type 0
+LeavesTag rs kept name = RefersOut rs kept (tagged_at rs name)
 
 -- The value that this header gets in the rest: that ETag, or none if it stays as it is.
 pub data IsTag (rs : List Record) (kept : List Bool) (answers : ℕ → Answer) (name : List ℕ) (i : ℕ) : Option (List ℕ) → Type 0 where
@@ -113,13 +115,18 @@ abbrev pub with_url : Option (List ℕ) → Record → Record
 with_url None r = r
 with_url (Some url) r = record r { url = url; reference = None }
 
--- the value of the header with the name
-abbrev pub rest_value : Change → List ℕ → List ℕ → List ℕ
-rest_value change name value =
-    if bytes_eq (codes "if-match") name then unwrap_or change.if_match value else if bytes_eq (codes "if-none-match") name then unwrap_or change.if_none_match value else value
+-- a header with this value, if there is one
+abbrev pub header_if : List ℕ → Option (List ℕ) → List Header
+header_if name None = []
+header_if name (Some value) = (name, value) ∷ []
 
+-- the headers that change, with their new values
+abbrev pub new_headers : Change → List Header
+new_headers change = header_if (codes "if-match") change.if_match ++ header_if (codes "if-none-match") change.if_none_match
+
+-- a header with its new value, if its name has one
 abbrev pub rest_header : Change → Header → Header
-rest_header change header = (header.0, rest_value change header.0 header.1)
+rest_header change header = (header.0, unwrap_or (lookup (bytes_eq header.0) (new_headers change)) header.1)
 
 -- a request as the rest has it: with what changes, and those names of its `dependsOn` that are in the rest
 abbrev pub rest_record : List Record → List Bool → Change → Record → Record

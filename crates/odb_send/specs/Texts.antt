@@ -1,18 +1,17 @@
 -- The text of the rest of a batch: its canonical text, with each body as the bytes that the document of the batch has (OData
 -- JSON Format 4.01, section 19.1).
 use Rattle.std.specs.Prelude.{◌≡◌, ◌++◌, ℕ, Bool, true, false, List, [], ◌∷◌, map, Option, Some, None, option_map, codes}
-use Rattle.std.specs.List.{AllZip}
 use Rattle.serde_json.specs.Data.{Data, string}
 use Rattle.serde_json.specs.Written.{comma_if}
 use Rattle.odb_doc.specs.batch.Records.{Record}
-use Rattle.odb_doc.specs.batch.Shapes.{elements}
 use Rattle.odb_doc.specs.canonical.Canonical.{headers_value, names_value}
 use Rattle.odb_doc.specs.Texts.{member_part, request_end}
 use Rattle.odb_reply.specs.BodyTexts.{text_at}
 use Rattle.odb_send.specs.declared.rest.Rest.{Rest}
+use Rattle.odb_send.specs.Places.{AreBodiesIn}
 use Rattle.odb_send.specs.Rests.{Change, change_at, changes, is_kept, kept, rest_record, select}
 use Rattle.odb_spans.specs.declared.span.Span.{Span}
-use Rattle.odb_spans.specs.Spans.{EachSpan, HasBodyAt, IsPlaceOfBody, bytes_of}
+use Rattle.odb_spans.specs.Spans.{bytes_of}
 
 -- the member `body` as it was written, and the comma after it
 abbrev pub body_part : Option (List ℕ) → List ℕ
@@ -44,6 +43,5 @@ bodies_in document spans = map (option_map (bytes_of document)) spans
 -- this is the text of the rest of the batch in the document, whose bodies lie at these spans
 pub record IsTextOf (document : List ℕ) (d : Data) (rs : List Record) (rest : Rest) (text : List ℕ) : Type 0 where
   pub spans : List (Option Span)
-  pub bodies : AllZip (HasBodyAt document) (elements d) spans
-  pub places : EachSpan (IsPlaceOfBody document d) 0 spans
+  pub bodies : AreBodiesIn document d spans
   pub is : text ≡ text_of rs rest (bodies_in document spans)

@@ -1,16 +1,18 @@
 //! What changes of a request in the rest: its URL, and its conditions.
 
-ghost use Rattle.std.specs.Prelude.{◌≡◌, ◌<◌, ℕ, length, MatchOption, IfOk, IfErr, option_map, string_bytes};
+ghost use Rattle.std.specs.Prelude.{◌≡◌, ◌<◌, true, length, IfOk, IfErr, option_map, string_bytes};
 ghost use Rattle.std.specs.Str.{str_to_ascii_lowercase};
 ghost use Rattle.odb_check.specs.Plans.{plan_records};
 ghost use Rattle.odb_check.specs.Units as all;
 ghost use Rattle.odb_send.specs.Answers.{answers_in};
-ghost use Rattle.odb_send.specs.Marks.{IsBroken, IsLackingTag};
+ghost use Rattle.odb_send.specs.Faults.{LacksTag};
+ghost use Rattle.odb_send.specs.Marks.{IsBroken, IsLacking};
 ghost use Rattle.odb_send.specs.Rests as rests;
+ghost use Rattle.odb_send.specs.declared.fault.RestRule.TheVariants.{NoETag};
 
 use crate::answers::Recorded;
 use crate::fault::{RestFault, RestRule};
-use crate::urls::{is_kept, url_of};
+use crate::urls::{if_left, is_kept, url_of};
 use odb_check::Plan;
 use std::alloc::Global;
 
@@ -43,27 +45,8 @@ fn tagged(plan: &Plan<'_>, name: &str, i: u32) -> Option<u32>
     if p < i { Some(p) } else { None }
 }
 
-/// Returns the same position, if the request at it is not in the rest, but request `i` is.
-fn left_tag(plan: &Plan<'_>, kept: &[bool], name: &str, i: u32) -> Option<u32>
-    requires request { i < length (plan_records plan.now) }
-    requires count { length kept.now ≡ all.unit_count (plan_records plan.now) }
-    ensures { MatchOption result
-        ((p : ℕ) → ¬ rests.LeavesTag (plan_records plan.now) kept.now (str_to_ascii_lowercase name.now) i p)
-        (λ p. rests.LeavesTag (plan_records plan.now) kept.now (str_to_ascii_lowercase name.now) i p) }
-{
-    if !is_kept(plan, kept, i) {
-        return None;
-    }
-    let p = tagged(plan, name, i)?;
-    if is_kept(plan, kept, p) {
-        None
-    } else {
-        Some(p)
-    }
-}
-
-/// Returns the value that the header with this name of request `i` gets in the rest, `None` if it stays, or F91 if no ETag
-/// is recorded.
+/// Returns the value that the header with this name of request `i` of the rest gets, `None` if it stays, or F91 if no ETag is
+/// recorded.
 fn tag_of(
     alloc: Global,
     plan: &Plan<'_>,
@@ -74,13 +57,14 @@ fn tag_of(
 ) -> Result<Option<String>, RestFault>
     requires request { i < length (plan_records plan.now) }
     requires count { length kept.now ≡ all.unit_count (plan_records plan.now) }
+    requires stays { rests.is_kept (plan_records plan.now) kept.now i ≡ true }
     requires answers { length answers.now ≡ length (plan_records plan.now) }
     ensures tag { IfOk result (λ tag. rests.IsTag (plan_records plan.now) kept.now (answers_in answers.now)
         (str_to_ascii_lowercase name.now) i (option_map string_bytes tag)) }
-    ensures lacks { IfErr result (IsLackingTag (plan_records plan.now) kept.now (answers_in answers.now)
-        (str_to_ascii_lowercase name.now) i) }
+    ensures lacks { IfErr result (IsLacking NoETag (LacksTag (plan_records plan.now) kept.now
+        (answers_in answers.now) (str_to_ascii_lowercase name.now)) i) }
 {
-    let Some(p) = left_tag(plan, kept, name, i) else {
+    let Some(p) = if_left(plan, kept, tagged(plan, name, i)) else {
         return Ok(None);
     };
     let Some(etag) = answers[p as usize].etag else {
@@ -107,6 +91,13 @@ pub(crate) fn change_of(
         (answers_in answers.now) i (rests.change_of change)) }
     ensures broken { IfErr result (IsBroken (plan_records plan.now) kept.now (answers_in answers.now) i) }
 {
+    if !is_kept(plan, kept, i) {
+        return Ok(Change {
+            url: None,
+            if_match: None,
+            if_none_match: None,
+        });
+    }
     let url = url_of(alloc, plan, kept, answers, i)?;
     let if_match = tag_of(alloc, plan, kept, answers, "if-match", i)?;
     let if_none_match = tag_of(alloc, plan, kept, answers, "if-none-match", i)?;

@@ -8,33 +8,20 @@ ghost use Rattle.odb_check.specs.Units as all;
 ghost use Rattle.odb_doc.specs.declared.rule_fault.RuleFault.TheVariants as faults;
 ghost use Rattle.odb_send.specs.Answers.{answers_in};
 ghost use Rattle.odb_send.specs.Faults.{RefusesRest};
-ghost use Rattle.odb_send.specs.Marks.{IsCutPart, marked_before, waits_at};
+ghost use Rattle.odb_send.specs.Marks.{IsCutPart, marked_before};
 ghost use Rattle.odb_send.specs.NextPart as parts;
 ghost use Rattle.odb_send.specs.Rests.{kept};
-ghost use Rattle.odb_send.specs.Units.{AreMarksOf};
+ghost use Rattle.odb_send.specs.Units.{AreMarksOf, marked};
 
 use crate::answers::Recorded;
 use crate::fault::{RestFault, RestRule};
 use crate::progress::{starting_units, succeeded_units};
 use crate::rest::{Rest, changes_of};
-use crate::units::needs_marked;
+use crate::units::barred_units;
 use crate::urls::is_kept;
 use odb_check::Plan;
 use odb_sched::RequestState;
 use std::alloc::{AllocError, Global};
-
-/// Returns whether the unit of a request has to wait for what this request is or needs, by the units that have to wait.
-fn waits(plan: &Plan<'_>, units: &[bool], done: &[bool], left: &[bool], i: u32) -> bool
-    requires request { i < length (plan_records plan.now) }
-    requires units { length units.now ≡ all.unit_count (plan_records plan.now) }
-    requires done { length done.now ≡ all.unit_count (plan_records plan.now) }
-    requires left { length left.now ≡ all.unit_count (plan_records plan.now) }
-    ensures { result ≡ waits_at (plan_records plan.now) done.now left.now units.now i }
-{
-    odb_check::laws::every_plan(plan);
-    let u = plan.unit_of(i) as usize;
-    !done[u] && (!left[u] || needs_marked(plan, units, i))
-}
 
 /// Returns for each unit whether it has to wait.
 fn waiting_units(
@@ -49,13 +36,19 @@ fn waiting_units(
         (parts.HasToWait (plan_records plan.now) done.now left.now) units.items) }
 {
     odb_check::laws::every_plan(plan);
-    let mut units = vec![in alloc; false; plan.unit_count() as usize]?;
-    for i in 0..plan.len() {
-        if waits(plan, &units, done, left, i) {
-            units[plan.unit_of(i) as usize] = true;
-        }
-    }
-    Ok(units)
+    barred_units(
+        alloc,
+        plan,
+        |u|
+            requires { u < length done.now }
+            ensures { result ≡ marked done.entry.now u }
+        { done[u as usize] },
+        |i|
+            requires request { i < length (plan_records plan.now) }
+            requires count { length left.now ≡ all.unit_count (plan_records plan.now) }
+            ensures { result ≡ marked left.entry.now (all.unit_at (plan_records plan.entry.now) i) }
+        { left[plan.unit_of(i) as usize] },
+    )
 }
 
 /// Returns the units that fit into the next part of a batch, which have at most `limit` requests together.

@@ -1,7 +1,8 @@
 //! The URLs of requests whose URL refers to a request that is not in the rest.
 
-ghost use Rattle.std.specs.Prelude.{◌≡◌, ◌≢◌, ◌<◌, ◌↔◌, ℕ, [], length, Err, IsTrue, IfOk, IfErr, MatchOption, None, option_map, string_bytes};
+ghost use Rattle.std.specs.Prelude.{◌≡◌, ◌≢◌, ◌<◌, ◌↔◌, ℕ, [], true, length, Err, IsTrue, IfOk, IfErr, IfSome, MatchOption, Option, None, option_map, string_bytes};
 ghost use Rattle.odb_send.specs.Answers.{answers_in};
+ghost use Rattle.odb_send.specs.Faults.{LacksLocation};
 ghost use Rattle.odb_send.specs.Marks.{IsLacking};
 ghost use Rattle.odb_doc.specs.declared.rule_fault.RuleFault.TheVariants as faults;
 ghost use Rattle.odb_send.specs.declared.fault.RestRule.TheVariants.{NoLocation};
@@ -55,18 +56,16 @@ pub(crate) fn is_kept(plan: &Plan<'_>, kept: &[bool], i: u32) -> bool
     kept[plan.unit_of(i) as usize]
 }
 
-/// Returns the position that the URL of a request of the rest refers to, if that is not in the rest.
-fn left_position(plan: &Plan<'_>, kept: &[bool], i: u32) -> Option<u32>
-    requires request { i < length (plan_records plan.now) }
+/// Returns the position that a request of the rest refers to, if the request at it is not in the rest.
+pub(crate) fn if_left(plan: &Plan<'_>, kept: &[bool], referred: Option<u32>) -> Option<u32>
+    requires referred { IfSome referred (λ p. p < length (plan_records plan.now)) }
     requires count { length kept.now ≡ all.unit_count (plan_records plan.now) }
-    ensures { MatchOption result ((p : ℕ) → ¬ rests.Leaves (plan_records plan.now) kept.now i p)
-        (λ p. rests.Leaves (plan_records plan.now) kept.now i p) }
+    ensures { (target : ℕ → Option ℕ) (i : ℕ) → rests.is_kept (plan_records plan.now) kept.now i ≡ true
+        → target i ≡ referred → MatchOption result
+        ((p : ℕ) → ¬ rests.RefersOut (plan_records plan.now) kept.now target i p)
+        (λ p. rests.RefersOut (plan_records plan.now) kept.now target i p) }
 {
-    odb_check::laws::every_plan(plan);
-    if !is_kept(plan, kept, i) {
-        return None;
-    }
-    let p = plan.referred(i)?;
+    let p = referred?;
     if is_kept(plan, kept, p) {
         None
     } else {
@@ -74,7 +73,7 @@ fn left_position(plan: &Plan<'_>, kept: &[bool], i: u32) -> Option<u32>
     }
 }
 
-/// Returns the URL that request `i` gets in the rest, `None` if its URL stays, or F90 if no Location makes one: if
+/// Returns the URL that request `i` of the rest gets, `None` if its URL stays, or F90 if no Location makes one: if
 /// none is recorded, whatever memory there is.
 pub(crate) fn url_of(
     alloc: Global,
@@ -85,15 +84,16 @@ pub(crate) fn url_of(
 ) -> Result<Option<String>, RestFault>
     requires request { i < length (plan_records plan.now) }
     requires count { length kept.now ≡ all.unit_count (plan_records plan.now) }
+    requires stays { rests.is_kept (plan_records plan.now) kept.now i ≡ true }
     requires answers { length answers.now ≡ length (plan_records plan.now) }
     ensures url { IfOk result (λ url. rests.IsUrl (plan_records plan.now) kept.now
         (answers_in answers.now) i (option_map string_bytes url)) }
-    ensures lacks { IfErr result (IsLacking (plan_records plan.now) kept.now
-        (answers_in answers.now) i) }
+    ensures lacks { IfErr result (IsLacking NoLocation (LacksLocation (plan_records plan.now) kept.now
+        (answers_in answers.now)) i) }
     ensures missing { (p : ℕ) → rests.Leaves (plan_records plan.now) kept.now i p
         → (answers_in answers.now p).location ≡ None → result ≡ Err (faults.Broken i NoLocation) }
 {
-    let Some(p) = left_position(plan, kept, i) else {
+    let Some(p) = if_left(plan, kept, plan.referred(i)) else {
         return Ok(None);
     };
     let Some(location) = answers[p as usize].location else {

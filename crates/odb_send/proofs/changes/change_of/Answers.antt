@@ -1,10 +1,23 @@
-use Rattle.std.proofs.Common.{inl, inr, option_map, rules}
+use Rattle.std.proofs.Common.{◌∙◌, inl, inr, option_map, sym, rules}
 use Rattle.std.specs.Prelude.{string_bytes}
+use Rattle.std.proofs.lemmas.Bool.{true≢false}
 use Rattle.odb_check.specs.Plans.{plan_records}
 use Rattle.odb_send.specs.Answers.{answers_in}
 use Rattle.odb_send.specs.Marks.{IsBroken}
+use Rattle.odb_send.specs.Rests.IsTag.{stays}
+use Rattle.odb_send.specs.Rests.IsUrl.{same}
 use Rattle.odb_send.proofs.UrlLemmas.{broken_by}
 use Rattle.odb_send.proofs.changes.change_of.Goals as goal
+
+-- a request that is not in the rest stays as it is
+pub returns-then-not-is_kept-clause-change : goal.returns-then-not-is_kept-clause-change
+returns-then-not-is_kept-clause-change c =
+    let out = sym c.is_kept.ensures ∙ c.if-not-is_kept.true in
+    record {
+      url = same (λ p leaves. true≢false (sym leaves.stays ∙ out));
+      if_match = stays (λ p leaves. true≢false (sym leaves.stays ∙ out));
+      if_none_match = stays (λ p leaves. true≢false (sym leaves.stays ∙ out));
+    }
 
 pub returns-in_err-if_match-clause-broken : goal.returns-in_err-if_match-clause-broken
 returns-in_err-if_match-clause-broken c =
