@@ -1,10 +1,7 @@
 -- What a service has answered a part.
-use Rattle.std.proofs.Common.{◌≡◌, ◌∙◌, ◌+◌, ◌<◌, ℕ, zero, suc, Bool, true, List, [], ◌∷◌, ◌++◌, All, length, map, take, Option, Some, None, option_and_then, slice_get, sym, ap, subst, arith}
+use Rattle.std.proofs.Common.{◌≡◌, ◌<◌, ℕ, zero, suc, Bool, true, List, [], ◌∷◌, All, length, map, Option, Some, None, option_and_then, slice_get, subst, arith}
 use Rattle.std.specs.List.{AllZip}
-use Rattle.std.proofs.lemmas.List.{take_more}
 use Rattle.std.proofs.lemmas.List.Elements.{All-push}
-use Rattle.std.proofs.lemmas.Option.{get_or_from_slice_get, slice_get_within}
-use Rattle.std.proofs.lemmas.Slice.Zip.{all_zipped_more}
 use Rattle.serde_json.specs.Data.{Data}
 use Rattle.odb_check.specs.Firsts.{list_below}
 use Rattle.odb_doc.proofs.ElementLemmas.{Contains-head}
@@ -15,13 +12,6 @@ use Rattle.odb_spans.specs.declared.span.Span.{Span}
 use Rattle.odb_send.specs.declared.responses.ResponseParts.{ResponseParts}
 
 -- ---- the requests of the part
-
--- one pair more
-pub zipped-more : {X Y : Type 0} (R : X → Y → Type 0) (xs : List X) (ys : List Y) (k : ℕ) (x : X) (y : Y) → AllZip R (take k xs) ys → slice_get xs k ≡ Some x → R x y → AllZip R (take (k + 1) xs) (ys ++ y ∷ [])
-zipped-more R xs ys k x y so here is =
-    let within = slice_get_within xs k x here in
-    let same : take k xs ++ x ∷ [] ≡ take (k + 1) xs = sym (take_more xs k x within ∙ ap (λ e. take k xs ++ e ∷ []) (get_or_from_slice_get xs k x x here)) in
-    subst (λ l. AllZip R l (ys ++ y ∷ [])) same (all_zipped_more R (take k xs) ys x y so is)
 
 -- each has a partner
 pub partner : {X Y : Type 0} (R : X → Y → Type 0) (xs : List X) (ys : List Y) (k : ℕ) (x : X) → AllZip R xs ys → slice_get xs k ≡ Some x → (y : Y) × R x y

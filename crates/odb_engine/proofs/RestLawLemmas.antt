@@ -44,7 +44,7 @@ pub places_one : AreOneRest → (document : List ℕ) (d : Data) (batch : List R
 places_one law document d batch form json a b s t x y =
     let one = x.places d json in
     let two = y.places d json in
-    let bodies = law.one_place (codes "requests") (codes "body") document d x.bodies y.bodies json one.bodies one.places two.bodies two.places in
+    let bodies = law.one_place (codes "requests") (codes "body") document d x.bodies y.bodies json one.values one.places two.values two.places in
     (x.prints.0 ∙ sym y.prints.0, x.prints.1 ∙ ap (λ spans. json_line (full_plan_value batch spans)) bodies ∙ sym y.prints.1)
 
 -- ---- a rest

@@ -133,8 +133,12 @@ matched law by strict mode bytes text allows accepted may form =
             inr (record {
               value = again.value;
               document = (may.short, (may.utf8, again.reads));
-              holds = found-match mode strict form batch again.value entries table.places table.statuses out (again.document, again.fits.says)
-                  (subst (λ (es : List Entry). Fits batch es) (sym same) again.fits.fits) (subst (λ (es : List Entry). IsTableOf batch es table.places table.statuses) (sym same) table.table) (answered law by strict allows batch table.statuses (again.possible table.places table.statuses table.table)) refl;
+              holds = found-match mode strict form batch again.value table.places table.statuses out (record {
+                entries = entries;
+                lists = (again.document, again.fits.says);
+                fits = subst (λ (es : List Entry). Fits batch es) (sym same) again.fits.fits;
+                table = subst (λ (es : List Entry). IsTableOf batch es table.places table.statuses) (sym same) table.table;
+              }) (answered law by strict allows batch table.statuses (again.possible table.places table.statuses table.table)) refl;
             }),
           );
         });

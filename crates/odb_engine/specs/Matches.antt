@@ -46,6 +46,18 @@ pub record Misfits (batch : List Record) (entries : List Entry) (refusal : Print
   pub least : RefusesMatch fault batch entries
   pub is : match_row fault ≡ Some refusal
 
+-- the responses of the value fit the batch, and this is their table
+pub record IsTableIn (mode : Mode) (batch : List Record) (value : Data) (places statuses : List ℕ) : Type 0 where
+  pub entries : List Entry
+  pub lists : Lists value entries
+  pub fits : Fits batch (decided mode batch entries)
+  pub table : IsTableOf batch (decided mode batch entries) places statuses
+
+-- why there is no such table: the least fault of the value, or that its responses do not fit
+pub data HasNoTable (mode : Mode) (batch : List Record) (value : Data) (refusal : Printed) : Type 0 where
+  OfValue : IsFaultOfResponses value refusal → HasNoTable mode batch value refusal
+  OfMatch : (entries : List Entry) → Lists value entries → Misfits batch (decided mode batch entries) refusal → HasNoTable mode batch value refusal
+
 -- if it is asked, some finished run answers these statuses
 abbrev pub IsAnswered : Option Strictness → List Record → List ℕ → Type 0
 IsAnswered None batch statuses = Unit {0}

@@ -12,7 +12,6 @@ use Rattle.odb_sched.specs.declared.states.RequestState.{RequestState}
 use Rattle.odb_sched.specs.declared.states.RequestState.TheVariants.{Waiting, Ready, Running, Reported, Skipped}
 use Rattle.odb_sched.specs.run.State.{is_running, phase_at, size}
 use Rattle.odb_sched.specs.run.States.{request_state}
-use Rattle.odb_reply.specs.Fits.{Fits, IsTableOf}
 use Rattle.odb_reply.specs.ResponseDocuments.{Entry, responses_row}
 use Rattle.odb_reply.specs.declared.response_fault.ResponseFault.{ResponseFault}
 use Rattle.odb_reply.specs.declared.response_fault.ResponseFault.TheVariants.{Response}
@@ -25,7 +24,7 @@ use Rattle.odb_engine.specs.declared.live.replies.Reply.{Reply}
 use Rattle.odb_engine.specs.Cascade.{Accepts, IsLeast, IsLeastOf}
 use Rattle.odb_engine.specs.Labels.{position_of}
 use Rattle.odb_engine.specs.Live.{Live}
-use Rattle.odb_engine.specs.Matches.{IsFaultOfResponses, Lists, Misfits, decided}
+use Rattle.odb_engine.specs.Matches.{HasNoTable, IsTableIn}
 
 -- ---- the requests of the part
 
@@ -77,12 +76,9 @@ pub record LiesIn (document : List ℕ) (reply : Reply) : Type 0 where
   pub headers : IsWithin (length document) reply.headers
   pub body : IsWithin (length document) reply.body
 
--- the value is a response document whose responses fit the part, and this is their table; each status is final
-pub record IsTableIn (mode : Mode) (part : List Record) (value : Data) (places statuses : List ℕ) : Type 0 where
-  pub entries : List Entry
-  pub lists : Lists value entries
-  pub fits : Fits part (decided mode part entries)
-  pub table : IsTableOf part (decided mode part entries) places statuses
+-- the responses of the value fit the part, this is their table, and each status is final
+pub record IsFinalTableIn (mode : Mode) (part : List Record) (value : Data) (places statuses : List ℕ) : Type 0 where
+  pub table : IsTableIn mode part value places statuses
   pub are_final : (k : ℕ) → k < length part → 200 ≤ slice_index statuses k
 
 -- the document has these answers to the requests of a part, whose positions these are
@@ -91,7 +87,7 @@ pub record AreReplies (mode : Mode) (part : List Record) (positions document : L
   pub is : IsDocument document value
   pub places : List ℕ
   pub statuses : List ℕ
-  pub table : IsTableIn mode part value places statuses
+  pub table : IsFinalTableIn mode part value places statuses
   pub entries : List Entry
   pub found : ResponseList
   pub responses : AreResponsesOf document value entries found
@@ -111,16 +107,14 @@ TakesNone live part = Accepts part (λ batch. ¬ MayTake live batch)
 abbrev pub IsNotFinal : (places statuses : List ℕ) → ResponseFault → Type 0
 IsNotFinal places statuses fault = (k place status : ℕ) × (slice_get places k ≡ Some place) × (slice_get statuses k ≡ Some status) × (status < 200) × (fault ≡ Response place)
 
--- why the value has no such table: its least fault, that its responses do not fit, or that a status is not final
-pub data HasNoTable (mode : Mode) (part : List Record) (value : Data) (refusal : Printed) : Type 0 where
-  OfValue : IsFaultOfResponses value refusal → HasNoTable mode part value refusal
-  OfMatch : (entries : List Entry) → Lists value entries → Misfits part (decided mode part entries) refusal → HasNoTable mode part value refusal
-  OfStatus : (entries : List Entry) (places statuses : List ℕ) (fault : ResponseFault) → Lists value entries → Fits part (decided mode part entries) → IsTableOf part (decided mode part entries) places statuses → IsNotFinal places statuses fault
-      → responses_row fault ≡ Some refusal → HasNoTable mode part value refusal
+-- why there is no such table: there is none, or a status is not final
+pub data HasNoFinalTable (mode : Mode) (part : List Record) (value : Data) (refusal : Printed) : Type 0 where
+  OfTable : HasNoTable mode part value refusal → HasNoFinalTable mode part value refusal
+  OfStatus : (places statuses : List ℕ) (fault : ResponseFault) → IsTableIn mode part value places statuses → IsNotFinal places statuses fault → responses_row fault ≡ Some refusal → HasNoFinalTable mode part value refusal
 
 -- why a document has no answers to the part
 abbrev pub IsLeastOfReplies : Mode → List Record → List ℕ → Printed → Type 0
-IsLeastOfReplies mode part = IsLeastOf Responses (HasNoTable mode part)
+IsLeastOfReplies mode part = IsLeastOf Responses (HasNoFinalTable mode part)
 
 -- the same of the bytes of a part, whose faults come first
 abbrev pub IsLeastOfTaking : Live → (part document : List ℕ) → Mode → Printed → Type 0

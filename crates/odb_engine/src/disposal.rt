@@ -1,17 +1,6 @@
-//! Whether what a command has read is dropped at its end, or leaked.
+//! A value that is dropped or leaked at its end.
 
-use std::mem::forget;
-
-/// What happens to the documents that an engine has read, once it has ended.
-///
-/// What is written does not depend on it. Dropping takes time in proportion to the documents.
-#[derive(Clone, Copy, Debug, PartialEq, Eq)]
-pub enum Disposal {
-    /// They are dropped.
-    Drop,
-    /// They are leaked, for a process that is about to exit.
-    Leak,
-}
+use odb_doc::Disposal;
 
 /// A value that is dropped or leaked when it goes out of scope.
 pub struct DropOrLeak<T> {
@@ -24,9 +13,6 @@ pub struct DropOrLeak<T> {
 impl<T: Drop> Drop for DropOrLeak<T> {
     fn drop(self) {
         let DropOrLeak { value, disposal } = self;
-        match disposal {
-            Disposal::Drop => drop(value),
-            Disposal::Leak => forget(value),
-        }
+        disposal.end(value);
     }
 }

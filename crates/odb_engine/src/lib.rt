@@ -30,7 +30,7 @@ mod rule;
 mod setup;
 mod tasks;
 
-pub use disposal::{Disposal, DropOrLeak};
+pub use disposal::DropOrLeak;
 pub use ending::{Ended, EngineFault};
 pub use form::Form;
 pub use halt::Halt;
@@ -39,6 +39,7 @@ pub use lines::{EachLine, LineCommand, LineInput, answer_lines};
 pub use live::{
     LiveRun, Opened, Part, Reply, open_run, open_with_requests, requests_in, responses_in,
 };
+pub use odb_doc::Disposal;
 pub use rule::EngineRule;
 pub use setup::{Faults, Setup};
 pub use tasks::{

@@ -2,12 +2,12 @@
 //! and what happens to what was read.
 
 ghost use Rattle.std.specs.Prelude.{◌≡◌, None, false};
-ghost use Rattle.odb_engine.specs.declared.disposal.Disposal.TheVariants.{Drop};
+ghost use Rattle.odb_doc.specs.declared.disposal.Disposal.TheVariants.{Drop};
 ghost use Rattle.odb_engine.specs.declared.form.Form.TheVariants.{Lines};
 
-use crate::disposal::Disposal;
 use crate::form::Form;
 use odb_check::Seed;
+use odb_doc::Disposal;
 
 /// How the faults of a refused document are printed.
 #[derive(Clone, Copy, Debug, PartialEq, Eq)]

@@ -64,7 +64,10 @@ fn answer_at(run: &OwnedRun, i: u32) -> Recorded<'_>
     ensures { answer_of result ≡ parts.answer run.now i }
 {
     match run.reported(i) {
-        Some(outcome) if is_success(outcome.status) => Recorded::of(&outcome.headers),
+        Some(outcome) if is_success(outcome.status) => match outcome.headers() {
+            Some(headers) => Recorded::of(headers),
+            None => Recorded::NOTHING,
+        },
         _ => Recorded::NOTHING,
     }
 }

@@ -19,10 +19,10 @@ use crate::input::value_in;
 use crate::live::LiveRun;
 use crate::setup::Setup;
 use crate::tasks::command::plan_of;
-use crate::tasks::match_responses::decided;
+use crate::tasks::match_responses::table_of;
 use odb_check::{Plan, Seed};
-use odb_doc::{Batch, Place};
-use odb_reply::{ResponseFault, Responses, Table, match_responses};
+use odb_doc::{Batch, Disposal, Place};
+use odb_reply::{ResponseFault, Responses, Table};
 use odb_sched::{Mode, RequestState};
 use odb_send::{ResponseList, ResponseParts, responses_of};
 use odb_spans::Span;
@@ -125,16 +125,14 @@ fn found_in(alloc: Global, document: &[u8], value: &Value) -> Result<ResponseLis
     Ok(found)
 }
 
-/// Returns the table of the responses in a value to the requests of a plan, if they fit, and all statuses are final.
+/// Returns the table of the responses in a value, which fit the batch of a plan, if all statuses are final.
 fn table_in(alloc: Global, plan: &Plan<'_>, value: &Value, mode: Mode) -> Result<Table, Halt>
-    ensures table { IfOk result (λ table. replies.IsTableIn mode (plan_records plan.now) (view value.now)
+    ensures table { IfOk result (λ table. replies.IsFinalTableIn mode (plan_records plan.now) (view value.now)
         (places table) (statuses table)) }
-    ensures least { IfErr result (Halted (replies.HasNoTable mode (plan_records plan.now) (view value.now))) }
+    ensures least { IfErr result (Halted (replies.HasNoFinalTable mode (plan_records plan.now) (view value.now))) }
     ensures read { result ≢ Err halts.Read }
 {
-    let read = Responses::read(alloc, value)?;
-    let responses = decided(alloc, plan, read, mode)?;
-    let table = match_responses(alloc, plan, &responses)?;
+    let table = table_of(alloc, plan, value, mode, Disposal::Drop)?;
     check_final(plan, &table)?;
     Ok(table)
 }

@@ -3,7 +3,7 @@
 ghost use Rattle.std.specs.Prelude.{◌≡◌, ◌≢◌, ◌⊎◌, length, None, Some, false, Err, IsTrue, IfOk, IfErr, OnOk, string_bytes};
 ghost use Rattle.serde_json.specs.View.{view};
 ghost use Rattle.odb_check.specs.Plans.{plan_records, plan_graph};
-ghost use Rattle.odb_reply.specs.Fits.{statuses};
+ghost use Rattle.odb_reply.specs.Fits.{places, statuses};
 ghost use Rattle.odb_reply.specs.ResponseDocuments.{entries};
 ghost use Rattle.odb_reply.specs.StatusFaults.{RefusesStatuses, status_at};
 ghost use Rattle.odb_reply.specs.declared.strictness.Strictness.{Strictness};
@@ -13,8 +13,8 @@ ghost use Rattle.odb_engine.specs.Cascade.{Answers};
 ghost use Rattle.odb_engine.specs.Contents.{AskedFor};
 ghost use Rattle.odb_engine.specs.Inputs.{BySecond, IsFresh, ReadsFew, SomeDocument};
 ghost use Rattle.odb_engine.specs.Engines.{Ends};
-ghost use Rattle.odb_engine.specs.Halts.{Found};
-ghost use Rattle.odb_engine.specs.Matches.{IsAnswered, Matches, MatchesValue, decided, match_text};
+ghost use Rattle.odb_engine.specs.Halts.{Found, Halted};
+ghost use Rattle.odb_engine.specs.Matches.{HasNoTable, IsAnswered, IsTableIn, Matches, MatchesValue, decided, match_text};
 
 use crate::disposal::DropOrLeak;
 use crate::ending::{Ended, EngineFault};
@@ -24,6 +24,7 @@ use crate::setup::Setup;
 use crate::tasks::documents::answer_by_default;
 use crate::tasks::task::Task;
 use odb_check::Plan;
+use odb_doc::Disposal;
 use odb_io::{Input, Output};
 use odb_reply::{Responses, StatusFault, Strictness, Table, check_statuses, match_responses};
 use odb_sched::Mode;
@@ -51,7 +52,7 @@ fn match_text(
 
 /// Returns the responses by which a match is decided: if the service stops at its first error, with those that
 /// it may leave out.
-pub(crate) fn decided<'a>(
+fn decided<'a>(
     alloc: Global,
     plan: &Plan<'a>,
     responses: Responses<'a>,
@@ -64,6 +65,28 @@ pub(crate) fn decided<'a>(
         Mode::Continue => Ok(responses),
         Mode::Stop => responses.completed(alloc, plan),
     }
+}
+
+/// Returns the table of the responses in a value, which fit the batch of a plan, by whether an error stops the service.
+pub(crate) fn table_of(
+    alloc: Global,
+    plan: &Plan<'_>,
+    value: &Value,
+    mode: Mode,
+    disposal: Disposal,
+) -> Result<Table, Halt>
+    ensures table { IfOk result (λ table. IsTableIn mode (plan_records plan.now) (view value.now)
+        (places table) (statuses table)) }
+    ensures least { IfErr result (Halted (HasNoTable mode (plan_records plan.now) (view value.now))) }
+    ensures read { result ≢ Err halts.Read }
+{
+    let read = Responses::read(alloc, value)?;
+    let responses = DropOrLeak {
+        value: decided(alloc, plan, read, mode)?,
+        disposal,
+    };
+    let table = match_responses(alloc, plan, &responses.value)?;
+    Ok(table)
 }
 
 /// Checks that some finished run answers the statuses of a table, if that is asked.
@@ -101,12 +124,7 @@ pub fn matched(
         value,
         disposal: setup.disposal,
     };
-    let read = Responses::read(alloc, &value.value)?;
-    let responses = DropOrLeak {
-        value: decided(alloc, plan, read, mode)?,
-        disposal: setup.disposal,
-    };
-    let table = match_responses(alloc, plan, &responses.value)?;
+    let table = table_of(alloc, plan, &value.value, mode, setup.disposal)?;
     check_asked(alloc, plan, &table, strict)?;
     Ok(match_text(alloc, plan, &table, setup.form)?)
 }

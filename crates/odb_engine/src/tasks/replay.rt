@@ -19,7 +19,7 @@ ghost use Rattle.odb_engine.specs.Inputs.{IsFresh, ReadsFew, SomeDocument};
 ghost use Rattle.odb_engine.specs.Replays as replays;
 ghost use Rattle.odb_engine.specs.Halts.{Found, Halted};
 
-use crate::disposal::{Disposal, DropOrLeak};
+use crate::disposal::DropOrLeak;
 use crate::ending::{Ended, EngineFault};
 use crate::halt::Halt;
 use crate::setup::Setup;
@@ -27,7 +27,7 @@ use crate::tasks::command::Command;
 use crate::tasks::documents::answer_by_default;
 use crate::tasks::response::push_response;
 use odb_check::Plan;
-use odb_doc::{Batch, Outcomes, Place};
+use odb_doc::{Batch, Disposal, Outcomes, Place};
 use odb_exec::{Chooser, Recorded, Trace, execute};
 use odb_io::{Input, Output};
 use odb_reply::laws::every_response;
@@ -45,19 +45,8 @@ fn outcomes_of(alloc: Global, value: Value, disposal: Disposal) -> Result<Outcom
     ensures read { result ≢ Err halts.Read }
 {
     let (outcomes, rest) = Outcomes::split(alloc, value)?;
-    drop(DropOrLeak {
-        value: rest,
-        disposal,
-    });
+    rest.end(disposal);
     Ok(outcomes)
-}
-
-/// How a batch is replayed, but for the order.
-#[derive(Clone, Copy)]
-pub struct Unordered {
-    pub policy: Policy,
-    pub traced: bool,
-    pub disposal: Disposal,
 }
 
 /// Executes a plan by recorded outcomes.
@@ -66,25 +55,26 @@ fn run_of<'a: 'p, 'p>(
     plan: &'p Plan<'a>,
     outcomes: Outcomes,
     chooser: &mut dyn Chooser,
-    replay: Unordered,
+    policy: Policy,
+    disposal: Disposal,
 ) -> Result<Trace<'p>, Halt>
     ensures result { IfOk result (λ trace. (traced : Bool) → replays.IsResult (allows chooser.old)
-        replay.policy traced (plan_records plan.now) (entries outcomes) Done
+        policy traced (plan_records plan.now) (entries outcomes) Done
         (replays.result_text traced trace.done trace.steps.items)) }
     ensures within { IfOk result (λ trace.
         All (λ step. position_in step < size trace.done) trace.steps.items) }
     ensures whole { IfOk result (λ trace. HasWholeBodies trace.done) }
-    ensures lacks { IfErr result (Halted (replays.LacksOutcome (allows chooser.old) replay.policy
+    ensures lacks { IfErr result (Halted (replays.LacksOutcome (allows chooser.old) policy
         (plan_records plan.now) (entries outcomes))) }
     ensures read { result ≢ Err halts.Read }
 {
     // Only a call on the outcomes states that they are sound.
     let _count = outcomes.len();
     let mut service = DropOrLeak {
-        value: Recorded::new(alloc, plan, outcomes)?,
-        disposal: replay.disposal,
+        value: Recorded::with_disposal(alloc, plan, outcomes, disposal)?,
+        disposal,
     };
-    let trace = execute(alloc, plan, replay.policy, chooser, &mut service.value)?;
+    let trace = execute(alloc, plan, policy, chooser, &mut service.value)?;
     every_response(&trace.done);
     every_possible(plan);
     Ok(trace)
@@ -96,18 +86,20 @@ fn replayed_by(
     plan: &Plan<'_>,
     value: Value,
     chooser: &mut dyn Chooser,
-    replay: Unordered,
+    policy: Policy,
+    traced: bool,
+    disposal: Disposal,
 ) -> Result<String, Halt>
-    ensures found { (form : Form) → Found (replays.ReplaysValue (allows chooser.old) replay.policy
-        replay.traced (plan_records plan.now) (view value)) form result }
+    ensures found { (form : Form) → Found (replays.ReplaysValue (allows chooser.old) policy traced
+        (plan_records plan.now) (view value)) form result }
     ensures read { result ≢ Err halts.Read }
 {
-    let outcomes = outcomes_of(alloc, value, replay.disposal)?;
+    let outcomes = outcomes_of(alloc, value, disposal)?;
     let trace = DropOrLeak {
-        value: run_of(alloc, plan, outcomes, chooser, replay)?,
-        disposal: replay.disposal,
+        value: run_of(alloc, plan, outcomes, chooser, policy, disposal)?,
+        disposal,
     };
-    let mut text = trace_part(alloc, &trace.value.done, &trace.value.steps, replay.traced)?;
+    let mut text = trace_part(alloc, &trace.value.done, &trace.value.steps, traced)?;
     push_response(alloc, &mut text, &trace.value.done)?;
     Ok(text)
 }
@@ -118,14 +110,16 @@ pub fn replayed(
     plan: &Plan<'_>,
     value: Value,
     order: Order,
-    replay: Unordered,
+    policy: Policy,
+    traced: bool,
+    disposal: Disposal,
 ) -> Result<String, Halt>
-    ensures found { (form : Form) → Found (replays.ReplaysValue (AllowsOrder order) replay.policy
-        replay.traced (plan_records plan.now) (view value)) form result }
+    ensures found { (form : Form) → Found (replays.ReplaysValue (AllowsOrder order) policy traced
+        (plan_records plan.now) (view value)) form result }
     ensures read { result ≢ Err halts.Read }
 {
     let mut order = order;
-    replayed_by(alloc, plan, value, &mut order, replay)
+    replayed_by(alloc, plan, value, &mut order, policy, traced, disposal)
 }
 
 /// A replay in the order of a chooser. `C` is `&mut dyn Chooser`: a field cannot have that type itself.
@@ -170,12 +164,15 @@ impl<'c> Command for Replay<&'c mut dyn Chooser> {
         second: Value,
         setup: Setup,
     ) -> Result<String, Halt> {
-        let replay = Unordered {
-            policy: self.policy,
-            traced: self.traced,
-            disposal: setup.disposal,
-        };
-        replayed_by(alloc, plan, second, &mut *self.chooser, replay)
+        replayed_by(
+            alloc,
+            plan,
+            second,
+            &mut *self.chooser,
+            self.policy,
+            self.traced,
+            setup.disposal,
+        )
     }
 
     ghost alone = { λ _ lists. absurd (never_lists lists) };

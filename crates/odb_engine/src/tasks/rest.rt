@@ -14,9 +14,8 @@ ghost use Rattle.odb_engine.specs.Rests.{RestsValue};
 use crate::disposal::DropOrLeak;
 use crate::halt::Halt;
 use crate::setup::Setup;
-use crate::tasks::match_responses::decided;
+use crate::tasks::match_responses::table_of;
 use odb_check::Plan;
-use odb_reply::{Responses, match_responses};
 use odb_sched::Mode;
 use odb_send::{rest_of, rest_text};
 use serde_json::Value;
@@ -42,12 +41,7 @@ pub fn left_over(
         value,
         disposal: setup.disposal,
     };
-    let read = Responses::read(alloc, &value.value)?;
-    let responses = DropOrLeak {
-        value: decided(alloc, plan, read, mode)?,
-        disposal: setup.disposal,
-    };
-    let table = match_responses(alloc, plan, &responses.value)?;
+    let table = table_of(alloc, plan, &value.value, mode, setup.disposal)?;
     let rest = rest_of(alloc, plan, &table, &value.value)?;
     let mut text = rest_text(alloc, document, plan, &rest)?;
     text.push_str("\n")?;

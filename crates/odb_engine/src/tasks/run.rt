@@ -19,7 +19,7 @@ ghost use Rattle.odb_engine.specs.Rules.{rule_row};
 ghost use Rattle.odb_engine.specs.Runs as runs;
 ghost use Rattle.odb_engine.specs.Halts.{Found, Halted, HaltsBy};
 
-use crate::disposal::{Disposal, DropOrLeak};
+use crate::disposal::DropOrLeak;
 use crate::ending::{Ended, EngineFault};
 use crate::halt::Halt;
 use crate::rule::EngineRule;
@@ -27,11 +27,11 @@ use crate::tasks::documents::answer_by_default;
 use crate::tasks::response::push_response;
 use crate::tasks::task::Task;
 use odb_check::Plan;
-use odb_doc::Events;
+use odb_doc::{Disposal, Events};
 use odb_io::{Input, Output};
 use odb_reply::laws::every_response;
 use odb_sched::laws::every_possible;
-use odb_sched::{Done, Policy, Scheduler, resolve, run};
+use odb_sched::{Done, Policy, Scheduler, resolve_with, run};
 use serde_json::Value;
 use std::alloc::Global;
 use std::io::{Read, Write};
@@ -43,10 +43,7 @@ fn events_of(alloc: Global, value: Value, disposal: Disposal) -> Result<Events, 
     ensures read { result ≢ Err halts.Read }
 {
     let (events, rest) = Events::split(alloc, value)?;
-    drop(DropOrLeak {
-        value: rest,
-        disposal,
-    });
+    rest.end(disposal);
     Ok(events)
 }
 
@@ -88,7 +85,7 @@ fn done_of<'a: 'p, 'p>(
 {
     // Only a call on the events states that they are sound.
     let _count = events.len();
-    let resolved = resolve(alloc, plan, events)?;
+    let resolved = resolve_with(alloc, plan, events, disposal)?;
     let scheduler = run(alloc, plan, policy, resolved)?;
     let done = finished(scheduler, disposal)?;
     every_response(&done);

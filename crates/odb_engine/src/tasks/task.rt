@@ -16,7 +16,7 @@ use crate::tasks::command::Command;
 use crate::tasks::documents::answer_by_default;
 use crate::tasks::match_responses::matched;
 use crate::tasks::plan::{drawn_text, planned_by};
-use crate::tasks::replay::{Unordered, replayed};
+use crate::tasks::replay::replayed;
 use crate::tasks::rest::left_over;
 use crate::tasks::run::ran;
 use crate::tasks::source::Slice;
@@ -135,14 +135,7 @@ impl Command for Task {
                 policy,
                 order,
                 traced,
-            } => {
-                let replay = Unordered {
-                    policy,
-                    traced,
-                    disposal: setup.disposal,
-                };
-                replayed(alloc, plan, second, order, replay)
-            }
+            } => replayed(alloc, plan, second, order, policy, traced, setup.disposal),
             Task::Run { policy } => ran(alloc, plan, second, policy, setup.disposal),
         }
     }

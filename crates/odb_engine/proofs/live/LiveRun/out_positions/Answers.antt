@@ -6,7 +6,8 @@ use Rattle.odb_check.specs.Plans.{plan_records}
 use Rattle.odb_sched.specs.run.State.{is_running, phase_at, size}
 use Rattle.odb_engine.specs.Live.{Live}
 use Rattle.odb_engine.specs.Replies.{IsOutAt, MayTake}
-use Rattle.odb_engine.proofs.ReplyLemmas.{partner, some-listed, zipped-more}
+use Rattle.odb_engine.proofs.ReplyLemmas.{partner, some-listed}
+use Rattle.odb_send.proofs.PairLemmas.{next_pair}
 use Rattle.odb_engine.proofs.live.LiveRun.out_positions.Goals as goal
 
 pub returns-then-not-is_empty-clause-none : goal.returns-then-not-is_empty-clause-none
@@ -26,4 +27,4 @@ pub loop-k-preserved : goal.loop-k-preserved
 loop-k-preserved c =
     let rs = plan_records c.args.plan.now in
     let R : Record → ℕ → Type 0 = λ r i. IsOutAt c.args.self.now r.id i in
-    subst (AllZip R _) (sym c.in_ok-push-in-Some.ensures.items) (zipped-more R rs c.loop-k.positions.items c.loop-k.k _ c.in-Some.i c.loop-k.invariant c.request.ensures.value c.in-Some.ensures.some)
+    subst (AllZip R _) (sym c.in_ok-push-in-Some.ensures.items) (next_pair R R (λ r i out. out) rs c.loop-k.positions.items c.loop-k.k _ c.in-Some.i c.loop-k.invariant c.request.ensures.value c.in-Some.ensures.some)

@@ -15,5 +15,5 @@ use Rattle.odb_engine.proofs.tasks.replay.replayed.Goals as goal
 
 pub returns-clause-found : goal.returns-clause-found
 returns-clause-found c =
-    λ form. subst (λ (a : Allowance). Found (ReplaysValue a c.args.replay.policy c.args.replay.traced (plan_records c.args.plan.now) (view c.args.value)) form c.replayed_by.result)
+    λ form. subst (λ (a : Allowance). Found (ReplaysValue a c.args.policy c.args.traced (plan_records c.args.plan.now) (view c.args.value)) form c.replayed_by.result)
     (carried_sameᵐ Members Dict entry-1-1 _ same-1-1 Allowance (λ (j : Entry Members Dict) (y : MutBor j.0.Denot). j.1.allows y.now) _) (c.replayed_by.ensures.found form)

@@ -27,21 +27,21 @@ returns-in_err-trace-clause-lacks g c =
     let batch = plan_records c.args.plan.now in
     let recorded = entries c.args.outcomes in
     let cause = c.in_err-trace.field-0.0 in
-    let lacks = LacksOutcome allows c.args.replay.policy batch recorded in
-    let caused = subst (λ s. IsCausedBy (OffersRecorded s) (IsReportEnabled allows (OffersRecorded s) (first_state batch c.args.replay.policy)) cause) c.in_ok-new.ensures c.in_err-trace.ensures.fault in
+    let lacks = LacksOutcome allows c.args.policy batch recorded in
+    let caused = subst (λ s. IsCausedBy (OffersRecorded s) (IsReportEnabled allows (OffersRecorded s) (first_state batch c.args.policy)) cause) c.in_ok-with_disposal.ensures c.in_err-trace.ensures.fault in
     at-exit (λ r. IfErr r (Halted lacks)) _ _ c.from_residual-in_err-trace.ensures.1
-    (halted-by lacks _ (lacks-outcome allows c.args.replay.policy batch recorded cause c.len-count.ensures.well_formed caused))
+    (halted-by lacks _ (lacks-outcome allows c.args.policy batch recorded cause c.len-count.ensures.well_formed caused))
 
 pub returns-clause-result : goal.returns-clause-result
 returns-clause-result g c =
     let allows = (goal.Chooser-dyn g c.args.chooser.now).allows c.args.chooser.now.1 in
     let batch = plan_records c.args.plan.now in
-    let first = first_state batch c.args.replay.policy in
+    let first = first_state batch c.args.policy in
     let trace = c.in_ok-trace.trace in
     let execution = c.in_ok-trace.ensures.execution in
-    let (course, ended) = subst (λ s. (course : IsFinishedBy allows (OffersRecorded s) first trace.steps.items trace.done) × StartsAfterDependencies batch course.events) c.in_ok-new.ensures
+    let (course, ended) = subst (λ s. (course : IsFinishedBy allows (OffersRecorded s) first trace.steps.items trace.done) × StartsAfterDependencies batch course.events) c.in_ok-with_disposal.ensures
     (execution.course, execution.dependencies_first) in
-    let offers = subst (λ s. (i : ℕ) (outcome : Outcome) → reported trace.done i ≡ Some outcome → OffersRecorded s i (Ok outcome)) c.in_ok-new.ensures c.in_ok-trace.ensures.offered in
+    let offers = subst (λ s. (i : ℕ) (outcome : Outcome) → reported trace.done i ≡ Some outcome → OffersRecorded s i (Ok outcome)) c.in_ok-with_disposal.ensures c.in_ok-trace.ensures.offered in
     λ traced. record {
       ends = refl;
       steps = trace.steps.items;
@@ -57,8 +57,8 @@ returns-clause-result g c =
             reads = c.every_response.ensures.line (readable-answers batch (entries c.args.outcomes) trace.done c.len-count.ensures.well_formed offers recordable);
             document = c.every_response.ensures.document;
             fits = listed;
-            possible = λ places statuses table. (c.every_possible.ensures c.args.replay.policy.mode (status_at statuses)).1 (record {
-              policy = c.args.replay.policy;
+            possible = λ places statuses table. (c.every_possible.ensures c.args.policy.mode (status_at statuses)).1 (record {
+              policy = c.args.policy;
               mode_is = refl;
               events = course.events;
               run = course.course.run;
@@ -74,4 +74,4 @@ pub returns-clause-whole : goal.returns-clause-whole
 returns-clause-whole g c =
     let trace = c.in_ok-trace.trace in
     whole-bodies (plan_records c.args.plan.now) (entries c.args.outcomes) trace.done c.len-count.ensures.well_formed
-    (subst (λ s. (i : ℕ) (outcome : Outcome) → reported trace.done i ≡ Some outcome → OffersRecorded s i (Ok outcome)) c.in_ok-new.ensures c.in_ok-trace.ensures.offered)
+    (subst (λ s. (i : ℕ) (outcome : Outcome) → reported trace.done i ≡ Some outcome → OffersRecorded s i (Ok outcome)) c.in_ok-with_disposal.ensures c.in_ok-trace.ensures.offered)
