@@ -1,13 +1,12 @@
 mod AddressLemmas
 mod AlikeLemmas
 mod AnswerLemmas
+mod BufferLemmas
 mod FaultLemmas
 mod HeaderLemmas
 mod OutcomeLemmas
 mod PositionLemmas
 mod ReportedLemmas
-mod RequestLemmas
-mod ResponseLemmas
 mod ReturnLemmas
 mod SessionLemmas
 mod TargetLemmas

@@ -1,11 +1,9 @@
 -- Why a report has no outcome.
-use Rattle.std.proofs.Common.{◌≡◌, Option, None, Result, Ok, Err, [], String, IfOk, IfErr, ap, inl, inr, refl}
+use Rattle.std.proofs.Common.{◌≡◌, Option, None, Result, Ok, Err, [], IfOk, IfErr, ap, inl, inr, refl}
 use Rattle.std.proofs.lemmas.List.Sorted.{IsPermutation-refl}
-use Rattle.std.specs.BTreeMap.{BTreeMap}
-use Rattle.std.specs.declared.alloc.Global.{Global}
 use Rattle.std.specs.List.Sorted.{IsStrictlySortedBy}
 use Rattle.serde_json.specs.Data.{Data}
-use Rattle.odb_doc.specs.Headers.{HoldsHeaders, IsHeaders, headers_in}
+use Rattle.odb_doc.specs.Headers.{HoldsHeaders, IsHeaders}
 use Rattle.odb_doc.specs.recorded.Parts.{AreNoParts}
 
 abbrev error-or : {T E : Type 0} → E → Result T E → E
@@ -20,10 +18,10 @@ pub no-headers : (headers : Option Data) → AreNoParts headers None → ¬ IsHe
 no-headers headers (inl none) = none
 no-headers headers (inr none) = absurd (none tt)
 
--- an empty map has no headers
-pub none-held : (m : BTreeMap (String Global) (String Global)) → m.entries ≡ [] → HoldsHeaders None (headers_in m)
+-- no headers are those of a report without any
+pub none-held : HoldsHeaders None []
 unfolding IsStrictlySortedBy
-none-held m none = rw none (record { listed = []; are = refl; same = IsPermutation-refl []; ordered = tt })
+none-held = record { listed = []; are = refl; same = IsPermutation-refl []; ordered = tt }
 
 -- what follows from what holds of a result
 pub also-ok : {T E : Type 0} (P Q : T → Type 0) (result : Result T E) → ((x : T) → P x → Q x) → IfOk result P → IfOk result Q

@@ -1,10 +1,10 @@
 //! How a list or a text reaches the buffer of the caller.
 
-ghost use Rattle.std.specs.Prelude.{◌≤◌, length};
+ghost use Rattle.std.specs.Prelude.{◌≡◌, ◌≤◌, length, map};
 ghost use Rattle.odb_ffi.specs.Lists.{BeginsWith, Gives};
 ghost use Rattle.odb_ffi.specs.Returns.{Fills};
 
-use crate::status::SMALL_BUFFER;
+use crate::status::{DONE, SMALL_BUFFER};
 
 /// Copies a list to the start of a buffer.
 pub fn copy_to<T: Copy>(buffer: &mut [T], items: &[T])
@@ -47,4 +47,42 @@ pub fn give_list<T: Copy>(
     copy_to(text, found.as_bytes());
     copy_to(buffer, items);
     done
+}
+
+/// Writes what is made of each item to the start of a buffer.
+fn write_made<P: Copy, T: Copy, F: Fn(P) -> T>(buffer: &mut [T], items: &[P], make: F)
+    requires fits { length items.now ≤ length buffer.old }
+    requires make { F.IsAlwaysCallable make }
+    ensures { (made : P → T) → ((item : P) (t : T) → F.post make item t → t ≡ made item)
+        → BeginsWith (map made items.now) buffer.old buffer.new }
+{
+    for i in 0..items.len() {
+        buffer[i] = make(items[i]);
+    }
+}
+
+/// Copies a text, and what is made of each item of a list, to the buffers if both fit, sets how long they are, and returns the
+/// status.
+pub fn give_made<P: Copy, T: Copy, F: Fn(P) -> T>(
+    found: &str,
+    items: &[P],
+    make: F,
+    text: &mut [u8],
+    text_length: &mut usize,
+    buffer: &mut [T],
+    count: &mut usize,
+) -> u32
+    requires { F.IsAlwaysCallable make }
+    ensures { (made : P → T) → ((item : P) (t : T) → F.post make item t → t ≡ made item)
+        → Gives found.now (map made items.now) 0 result text_length.new count.new text.old text.new
+        buffer.old buffer.new }
+{
+    *text_length = found.len();
+    *count = items.len();
+    if *text_length > text.len() || *count > buffer.len() {
+        return SMALL_BUFFER;
+    }
+    copy_to(text, found.as_bytes());
+    write_made(buffer, items, make);
+    DONE
 }

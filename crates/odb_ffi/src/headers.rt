@@ -1,8 +1,9 @@
 //! Headers as pairs in a text.
 
-ghost use Rattle.std.specs.Prelude.{◌≡◌, ◌++◌, IfErr, IfOk, OnOk, string_bytes};
+ghost use Rattle.std.specs.Prelude.{◌≡◌, ◌≢◌, ◌++◌, Err, IfErr, IfOk, OnOk, string_bytes};
 ghost use Rattle.std.specs.List.{AllZip};
 ghost use Rattle.odb_doc.specs.Headers.{headers_in};
+ghost use Rattle.odb_engine.specs.declared.halt.Halt.TheVariants as halts;
 ghost use Rattle.odb_engine.specs.Halts.{Halted};
 ghost use Rattle.odb_ffi.specs.Faults.{IsWord};
 ghost use Rattle.odb_ffi.specs.Headers.{ArePairs, IsPair};
@@ -65,9 +66,16 @@ pub fn headers_of(alloc: Global, bytes: &[u8]) -> Result<Headers, Halt>
     ensures pairs { IfOk result (λ found. ArePairs bytes.now (string_bytes found.text)
         found.pairs.items) }
     ensures refused { IfErr result (Halted (RefusesHeaders bytes.now)) }
+    ensures read { result ≢ Err halts.Read }
 {
     let outcome = outcome_of(alloc, 200, bytes)?;
-    match paired(alloc, &outcome.headers) {
+    let Some(headers) = outcome.headers() else {
+        return Ok(Headers {
+            text: String::new(alloc),
+            pairs: Vec::new(alloc),
+        });
+    };
+    match paired(alloc, headers) {
         Ok(headers) => Ok(headers),
         Err(_) => Err(Halt::OutOfMemory),
     }

@@ -17,7 +17,6 @@ use odb_engine::{Halt, halt_at};
 use odb_reply::{BodyFault, JsonText};
 use serde_json::Value;
 use std::alloc::Global;
-use std::collections::BTreeMap;
 
 /// Returns the status as a number of 16 bits.
 fn status_of(status: u32) -> u16
@@ -56,22 +55,18 @@ fn bad_body(bytes: &[u8]) -> Halt
     halt_at(DocFault::Document(rule), Place::Events)
 }
 
-/// Returns the outcome with this status alone. It allocates nothing.
-fn bare(alloc: Global, status: u16) -> Outcome
+/// Returns the outcome with this status alone.
+fn bare(status: u16) -> Outcome
     ensures { HasParts status None None result }
 {
-    Outcome {
-        status,
-        headers: BTreeMap::new(alloc),
-        body: None,
-    }
+    Outcome::bare(status)
 }
 
 /// Returns the outcome of a success without headers or body. It allocates nothing.
-pub fn no_content(alloc: Global) -> Outcome
+pub fn no_content() -> Outcome
     ensures { IsReported 204 [] result }
 {
-    bare(alloc, 204)
+    bare(204)
 }
 
 /// Returns the outcome with this status, these headers and no body.
@@ -101,7 +96,7 @@ pub fn outcome_of(alloc: Global, status: u32, headers: &[u8]) -> Result<Outcome,
     ensures read { result ≢ Err halts.Read }
 {
     if headers.is_empty() {
-        return Ok(bare(alloc, status_of(status)));
+        return Ok(bare(status_of(status)));
     }
     match parse(alloc, headers) {
         Ok(value) => outcome_with(alloc, status_of(status), value),

@@ -229,7 +229,7 @@ fn push_pass(
 fn push_undone(alloc: Global, steps: &mut Vec<Step>, reply: Reply) -> Result<(), AllocError>
     ensures { OnOk result ((document : List ℕ) → specs.Adds document (specs.undone_at (Some reply)) steps.old.items steps.new.items) }
 {
-    let step = Step::Report(reply.position, no_content(alloc), None);
+    let step = Step::Report(reply.position, no_content(), None);
     push_if(steps, step, reply.status == FAILED_DEPENDENCY)
 }
 

@@ -3,4 +3,4 @@ use Rattle.odb_ffi.proofs.OutcomeLemmas.{none-held}
 use Rattle.odb_ffi.proofs.outcome.bare.Goals as goal
 
 pub returns : goal.returns
-returns c = record { of_status = refl; of_headers = none-held c.new.result c.new.ensures.empty; of_body = refl; whole = tt }
+returns c = rw c.bare.ensures record { of_status = refl; of_headers = none-held; of_body = refl; whole = tt }
