@@ -7,7 +7,6 @@ use odb_reply::JsonText;
 use odb_sched::{Mode, Policy};
 use odb_testing::rows::expect;
 use std::alloc::Global;
-use std::collections::BTreeMap;
 use std::test::Fail;
 
 const ONE: &[u8] = br#"{"requests":[{"id":"a","method":"get","url":"X"}]}"#;
@@ -39,11 +38,7 @@ const EXAMPLES: &[(&[u8], Option<&str>)] = &[
 
 /// Reports a body of the first request, unless it is refused.
 fn report(alloc: Global, live: &mut LiveRun, body: &[u8]) -> bool {
-    let outcome = Outcome {
-        status: 200,
-        headers: BTreeMap::new(alloc),
-        body: None,
-    };
+    let outcome = Outcome::bare(200);
     match JsonText::read(alloc, body) {
         Ok(text) if live.run().len() > 0 => live.report_text(0, outcome, text).is_ok(),
         _ => false,

@@ -1,6 +1,6 @@
 //! A run that is driven by hand, and one that is executed.
 
-use odb_check::{Seed, check_with};
+use odb_check::{Plan, Seed, check_with};
 use odb_doc::{Batch, Outcome, Request, parse};
 use odb_engine::{LiveRun, open_run};
 use odb_exec::{Service, ServiceFault, execute};
@@ -9,7 +9,6 @@ use odb_sched::{Mode, Order, Policy};
 use odb_testing::fail::Fail;
 use odb_testing::rows::expect;
 use std::alloc::Global;
-use std::collections::BTreeMap;
 use std::random::RandomSource;
 use std::test;
 
@@ -25,8 +24,13 @@ fn respond<R: RandomSource, S: Service>(
     let value = parse(alloc, document)?;
     let batch = Batch::read(alloc, &value)?;
     let plan = check_with(alloc, seed, &batch)?;
+    answer(alloc, &plan, service)
+}
+
+/// Executes a plan by a service, and returns the text of the response.
+fn answer<S: Service>(alloc: Global, plan: &Plan<'_>, service: &mut S) -> Result<String, Fail> {
     let policy = Policy::free(Mode::Continue);
-    let trace = execute(alloc, &plan, policy, &mut Order::First, service)?;
+    let trace = execute(alloc, plan, policy, &mut Order::First, service)?;
     Ok(response_text(alloc, &trace.done)?)
 }
 
@@ -36,34 +40,28 @@ fn send_all(alloc: Global, seed: Seed, document: &[u8]) -> Result<String, Fail> 
     let (none, policy) = (br#"{"events":[]}"#, Policy::free(Mode::Continue));
     let mut live = open_run(alloc, document, none, policy, seed)?;
     for _ in 0..live.run().len() {
-        send_next(alloc, &mut live)?;
+        send_next(&mut live)?;
     }
     Ok(live.response(alloc)?)
 }
 
 /// Sends a request that may start, if there is one, and reports its outcome.
-fn send_next(alloc: Global, live: &mut LiveRun) -> Result<(), Fail> {
+fn send_next(live: &mut LiveRun) -> Result<(), Fail> {
     if let Some(i) = live.run().ready().first().copied() {
         live.start(i)?;
-        live.report(i, send(alloc, i))?;
+        live.report(i, send(i))?;
     }
     Ok(())
 }
 
 /// Sends a request and returns its outcome: each ends with 200.
-fn send(alloc: Global, _i: u32) -> Outcome {
-    Outcome {
-        status: 200,
-        headers: BTreeMap::new(alloc),
-        body: None,
-    }
+fn send(_i: u32) -> Outcome {
+    Outcome::bare(200)
 }
 
 /// A service that creates what has a body, and reads all else.
 #[derive(Drop)]
-struct Store {
-    alloc: Global,
-}
+struct Store;
 
 impl Service for Store {
     ghost offers = { λ _ _ _. Unit {0} };
@@ -71,11 +69,8 @@ impl Service for Store {
     ghost performs = { λ _ _ _ _ _. Unit {0} };
 
     fn perform(&mut self, _i: u32, request: &Request<'_>) -> Result<Outcome, ServiceFault> {
-        Ok(Outcome {
-            status: if request.body.is_some() { 201 } else { 200 },
-            headers: BTreeMap::new(self.alloc),
-            body: None,
-        })
+        let status = if request.body.is_some() { 201 } else { 200 };
+        Ok(Outcome::bare(status))
     }
 }
 
@@ -103,7 +98,7 @@ fn is_sent(alloc: Global, document: &str, want: &str) -> bool {
 }
 
 fn is_stored<R: RandomSource>(alloc: Global, random: &R, document: &str, want: &str) -> bool {
-    match respond(alloc, random, document.as_bytes(), &mut Store { alloc }) {
+    match respond(alloc, random, document.as_bytes(), &mut Store) {
         Ok(found) => found.as_str() == want,
         Err(_) => false,
     }

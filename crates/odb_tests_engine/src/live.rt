@@ -5,7 +5,6 @@ use odb_doc::Outcome;
 use odb_engine::{Halt, LiveRun, open_run};
 use odb_sched::{Mode, Policy};
 use std::alloc::Global;
-use std::collections::BTreeMap;
 
 /// A group of three.
 const GROUP: &str = r#"{"requests":[{"id":"p","method":"delete","url":"X","atomicityGroup":"g"},
@@ -23,21 +22,12 @@ fn has_ids(alloc: Global, live: &LiveRun) -> bool {
         && live.position_of(b"g") == None
 }
 
-/// An outcome with this status.
-fn outcome(alloc: Global, status: u16) -> Outcome {
-    Outcome {
-        status,
-        headers: BTreeMap::new(alloc),
-        body: None,
-    }
-}
-
 /// Whether the second request fails the group, so that the first has to be undone.
 fn is_undone(alloc: Global, live: &mut LiveRun) -> bool {
     if live.run().len() < 3 || live.undone(alloc).is_ok() {
         return false;
     }
-    live.report(1, outcome(alloc, 409)).is_ok()
+    live.report(1, Outcome::bare(409)).is_ok()
         && live
             .undone(alloc)
             .is_ok_and(|found| found.as_slice() == [0].as_slice())

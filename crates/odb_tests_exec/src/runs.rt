@@ -46,16 +46,16 @@ pub fn policy(mode: Mode, width: u32) -> Policy {
 
 /// An outcome with this status and the body `true`.
 pub fn outcome(alloc: Global, status: u16) -> Outcome {
-    Outcome {
-        status,
-        headers: BTreeMap::new(alloc),
-        body: Some(Value::Bool(true)),
+    let body = Some(Value::Bool(true));
+    match Outcome::new(alloc, status, BTreeMap::new(alloc), body) {
+        Ok(outcome) => outcome,
+        Err(_) => Outcome::bare(status),
     }
 }
 
 /// Whether an outcome is this one.
 fn is_outcome(outcome: &Outcome, status: u16) -> bool {
-    outcome.status == status && matches!(outcome.body, Some(Value::Bool(true)))
+    outcome.status == status && matches!(outcome.body(), Some(Value::Bool(true)))
 }
 
 /// The code of the refusal of a start, or `ok`.

@@ -1,3 +1,5 @@
 mod LawLemmas
 mod MemoryLemmas
+mod PartLemmas
 mod ReplayedLemmas
+mod WrittenLemmas

@@ -2,6 +2,9 @@
 
 pub mod engines;
 mod live;
+mod located;
 mod pairs;
+mod parts;
 mod replays;
 mod verdicts;
+mod written;

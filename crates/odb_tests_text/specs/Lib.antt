@@ -1,1 +1,4 @@
+pub mod Parts
+pub mod Rests
 pub mod Texts
+pub mod Units

@@ -21,18 +21,18 @@ type Row = (
 );
 
 /// The Location and the ETag of an answer.
-type Pair = (Option<&'static str>, Option<&'static str>);
+pub type Pair = (Option<&'static str>, Option<&'static str>);
 
 /// An answer without these headers.
-const NONE: Pair = (None, None);
+pub const NONE: Pair = (None, None);
 
 /// `b` needs `a`, `c` nothing, and `d` both.
-const DIAMOND: &str =
+pub const DIAMOND: &str =
     r#"{"requests":[{"id":"a","method":"get","url":"A"},{"id":"b","method":"get","url":"B","dependsOn":["a"]},
     {"id":"c","method":"get","url":"C"},{"id":"d","method":"get","url":"D","dependsOn":["b","c"]}]}"#;
 
 /// A group of two after one request, and one request after it.
-const GROUP: &str =
+pub const GROUP: &str =
     r#"{"requests":[{"id":"a","method":"get","url":"A"},{"id":"b","atomicityGroup":"g","method":"post","url":"B","body": 9.990},
     {"id":"c","atomicityGroup":"g","method":"get","url":"$b/C","dependsOn":["b"]},{"id":"d","method":"get","url":"D"}]}"#;
 
@@ -219,7 +219,7 @@ fn state_of(letter: u8) -> RequestState {
 }
 
 /// Returns the states that letters stand for.
-fn states_of(alloc: Global, letters: &str) -> Result<Vec<RequestState>, AllocError> {
+pub fn states_of(alloc: Global, letters: &str) -> Result<Vec<RequestState>, AllocError> {
     let mut states = Vec::with_capacity(alloc, letters.len())?;
     for letter in letters.as_bytes() {
         states.push(state_of(*letter))?;
@@ -228,7 +228,7 @@ fn states_of(alloc: Global, letters: &str) -> Result<Vec<RequestState>, AllocErr
 }
 
 /// Returns what answers record.
-fn answers_of(alloc: Global, pairs: &[Pair]) -> Result<Vec<Recorded<'static>>, AllocError> {
+pub fn answers_of(alloc: Global, pairs: &[Pair]) -> Result<Vec<Recorded<'static>>, AllocError> {
     let mut answers = Vec::with_capacity(alloc, pairs.len())?;
     for pair in pairs {
         answers.push(Recorded {

@@ -97,14 +97,10 @@ impl Service for Endings<'_> {
         let Some((status, headers, body)) = self.endings.get(i as usize) else {
             return Err(ServiceFault::NoOutcome);
         };
-        match headers_of(self.alloc, headers) {
-            Ok(headers) => Ok(Outcome {
-                status: *status,
-                headers,
-                body: body_of(self.alloc, body),
-            }),
-            Err(_) => Err(ServiceFault::OutOfMemory),
-        }
+        let headers = headers_of(self.alloc, headers).map_err(|_| ServiceFault::OutOfMemory)?;
+        Outcome::new(self.alloc, *status, headers, body_of(self.alloc, body)).map_err(
+            |_| ServiceFault::OutOfMemory,
+        )
     }
 }
 

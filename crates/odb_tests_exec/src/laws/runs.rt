@@ -8,12 +8,15 @@ ghost use Rattle.odb_sched.specs.run.Steps.{BarsStart, is_finished};
 ghost use Rattle.odb_sched.specs.run.Laws.{HasFewEvents, HasOneResult, HasResultByStatuses, AgreesWithTable, HaveSucceeded, IsAllOrNone, IsNeverStuck, RestsOnSuccesses, StartsAfterDependencies};
 ghost use Rattle.odb_sched.specs.run.Runs.{event_position, phase_of};
 ghost use Rattle.odb_sched.specs.run.State.{initial, phase_at, size};
+ghost use Rattle.odb_sched.specs.run.Units.{FirstNeedsNothing, HasNextUnit, UnitsGoOn};
 ghost use Rattle.odb_sched.specs.declared.policy.Mode.TheVariants.{Continue};
 ghost use Rattle.odb_sched.specs.declared.refusal.StartRefusal.TheVariants.{WidthReached};
 
 use odb_check::Plan;
 use odb_doc::Outcome;
-use odb_sched::laws::{definitions_agree, every_cause, every_result, every_run, every_start};
+use odb_sched::laws::{
+    definitions_agree, every_cause, every_result, every_run, every_start, every_unit,
+};
 use odb_sched::{Event, OwnedRun, Policy, ReportRefusal, Scheduler, StartRefusal, run};
 use std::alloc::Global;
 
@@ -41,6 +44,25 @@ fn ran<'a: 'p, 'p>(
     every_run(plan);
     definitions_agree(plan);
     every_result(plan);
+    match run(alloc, plan, policy, events) {
+        Ok(state) => Some(state),
+        Err(_) => None,
+    }
+}
+
+/// Returns the state of a run after these events. Its units go on, and so do those that are performed as a whole.
+fn ran_by_units<'a: 'p, 'p>(
+    alloc: Global,
+    plan: &'p Plan<'a>,
+    policy: Policy,
+    events: Vec<Event>,
+) -> Option<Scheduler<'p>>
+    requires { All (λ event. event_position event < length (plan_records plan.now)) events.items }
+    ensures first { IfSome result (λ state. FirstNeedsNothing state) }
+    ensures goes_on { IfSome result (λ state. UnitsGoOn state) }
+    ensures next { IfSome result (λ state. HasNextUnit state) }
+{
+    every_unit(plan);
     match run(alloc, plan, policy, events) {
         Ok(state) => Some(state),
         Err(_) => None,

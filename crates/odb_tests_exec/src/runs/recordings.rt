@@ -21,16 +21,25 @@ const ASKED: &[(u32, Option<&str>)] = &[
 
 /// The body as JSON, `-` where there is none.
 fn body_text(alloc: Global, outcome: &Outcome) -> Result<String, AllocError> {
-    match &outcome.body {
+    match outcome.body() {
         Some(value) => Ok(value.to_string(alloc)?),
         None => String::from_str(alloc, "-"),
     }
 }
 
+/// The headers, `{}` where there are none.
+fn headers_text(alloc: Global, outcome: &Outcome) -> Result<String, AllocError> {
+    match outcome.headers() {
+        Some(headers) => format!(in alloc; "{headers:?}"),
+        None => String::from_str(alloc, "{}"),
+    }
+}
+
 /// The status, the headers and the body of an outcome.
 fn outcome_text(alloc: Global, outcome: &Outcome) -> Result<String, AllocError> {
+    let headers = headers_text(alloc, outcome)?;
     let body = body_text(alloc, outcome)?;
-    format!(in alloc; "{} {:?} {body}", outcome.status, outcome.headers)
+    format!(in alloc; "{} {headers} {body}", outcome.status)
 }
 
 /// Whether an outcome has this text.

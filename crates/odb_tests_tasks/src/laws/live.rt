@@ -56,7 +56,7 @@ fn live_and_recorded(
 }
 
 /// Reads a document of events.
-fn events_in(alloc: Global, bytes: &[u8]) -> Option<Events>
+pub fn events_in(alloc: Global, bytes: &[u8]) -> Option<Events>
     ensures { IfSome result (λ found. AreEventsIn bytes.now (entries found)) }
 {
     let Ok(value) = parse(alloc, bytes) else {
@@ -136,9 +136,9 @@ fn gone_on(
     }
 }
 
-const NO_EVENTS: &[u8] = br#"{"events":[]}"#;
+pub const NO_EVENTS: &[u8] = br#"{"events":[]}"#;
 
-const ONE_EVENT: &[u8] = br#"{"events":[{"start":"1"}]}"#;
+pub const ONE_EVENT: &[u8] = br#"{"events":[{"start":"1"}]}"#;
 
 /// Whether a live run and a run by recorded events wrote the same response.
 fn are_alike(both: Option<(String, Written)>) -> bool {

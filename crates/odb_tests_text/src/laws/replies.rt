@@ -1,9 +1,11 @@
 //! Responses: what two readings of them find, and what a finished run answers.
 
-ghost use Rattle.std.specs.Prelude.{◌≡◌, ℕ, List, true, false, length, IfSome, IsSome, OnOk};
+ghost use Rattle.std.specs.Prelude.{◌≡◌, ℕ, List, true, false, length, IfSome, IsSome, IsTrue, OnOk};
 ghost use Rattle.std.specs.List.{AllZip};
 ghost use Rattle.serde_json.specs.View.{view};
 ghost use Rattle.odb_check.specs.Plans.{plan_records};
+ghost use Rattle.odb_doc.specs.Statuses.{is_status};
+ghost use Rattle.odb_reply.specs.BodyTexts.{value_with};
 ghost use Rattle.odb_reply.specs.Completed.{has_error};
 ghost use Rattle.odb_reply.specs.Fits.{Fits, IsTableOf, ListsFit, places, statuses};
 ghost use Rattle.odb_reply.specs.LeastMatchFault.{RefusesMatch};
@@ -11,9 +13,9 @@ ghost use Rattle.odb_reply.specs.MatchFaults as match_faults;
 ghost use Rattle.odb_reply.specs.OnePerId.{HasOnePerId};
 ghost use Rattle.odb_reply.specs.ResponseDocuments.{IsResponseDocument, RefusesResponses, ReadsAs, entries, responses_in};
 ghost use Rattle.odb_reply.specs.ResponseDocuments as response_documents;
-ghost use Rattle.odb_reply.specs.Responses.{response_value, value_of};
+ghost use Rattle.odb_reply.specs.Responses.{labels_of, response_value, value_of};
 ghost use Rattle.odb_reply.specs.StatusFaults.{status_at, status_row};
-ghost use Rattle.odb_sched.specs.run.Answers.{answer};
+ghost use Rattle.odb_sched.specs.run.Answers.{answer, status_of};
 ghost use Rattle.odb_sched.specs.run.Possible.{HasRun};
 ghost use Rattle.odb_sched.specs.run.PossibleLive.{HasLiveRun};
 ghost use Rattle.odb_sched.specs.run.State.{size};
@@ -23,11 +25,12 @@ ghost use Rattle.odb_testing.specs.Readings.{IsReading, IsSame};
 use odb_check::Plan;
 use odb_check::laws::every_plan;
 use odb_reply::laws::{
-    every_completion, every_labeled, every_response, one_document, one_match, one_status,
+    every_completion, every_labeled, every_response, every_texted, one_document, one_match,
+    one_status,
 };
 use odb_reply::{
-    Labels, MatchFault, MatchRule, ResponseFault, Responses, StatusFault, Strictness, Table,
-    check_statuses, match_responses,
+    JsonText, Labels, MatchFault, MatchRule, ResponseFault, Responses, StatusFault, Strictness,
+    Table, check_statuses, match_responses,
 };
 use odb_sched::laws::{every_possible, every_possible_live};
 use odb_sched::{Done, Mode, OwnedRun};
@@ -188,4 +191,20 @@ fn labeled<L: Labels>(labels: &L, run: &OwnedRun) -> u32
 {
     every_labeled(labels, run);
     run.len()
+}
+
+/// Returns how many requests a finished run has, of which some reported their bodies as these texts. What it answers is a
+/// response document that fits the batch, with one response for each id.
+fn texted(done: &Done<'_>, texts: &[Option<JsonText>]) -> u32
+    ensures document { IsResponseDocument
+        (value_with (labels_of done.now.requests) texts.now (answer done.now)) }
+    ensures fits { ListsFit done.now.requests
+        (value_with (labels_of done.now.requests) texts.now (answer done.now)) }
+    ensures one_per_id { HasOnePerId done.now.requests
+        (value_with (labels_of done.now.requests) texts.now (answer done.now)) }
+    ensures statuses { (i : ℕ) → IsTrue (is_status (status_of (answer done.now i))) }
+{
+    every_plan(done.plan());
+    every_texted(done.plan(), texts, done.run());
+    done.plan().len()
 }

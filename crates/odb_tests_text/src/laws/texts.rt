@@ -1,13 +1,13 @@
 //! Texts of plans and faults: as JSON they are read as the values that they show, equal ones are of one plan, a label is
 //! one string, and a drawing has a node for each request.
 
-ghost use Rattle.std.specs.Prelude.{◌≡◌, true, IfSome, length, map, slice_get, string_bytes};
+ghost use Rattle.std.specs.Prelude.{◌≡◌, ◌<◌, true, IfSome, length, map, slice_get, string_bytes};
 ghost use Rattle.serde_json.specs.View.{view};
 ghost use Rattle.odb_check.specs.Firsts.{joined_below};
 ghost use Rattle.odb_check.specs.Needs.{needs_at};
 ghost use Rattle.odb_check.specs.Plans.{plan_records};
 ghost use Rattle.odb_doc.specs.Refusals.{printed};
-ghost use Rattle.odb_tests_text.specs.Texts.{AreOnePlan, IsPlanText};
+ghost use Rattle.odb_tests_text.specs.Texts.{AreOnePlan, BeginsInNeeded, IsPlanText};
 ghost use Rattle.odb_text.specs.Drawings.{arrow_line};
 ghost use Rattle.odb_text.specs.DrawnLines.{marked, nodes_of};
 ghost use Rattle.odb_text.specs.Lines.{unlocated};
@@ -15,11 +15,11 @@ ghost use Rattle.odb_text.specs.Results.{fault_value, plan_value};
 ghost use Rattle.odb_text.specs.SamePlans.{IsSamePlan};
 ghost use Rattle.odb_text.specs.Labels.{IsOneString};
 
-use odb_check::{Plan, check};
+use odb_check::{Need, Plan, check};
 use odb_doc::text::push_quoted;
 use odb_doc::{Batch, Place, Refusal, parse};
 use odb_testing::PAIR;
-use odb_text::laws::{every_label, every_line, every_result, one_plan};
+use odb_text::laws::{every_arrow, every_label, every_line, every_result, one_plan};
 use odb_text::{Located, drawing_text, fault_json, plan_json};
 use serde_json::Value;
 use std::alloc::Global;
@@ -109,6 +109,20 @@ fn drawing_of(alloc: Global, plan: &Plan<'_>) -> Option<String>
     drawing_text(alloc, plan).ok()
 }
 
+/// Returns what a request depends on, by the number of the dependency. The arrow of it begins at a request of that.
+fn needed(plan: &Plan<'_>, i: u32, number: usize) -> Option<Need>
+    requires { i < length (plan_records plan.now) }
+    ensures { IfSome result (BeginsInNeeded (plan_records plan.now)) }
+{
+    every_arrow();
+    let _count = plan.len();
+    let needs = plan.needs(i);
+    if number >= needs.len() {
+        return None;
+    }
+    Some(needs[number])
+}
+
 /// Counts the lines of a text that have a word.
 fn count_with(text: &str, word: &str) -> usize {
     text.lines().filter(|line| line.contains(word)).count()
@@ -149,6 +163,32 @@ fn texts_as_json_are_read_again(rt: HostRuntime) {
 fn a_label_is_one_string(rt: HostRuntime) {
     let label = label_of(rt.alloc(), "a\"]; evil \\");
     assert!(rt; label.is_some_and(|it| it.as_str() == "\"a\\\"]; evil \\\\\""));
+}
+
+/// A request that depends on a group of two.
+const GROUP: &str = r#"{"requests":[{"id":"a","method":"get","url":"A"},
+    {"id":"b","atomicityGroup":"g","method":"get","url":"B","dependsOn":["a"]},
+    {"id":"c","atomicityGroup":"g","method":"get","url":"C"},
+    {"id":"d","method":"get","url":"D","dependsOn":["g"]}]}"#;
+
+/// Returns what the request at a position of the batch depends on.
+fn needed_in(alloc: Global, bytes: &[u8], i: u32) -> Option<Need> {
+    let value = parse(alloc, bytes).ok()?;
+    let batch = Batch::read(alloc, &value).ok()?;
+    let plan = check(alloc, &batch).ok()?;
+    if i < plan.len() {
+        needed(&plan, i, 0)
+    } else {
+        None
+    }
+}
+
+#[test]
+fn an_arrow_begins_at_what_is_needed(rt: HostRuntime) {
+    let (alloc, batch) = (rt.alloc(), GROUP.as_bytes());
+    assert!(rt; needed_in(alloc, batch, 0) == None);
+    assert!(rt; needed_in(alloc, batch, 1) == Some(Need::One(0)));
+    assert!(rt; needed_in(alloc, batch, 3) == Some(Need::Group(1)));
 }
 
 #[test]

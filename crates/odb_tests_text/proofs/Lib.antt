@@ -1,0 +1,4 @@
+mod ArrowLemmas
+mod PartLemmas
+mod RestLemmas
+mod UnitLemmas
