@@ -1,7 +1,7 @@
 #!/usr/bin/env python3
 """Memory a request, faults of pages and times of the commands, beside those of a plain Rust program.
 
-That program is the peer, `bench/peer`, which prints the same: `cargo build --release` there, with Debian's packages
+That program is the peer, `bench/peer`, which prints the same: `cargo build --release` there, by Rust 1.65 or later, with Debian's packages
 librust-percent-encoding-dev, librust-serde-derive-dev and librust-serde-json-dev. Without it the program is measured
 alone. Instructions are counted if valgrind is installed.
 """
