@@ -1,9 +1,9 @@
 -- The laws of the plan of a batch whose names fit together.
-use Rattle.std.proofs.Common.{◌≡◌, ◌≢◌, ◌≤◌, ◌<◌, ◌⊎◌, ◌+◌, ℕ, zero, suc, Bool, true, false, cond, List, [], ◌∷◌, ◌++◌, Option, Some, None, refl, sym, ap, ◌∙◌, subst, inl, inr, arith, length, get_or, append-nil}
+use Rattle.std.proofs.Common.{◌≡◌, ◌≢◌, ◌≤◌, ◌<◌, ◌⊎◌, ◌+◌, ◌-◌, ◌==◌, ℕ, min, zero, suc, Bool, true, false, cond, List, [], ◌∷◌, ◌++◌, Option, Some, None, refl, sym, ap, ◌∙◌, subst, inl, inr, arith, length, get_or, append-nil}
 use Rattle.std.specs.Prelude.{◌↔◌, All, Contains, IsSomeAnd, AllPairs, bytes_eq}
 use Rattle.std.specs.List.{AllZip, list_any, filter_map, cons_option, IsDistinct}
 use Rattle.std.proofs.lemmas.Map.Made.{AllPairs-from_IsDistinct}
-use Rattle.std.proofs.lemmas.Bool.{cases_Bool, cases_lt, cases_eq, cases_order, both_ways}
+use Rattle.std.proofs.lemmas.Bool.{cases_Bool, cases_lt, cases_eq, cases_order, both_ways, eq-eqb, ne_eqb}
 use Rattle.std.proofs.lemmas.Option.{same_Some, slice_get_cases}
 use Rattle.std.proofs.lemmas.List.Kept.{AllPairs-cons}
 use Rattle.std.proofs.lemmas.List.Quantifiers.{all_pairs_push}
@@ -19,7 +19,7 @@ use Rattle.odb_check.specs.declared.fault.NameRule.TheVariants.{IdTwice, IdIsGro
 use Rattle.odb_check.specs.declared.need.Need.{Need}
 use Rattle.odb_check.specs.declared.need.Need.TheVariants.{One, Group}
 use Rattle.odb_check.specs.declared.plan.Plan.{Plan}
-use Rattle.odb_check.specs.Firsts.{list_below}
+use Rattle.odb_check.specs.Firsts.{count_below, list_below}
 use Rattle.odb_check.specs.LeastNameFault.{HasGoodNames}
 use Rattle.odb_check.specs.NameFaults.{IsBrokenAt}
 use Rattle.odb_check.specs.Laws.{HasPositions, NeedsGroups}
@@ -27,9 +27,9 @@ use Rattle.odb_check.specs.Walks.{HasValidIds}
 use Rattle.odb_check.specs.Needs.{need_of, further_names, needed_names, needs_at}
 use Rattle.odb_check.specs.Plans.{plan_records, plan_graph, batch_plan_graph}
 use Rattle.odb_check.specs.Positions.{id_at, group_at, names_at, reference_at, IsId, IsIdFrom, IsInGroupOf, NamesGroupOf}
-use Rattle.odb_check.specs.PlanGraph.{unit_of, needs_of, plan_graph_of, IsEarlier, IsAlone, IsNeed, IsNeedAmong, IsPlan, IsPlanGraphOf, IsSpan, HasNamesAsNeeds}
+use Rattle.odb_check.specs.PlanGraph.{PlanGraph, unit_of, needs_of, plan_graph_of, IsEarlier, IsAlone, IsNeed, IsNeedAmong, IsPlan, IsPlanGraphOf, IsSpan, HasNamesAsNeeds}
 use Rattle.odb_check.specs.Tables.{IsStartOf}
-use Rattle.odb_check.specs.Units.{begins_unit, unit_at, unit_count, units_before}
+use Rattle.odb_check.specs.Units.{begins_unit, unit_at, unit_count, unit_size, units_before}
 use Rattle.odb_check.proofs.AnyLemmas.{ElementMeaning, element_meaning, Contains-meaning, Contains-none, text_listed, listed_cases}
 use Rattle.odb_check.proofs.BelowLemmas.{length-list_below, get_or-list_below}
 use Rattle.odb_check.proofs.FirstLemmas.{count_few, count_more}
@@ -200,6 +200,31 @@ needs_there rs i h = (is_plan_graph rs).needs i h
 
 pub in_plan_graph : (rs : List Record) (i : ℕ) → i < length (list_below (length rs) (unit_at rs)) → i < length rs
 in_plan_graph rs i h = omega (arith, length-list_below (length rs) (unit_at rs))
+
+-- how many numbers pass that are from one number up to another
+count_span : (from to : ℕ) (test : ℕ → Bool) (n : ℕ) → from ≤ to → ((k : ℕ) → k < n → k < from → test k ≡ false)
+    → ((k : ℕ) → k < n → from ≤ k → k < to → test k ≡ true) → ((k : ℕ) → k < n → to ≤ k → test k ≡ false) → count_below n test ≡ min n to - min n from
+count_span from to test zero le before inside after = omega arith
+count_span from to test (suc n) le before inside after =
+    let so : count_below n test ≡ min n to - min n from = count_span from to test n le (λ k h. before k (omega (arith, h))) (λ k h. inside k (omega (arith, h))) (λ k h. after k (omega (arith, h))) in
+    elim (cases_lt n from) [
+      | inl less ↦ rw (before n (omega arith) less) (omega (arith, so, less, le))
+      | inr more ↦ elim (cases_lt n to) [
+        | inl within ↦ rw (inside n (omega arith) (omega (arith, more)) within) (omega (arith, so, more, within))
+        | inr past ↦ rw (after n (omega arith) (omega (arith, past))) (omega (arith, so, past, le))
+      ]
+    ]
+
+-- the size of a unit is that of its span
+pub span_size : (rs : List Record) (plan : PlanGraph) (u from to : ℕ) → IsPlanGraphOf rs plan → IsSpan plan u from to → to - from ≡ unit_size rs u
+span_size rs plan u from to is span =
+    let size : length plan.units ≡ length rs = is.size in
+    let within : to ≤ length rs = omega (arith, span.within, size) in
+    let counted = count_span from to (λ j. unit_at rs j == u) (length rs) (omega (arith, span.begins))
+    (λ k h less. ne_eqb (unit_at rs k) u (λ e. omega (arith, less, ((span.exact k (omega (arith, h, size))).0 (is.units k h ∙ e)).0)))
+    (λ k h least less. eq-eqb (unit_at rs k) u (sym (is.units k h) ∙ (span.exact k (omega (arith, h, size))).1 (least, less)))
+    (λ k h past. ne_eqb (unit_at rs k) u (λ e. omega (arith, past, ((span.exact k (omega (arith, h, size))).0 (is.units k h ∙ e)).1))) in
+    omega (arith, counted, within, span.begins)
 
 -- a unit reaches from its first position to where the next unit begins, or the batch ends
 pub has_span : (rs : List Record) → ((i : ℕ) → ¬ IsBrokenAt GroupSplit rs i) → (u start end : ℕ) → IsStartOf rs u start → end ≤ length rs → units_before rs end ≡ u + 1

@@ -1,6 +1,6 @@
 -- The units of a batch: its atomicity groups, and its requests without a group (OData JSON Format 4.01,
 -- section 19.1, `atomicityGroup`).
-use Rattle.std.specs.Prelude.{ℕ, Bool, true, not, is_some, List, Option, Some, None, option_and_then, option_map, unwrap_or, length}
+use Rattle.std.specs.Prelude.{◌==◌, ℕ, Bool, true, not, is_some, List, Option, Some, None, option_and_then, option_map, unwrap_or, length}
 use Rattle.std.specs.List.{filter_map}
 use Rattle.odb_doc.specs.Names.{distinct}
 use Rattle.odb_doc.specs.batch.Records.{Record}
@@ -44,6 +44,10 @@ unit_begin rs i = begin_in rs i (group_at rs i)
 -- the unit of i: units are numbered from 0 in the order in which they begin
 abbrev pub unit_at : List Record → ℕ → ℕ
 unit_at rs i = units_before rs (unit_begin rs i)
+
+-- how many requests a unit has
+abbrev pub unit_size : List Record → ℕ → ℕ
+unit_size rs u = count_below (length rs) (λ i. unit_at rs i == u)
 
 -- the position of an identifier, none for any other text
 abbrev pub position_of : List Record → List ℕ → Option ℕ

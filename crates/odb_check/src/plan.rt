@@ -130,6 +130,17 @@ impl<'b> Plan<'b> {
         start..end
     }
 
+    /// Returns how many requests a unit has.
+    pub fn unit_size(&self, u: u32) -> u32
+        requires { u < (plan_graph self.now).unit_count }
+        ensures size { result ≡ units.unit_size (plan_records self.now) u }
+        ensures few { result ≤ 10000 }
+    {
+        let _count = self.len();
+        let members = self.members(u);
+        members.end - members.start
+    }
+
     /// Returns the dependencies of the request at a position: its `dependsOn` entries in order,
     /// without repeats, then the request that its URL refers to unless it is already among them.
     pub fn needs(&self, i: u32) -> &[Need]

@@ -5,15 +5,13 @@ use Rattle.std.proofs.lemmas.Bool.{cases_Bool, cases_eq, eqb-true, ne_eqb, true�
 use Rattle.std.proofs.lemmas.List.{length-set, length-replicate}
 use Rattle.odb_doc.specs.batch.Records.{Record}
 use Rattle.odb_check.specs.Firsts.{count_below, joined_below}
-use Rattle.odb_check.specs.PlanGraph.{PlanGraph, IsPlanGraphOf, IsSpan, plan_graph_of, unit_of}
-use Rattle.odb_check.specs.Units.{unit_at, unit_count}
+use Rattle.odb_check.specs.PlanGraph.{plan_graph_of, unit_of}
+use Rattle.odb_check.specs.Units.{unit_at, unit_count, unit_size}
 use Rattle.odb_check.proofs.PlanLemmas.{in_plan_graph, is_plan_graph}
-use Rattle.odb_sched.specs.run.State.{members_in}
-use Rattle.odb_sched.proofs.CountLemmas.{count_same, count_none, count_either}
-use Rattle.odb_sched.proofs.FirstLemmas.{members_of_span}
+use Rattle.odb_sched.proofs.CountLemmas.{count_none, count_either}
 use Rattle.odb_sched.proofs.LiveLemmas.{populated}
 use Rattle.odb_send.specs.Marks.{AreFirst}
-use Rattle.odb_send.specs.NextPart.{AreFitting, HasToWait, MayGo, member_count, position_in, request_count}
+use Rattle.odb_send.specs.NextPart.{AreFitting, HasToWait, MayGo, position_in, request_count}
 use Rattle.odb_send.specs.Rests.{is_kept}
 use Rattle.odb_send.specs.Units.{AreMarksOf, marked}
 use Rattle.odb_send.proofs.MarkLemmas.{marked-cases, marked-kept, marked-none, marked-other, marked-set, not_marked}
@@ -49,17 +47,8 @@ unit_member rs u known =
     let within = in_plan_graph rs found.0 found.1 in
     (found.0, within, sym ((is_plan_graph rs).units found.0 within) ∙ eqb-true _ _ found.2)
 
--- a unit has as many requests as its positions span
-pub members_spanned : (rs : List Record) (graph : PlanGraph) (u from to : ℕ) → IsPlanGraphOf rs graph → IsSpan graph u from to → from + member_count rs u ≡ to
-members_spanned rs graph u from to is span =
-    let begins = span.begins in
-    let counted : to - from ≡ members_in graph u = members_of_span graph u from to span begins in
-    let same : members_in graph u ≡ member_count rs u =
-    ap (λ n. count_below n (λ i. unit_of graph i == u)) is.size ∙ count_same (length rs) (λ i. unit_of graph i == u) (λ i. unit_at rs i == u) (λ i within. ap (λ v. v == u) (is.units i within)) in
-    omega (arith, begins, counted, same)
-
 -- a unit more has its requests more
-pub more_requests : (rs : List Record) (units : List Bool) (u : ℕ) → u < length units → marked units u ≡ false → request_count rs (set units u true) ≡ request_count rs units + member_count rs u
+pub more_requests : (rs : List Record) (units : List Bool) (u : ℕ) → u < length units → marked units u ≡ false → request_count rs (set units u true) ≡ request_count rs units + unit_size rs u
 more_requests rs units u known out = count_either (length rs) (is_kept rs units) (λ i. unit_at rs i == u) (is_kept rs (set units u true))
     (λ i within is. ap (marked units) (eqb-true _ _ is) ∙ out)
     (λ i within. elim (cases_eq (unit_at rs i) u) [
@@ -99,7 +88,7 @@ not_yet : (rs : List Record) (done left : List Bool) (limit u room : ℕ) (units
 not_yet rs done left limit u room units before known = not_marked (marked units u) (λ is. let there = (before.marks.each u known).0 is in omega (arith, there.0))
 
 -- a unit that may go, and fits
-pub AreFirst-more : (rs : List Record) (done left : List Bool) (limit u room count : ℕ) (units : List Bool) → AreFirst rs done left limit u room units → MayGo rs done left u → count ≡ member_count rs u → count ≤ room
+pub AreFirst-more : (rs : List Record) (done left : List Bool) (limit u room count : ℕ) (units : List Bool) → AreFirst rs done left limit u room units → MayGo rs done left u → count ≡ unit_size rs u → count ≤ room
     → AreFirst rs done left limit (u + 1) (room - count) (set units u true)
 AreFirst-more rs done left limit u room count units before goes counted fits = record {
   marks = record {
@@ -122,7 +111,7 @@ AreFirst-more rs done left limit u room count units before goes counted fits = r
     inside = omega (arith, goes.known, before.marks.count)
 
 -- the next unit does not fit
-pub part_full : (rs : List Record) (done left : List Bool) (limit u room count : ℕ) (units : List Bool) → AreFirst rs done left limit u room units → MayGo rs done left u → count ≡ member_count rs u → room < count → AreFitting rs done left limit units
+pub part_full : (rs : List Record) (done left : List Bool) (limit u room count : ℕ) (units : List Bool) → AreFirst rs done left limit u room units → MayGo rs done left u → count ≡ unit_size rs u → room < count → AreFitting rs done left limit units
 part_full rs done left limit u room count units before goes counted more = record {
   end = u;
   units = before.marks;

@@ -9,7 +9,7 @@ use Rattle.odb_check.specs.PlanGraph.{unit_needed}
 use Rattle.odb_check.specs.declared.need.Need.{Need}
 use Rattle.odb_check.specs.Firsts.{count_below, joined_below}
 use Rattle.odb_check.specs.Needs.{needs_at}
-use Rattle.odb_check.specs.Units.{unit_at, unit_count}
+use Rattle.odb_check.specs.Units.{unit_at, unit_count, unit_size}
 use Rattle.odb_sched.specs.declared.states.RequestState.{RequestState}
 use Rattle.odb_sched.specs.declared.states.RequestState.TheVariants.{Waiting, Ready, Running, Reported, Skipped}
 use Rattle.odb_send.specs.declared.rest.Rest.{Rest}
@@ -33,17 +33,13 @@ pub record MayGo (rs : List Record) (done left : List Bool) (u : ℕ) : Type 0 w
 abbrev pub request_count : List Record → List Bool → ℕ
 request_count rs units = count_below (length rs) (is_kept rs units)
 
--- how many requests a unit has
-abbrev pub member_count : List Record → ℕ → ℕ
-member_count rs u = count_below (length rs) (λ i. unit_at rs i == u)
-
 -- These are the units that fit: those that may be sent, from the first up to one that does not fit any more, at most so many
 -- requests.
 pub record AreFitting (rs : List Record) (done left : List Bool) (limit : ℕ) (fitting : List Bool) : Type 0 where
   pub end : ℕ
   pub units : AreMarksOf rs (λ u. (u < end) × MayGo rs done left u) fitting
   pub within : request_count rs fitting ≤ limit
-  pub next : (end ≡ unit_count rs) ⊎ (MayGo rs done left end × (limit < request_count rs fitting + member_count rs end))
+  pub next : (end ≡ unit_count rs) ⊎ (MayGo rs done left end × (limit < request_count rs fitting + unit_size rs end))
 
 -- a request is in the part
 abbrev pub HasSome : List Record → List Bool → Type 0
@@ -128,7 +124,7 @@ NeedsMet rs states part = (i : ℕ) (need : Need) → i < length rs → is_kept 
 
 -- no unit has more requests than the limit
 abbrev pub HasNoLonger : List Record → ℕ → Type 0
-HasNoLonger rs limit = (u : ℕ) → u < unit_count rs → member_count rs u ≤ limit
+HasNoLonger rs limit = (u : ℕ) → u < unit_count rs → unit_size rs u ≤ limit
 
 -- the positions of the requests of the part, in order
 abbrev pub position_in : List Record → List Bool → ℕ → List ℕ

@@ -70,8 +70,7 @@ fn fitting_units(
     let mut room = limit;
     for u in 0..plan.unit_count() {
         if !done[u as usize] && !waiting[u as usize] {
-            let members = plan.members(u);
-            let count = members.end - members.start;
+            let count = plan.unit_size(u);
             if count > room {
                 return Ok(units);
             }
@@ -240,8 +239,7 @@ pub fn fits_limit(plan: &Plan<'_>, limit: u32) -> bool
 {
     odb_check::laws::every_plan(plan);
     for u in 0..plan.unit_count() {
-        let members = plan.members(u);
-        if members.end - members.start > limit {
+        if plan.unit_size(u) > limit {
             return false;
         }
     }

@@ -1,41 +1,14 @@
--- The rows of a level: how large a unit is, how many rows there are, and what one more request changes.
-use Rattle.std.proofs.Common.{◌≡◌, ◌≢◌, ◌∙◌, ◌<◌, ◌≤◌, ◌+◌, ◌-◌, ◌==◌, ℕ, zero, suc, min, Bool, true, false, if◌then◌else◌, List, [], ◌∷◌, ◌++◌, Some, length, set, slice_get, sym, ap, subst, inl, inr, arith}
+-- The rows of a level: how many rows there are, and what one more request changes.
+use Rattle.std.proofs.Common.{◌≡◌, ◌≢◌, ◌∙◌, ◌<◌, ◌≤◌, ◌+◌, ◌==◌, ℕ, zero, suc, Bool, true, false, if◌then◌else◌, List, [], ◌∷◌, ◌++◌, Some, length, set, slice_get, sym, ap, subst, inl, inr, arith}
 use Rattle.std.proofs.lemmas.Bool.{cases_lt, cases_order, eq-eqb, ne_eqb}
 use Rattle.std.proofs.lemmas.Grind.{get_or-set_at}
 use Rattle.std.proofs.lemmas.List.{get_or-set_other, length-set}
 use Rattle.std.proofs.lemmas.Option.{get_or_from_slice_get, slice_get-get_or}
 use Rattle.odb_doc.specs.batch.Records.{Record}
-use Rattle.odb_check.specs.Firsts.{count_below, list_below}
+use Rattle.odb_check.specs.Firsts.{list_below}
 use Rattle.odb_check.specs.Levels.{greatest_below, level_at}
-use Rattle.odb_check.specs.PlanGraph.{PlanGraph, IsPlanGraphOf, IsSpan}
-use Rattle.odb_check.specs.Units.{unit_at}
 use Rattle.odb_text.specs.declared.rows.Row.{Row}
-use Rattle.odb_text.specs.Rows.{last_row, next_row, begins_row, row_at, unit_size}
-
--- how many numbers pass that are from one number up to another
-count_span : (from to : ℕ) (test : ℕ → Bool) (n : ℕ) → from ≤ to → ((k : ℕ) → k < n → k < from → test k ≡ false)
-    → ((k : ℕ) → k < n → from ≤ k → k < to → test k ≡ true) → ((k : ℕ) → k < n → to ≤ k → test k ≡ false) → count_below n test ≡ min n to - min n from
-count_span from to test zero le before inside after = omega arith
-count_span from to test (suc n) le before inside after =
-    let so : count_below n test ≡ min n to - min n from = count_span from to test n le (λ k h. before k (omega (arith, h))) (λ k h. inside k (omega (arith, h))) (λ k h. after k (omega (arith, h))) in
-    elim (cases_lt n from) [
-      | inl less ↦ rw (before n (omega arith) less) (omega (arith, so, less, le))
-      | inr more ↦ elim (cases_lt n to) [
-        | inl within ↦ rw (inside n (omega arith) (omega (arith, more)) within) (omega (arith, so, more, within))
-        | inr past ↦ rw (after n (omega arith) (omega (arith, past))) (omega (arith, so, past, le))
-      ]
-    ]
-
--- the size of a unit is that of its span
-pub span_size : (rs : List Record) (plan : PlanGraph) (u from to : ℕ) → IsPlanGraphOf rs plan → IsSpan plan u from to → to - from ≡ unit_size rs u
-span_size rs plan u from to is span =
-    let size : length plan.units ≡ length rs = is.size in
-    let within : to ≤ length rs = omega (arith, span.within, size) in
-    let counted = count_span from to (λ j. unit_at rs j == u) (length rs) (omega (arith, span.begins))
-    (λ k h less. ne_eqb (unit_at rs k) u (λ e. omega (arith, less, ((span.exact k (omega (arith, h, size))).0 (is.units k h ∙ e)).0)))
-    (λ k h least less. eq-eqb (unit_at rs k) u (sym (is.units k h) ∙ (span.exact k (omega (arith, h, size))).1 (least, less)))
-    (λ k h past. ne_eqb (unit_at rs k) u (λ e. omega (arith, past, ((span.exact k (omega (arith, h, size))).0 (is.units k h ∙ e)).1))) in
-    omega (arith, counted, within, span.begins)
+use Rattle.odb_text.specs.Rows.{last_row, next_row, begins_row, row_at}
 
 -- there are no more rows than requests, nor more requests in a row
 abbrev pub Few : ℕ → Row → Type 0

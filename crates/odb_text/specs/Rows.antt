@@ -1,18 +1,14 @@
 -- The rows in which a level is drawn: its requests side by side in the order of the batch, at most 12 in a row.
 use Rattle.std.specs.Prelude.{◌≡◌, ◌<◌, ℕ, zero, suc, ◌+◌, ◌-◌, ◌==◌, Bool, false, ◌&&◌, ◌||◌, if◌then◌else◌, nat_lt, List, Some, length, slice_get, unwrap_or}
 use Rattle.odb_doc.specs.batch.Records.{Record}
-use Rattle.odb_check.specs.Firsts.{count_below, first_below}
+use Rattle.odb_check.specs.Firsts.{first_below}
 use Rattle.odb_check.specs.Levels.{level_at}
-use Rattle.odb_check.specs.Units.{unit_at}
+use Rattle.odb_check.specs.Units.{unit_at, unit_size}
 use Rattle.odb_text.specs.declared.rows.Row.{Row}
 
 -- the first request of a unit
 abbrev pub first_of_unit : List Record → ℕ → ℕ
 first_of_unit rs u = unwrap_or (first_below (length rs) (λ j. unit_at rs j == u)) 0
-
--- how many requests a unit has
-abbrev pub unit_size : List Record → ℕ → ℕ
-unit_size rs u = count_below (length rs) (λ j. unit_at rs j == u)
 
 -- Whether a unit has no place in a row with so many requests: it does not fit into it, or the unit before it is larger than a
 -- row, and so has its rows to itself.

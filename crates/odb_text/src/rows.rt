@@ -37,25 +37,13 @@ pub(crate) fn first_of_unit(plan: &Plan<'_>, unit: u32) -> u32
     plan.members(unit).start
 }
 
-/// Returns how many requests a unit has.
-fn unit_size(plan: &Plan<'_>, unit: u32) -> u32
-    requires { unit < (plan_graph plan.now).unit_count }
-    ensures value { result ≡ rows.unit_size (plan_records plan.now) unit }
-    ensures small { result ≤ 10000 }
-{
-    every_plan(plan);
-    let _count = plan.len();
-    let members = plan.members(unit);
-    members.end - members.start
-}
-
 /// Returns whether a unit has no place in a row with so many requests.
 fn has_no_place(plan: &Plan<'_>, unit: u32, used: u32) -> bool
     requires unit { unit < (plan_graph plan.now).unit_count }
     requires used { used ≤ 10000 }
     ensures { result ≡ rows.has_no_place (plan_records plan.now) unit used }
 {
-    used + unit_size(plan, unit) > 12 || unit_size(plan, unit.saturating_sub(1)) > 12
+    used + plan.unit_size(unit) > 12 || plan.unit_size(unit.saturating_sub(1)) > 12
 }
 
 /// Returns whether a request begins a row, after a row with so many requests.

@@ -1,11 +1,10 @@
-use Rattle.std.proofs.Common.{◌≡◌, ◌∙◌, ◌<◌, ◌≤◌, ◌-◌, false, length, replicate, sym, ap, arith}
+use Rattle.std.proofs.Common.{◌≡◌, ◌∙◌, ◌<◌, ◌≤◌, false, length, replicate, sym, ap, arith}
 use Rattle.std.proofs.lemmas.List.{get_or_default}
 use Rattle.odb_check.specs.Plans.{plan_records}
 use Rattle.odb_check.specs.Units.{unit_count}
-use Rattle.odb_check.proofs.PlanLemmas.{shaped}
-use Rattle.odb_send.specs.NextPart.{MayGo, member_count}
+use Rattle.odb_send.specs.NextPart.{MayGo}
 use Rattle.odb_send.specs.Units.{marked}
-use Rattle.odb_send.proofs.NextPartLemmas.{AreFirst-none, AreFirst-over, AreFirst-more, may_go, may_not_done, may_not_wait, part_full, members_spanned}
+use Rattle.odb_send.proofs.NextPartLemmas.{AreFirst-none, AreFirst-over, AreFirst-more, may_go, may_not_done, may_not_wait, part_full}
 use Rattle.odb_send.proofs.next_part.fitting_units.Goals as goal
 use Rattle.odb_send.proofs.next_part.fitting_units.Goals.{then-not-done-u+then-not-index+else-count-room, else-not-done-u, else-not-done-u-via-then-not-done-u+else-not-index, else-not-done-u-via-else-not-done-u}
 
@@ -20,13 +19,11 @@ returns-then-count-room c =
     let rs = plan_records c.args.plan.now in
     let u = c.loop-u.u in
     let known : u < unit_count rs = omega (arith, c.loop-u-test.true, c.unit_count-u-end.ensures.count) in
-    let span = members_spanned rs _ u _ _ (shaped c.args.plan.now) c.members-members.ensures.span in
-    let counted : c.members-members.result.end - c.members-members.result.start ≡ member_count rs u = omega (arith, span) in
     let waiting = c.in_ok-waiting.waiting.items in
     let inside : u < length waiting = omega (arith, known, c.in_ok-waiting.ensures.count) in
     let free : marked waiting u ≡ false = get_or_default waiting u false c.index.result.now inside ∙ sym c.index.ensures ∙ c.if-not-index.true in
     let goes : MayGo rs c.args.done.now c.args.left.now u = may_go rs c.args.done.now c.args.left.now c.in_ok-waiting.waiting.items u known c.in_ok-waiting.ensures c.if-not-done-u.true free in
-    part_full rs c.args.done.now c.args.left.now c.args.limit u c.loop-u.room (c.members-members.result.end - c.members-members.result.start) c.loop-u.units.items c.loop-u.invariant goes counted c.if-count-room.true
+    part_full rs c.args.done.now c.args.left.now c.args.limit u c.loop-u.room c.unit_size-count.result c.loop-u.units.items c.loop-u.invariant goes c.unit_size-count.ensures.size c.if-count-room.true
 
 pub loop-u-preserved : goal.loop-u-preserved
 loop-u-preserved c =
@@ -39,11 +36,9 @@ loop-u-preserved c =
     let inside : u < length waiting = omega (arith, known, c.in_ok-waiting.ensures.count) in
     elim c.if-not-done-u.branch [
       | then-not-done-u+then-not-index+else-count-room w ↦
-          let span = members_spanned rs _ u _ _ (shaped c.args.plan.now) w.members-members.ensures.span in
-          let counted : w.members-members.result.end - w.members-members.result.start ≡ member_count rs u = omega (arith, span) in
-          let fits : w.members-members.result.end - w.members-members.result.start ≤ c.loop-u.room = omega (arith, w.if-count-room) in
+          let fits : w.unit_size-count.result ≤ c.loop-u.room = omega (arith, w.if-count-room) in
           let goes : MayGo rs done left u = may_go rs done left waiting u known c.in_ok-waiting.ensures w.if-not-done-u.true (get_or_default waiting u false w.index.result.now inside ∙ sym w.index.ensures ∙ w.if-not-index.true) in
-          rw (w.units-is, w.room-is) (AreFirst-more rs done left c.args.limit u c.loop-u.room (w.members-members.result.end - w.members-members.result.start) c.loop-u.units.items c.loop-u.invariant goes counted fits)
+          rw (w.units-is, w.room-is) (AreFirst-more rs done left c.args.limit u c.loop-u.room w.unit_size-count.result c.loop-u.units.items c.loop-u.invariant goes w.unit_size-count.ensures.size fits)
       | else-not-done-u w ↦
           let out : ¬ MayGo rs done left u = λ goes. elim w.else-not-done-u.branch [
             | else-not-done-u-via-then-not-done-u+else-not-index v ↦ may_not_wait rs done left waiting u known c.in_ok-waiting.ensures (get_or_default waiting u false v.index.result.now inside ∙ sym v.index.ensures ∙ v.if-not-index.false) goes
