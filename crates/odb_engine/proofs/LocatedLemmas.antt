@@ -21,7 +21,6 @@ use Rattle.odb_doc.specs.batch.Records.{Record}
 use Rattle.odb_engine.specs.declared.ending.Ended.{Ended}
 use Rattle.odb_engine.specs.declared.ending.Ended.TheVariants.{Done, Refused}
 use Rattle.odb_engine.specs.declared.form.Form.{Form}
-use Rattle.odb_engine.specs.declared.halt.Halt.{Halt}
 use Rattle.odb_engine.specs.declared.halt.Halt.TheVariants as halts
 use Rattle.odb_doc.specs.batch.LeastFault.{IsLeastFault}
 use Rattle.odb_engine.specs.Cascade.{HasFault, WritesIn, at_place}

@@ -1,6 +1,7 @@
 -- What a service has answered a part of a live run, by the response document (OData JSON Format 4.01, section 19.5).
-use Rattle.std.specs.Prelude.{◌≡◌, ◌⊎◌, ◌<◌, ◌≤◌, ℕ, Bool, true, false, List, Option, Some, length, option_and_then, slice_get, slice_index}
+use Rattle.std.specs.Prelude.{◌≡◌, ◌⊎◌, ◌<◌, ◌≤◌, ℕ, Bool, true, false, List, Option, Some, None, Vec, All, length, option_and_then, slice_get, slice_index}
 use Rattle.std.specs.List.{AllZip}
+use Rattle.std.specs.Global.{Global}
 use Rattle.serde_json.specs.Data.{Data}
 use Rattle.odb_doc.specs.Documents.{IsDocument}
 use Rattle.odb_doc.specs.declared.fault.Place.TheVariants.{Responses}
@@ -97,6 +98,11 @@ pub record AreReplies (mode : Mode) (part : List Record) (positions document : L
 abbrev pub AreRepliesTo : Live → (part document : List ℕ) → Mode → List Reply → Type 0
 AreRepliesTo live part document mode replies = Accepts part (λ batch. (positions : List ℕ) × AreOut live batch positions × AreReplies mode batch positions document replies)
 
+-- the requests of a batch are a part that may be taken, and these are their answers; or they are not
+abbrev pub AreFound : Live → List Record → List ℕ → Mode → Option (Vec Reply Global) → Type 0
+AreFound live batch document mode None = ¬ MayTake live batch
+AreFound live batch document mode (Some made) = ((positions : List ℕ) × AreOut live batch positions × AreReplies mode batch positions document made.items) × All (LiesIn document) made.items
+
 -- something is running, or a request of the part is in none that was given or has started
 abbrev pub TakesNone : Live → List ℕ → Type 0
 TakesNone live part = Accepts part (λ batch. ¬ MayTake live batch)
@@ -116,6 +122,10 @@ pub data HasNoFinalTable (mode : Mode) (part : List Record) (value : Data) (refu
 abbrev pub IsLeastOfReplies : Mode → List Record → List ℕ → Printed → Type 0
 IsLeastOfReplies mode part = IsLeastOf Responses (HasNoFinalTable mode part)
 
+-- the requests of a batch are a part that may be taken, but the document has no answers to it
+abbrev pub RefusesReplies : Live → List Record → List ℕ → Mode → Printed → Type 0
+RefusesReplies live batch document mode refusal = MayTake live batch × IsLeastOfReplies mode batch document refusal
+
 -- the same of the bytes of a part, whose faults come first
 abbrev pub IsLeastOfTaking : Live → (part document : List ℕ) → Mode → Printed → Type 0
-IsLeastOfTaking live part document mode refusal = IsLeast part refusal ⊎ Accepts part (λ batch. MayTake live batch × IsLeastOfReplies mode batch document refusal)
+IsLeastOfTaking live part document mode refusal = IsLeast part refusal ⊎ Accepts part (λ batch. RefusesReplies live batch document mode refusal)

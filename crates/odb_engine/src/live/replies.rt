@@ -13,15 +13,13 @@ ghost use Rattle.odb_engine.specs.Halts.{Halted};
 ghost use Rattle.odb_engine.specs.Matches.{IsFaultOfResponses};
 ghost use Rattle.odb_engine.specs.Replies as replies;
 
-use crate::form::Form;
 use crate::halt::Halt;
 use crate::input::value_in;
 use crate::live::LiveRun;
-use crate::setup::Setup;
-use crate::tasks::command::plan_of;
+use crate::planned::{OfPlan, made_of};
 use crate::tasks::match_responses::table_of;
 use odb_check::{Plan, Seed};
-use odb_doc::{Batch, Disposal, Place};
+use odb_doc::{Disposal, Place};
 use odb_reply::{ResponseFault, Responses, Table};
 use odb_sched::{Mode, RequestState};
 use odb_send::{ResponseList, ResponseParts, responses_of};
@@ -159,6 +157,34 @@ fn replies_in(
     Ok(made)
 }
 
+/// What a part of a run was answered.
+#[derive(Drop)]
+struct Answered<'a> {
+    live: &'a LiveRun,
+    responses: &'a [u8],
+    mode: Mode,
+}
+
+impl<'a> OfPlan for Answered<'a> {
+    type Made = Option<Vec<Reply>>;
+
+    ghost makes = { λ answered _ _ batch found. replies.AreFound answered.live.now batch answered.responses.now
+        answered.mode found };
+
+    ghost refuses = { λ answered batch. replies.RefusesReplies answered.live.now batch answered.responses.now
+        answered.mode };
+
+    fn made(
+        &self,
+        alloc: Global,
+        _document: &[u8],
+        plan: &Plan<'_>,
+        _seed: Seed,
+    ) -> Result<Option<Vec<Reply>>, Halt> {
+        self.live.replies_on(alloc, plan, self.responses, self.mode)
+    }
+}
+
 impl LiveRun {
     /// Returns the position of the request with this id if it is in a part that was given, and has not started.
     fn out_position(&self, id: &str) -> Option<u32>
@@ -192,6 +218,26 @@ impl LiveRun {
         Ok(Some(positions))
     }
 
+    /// Returns what a service has answered the requests of a plan; `None` if they are no part that may be taken.
+    fn replies_on(
+        &self,
+        alloc: Global,
+        plan: &Plan<'_>,
+        responses: &[u8],
+        mode: Mode,
+    ) -> Result<Option<Vec<Reply>>, Halt>
+        ensures replies { IfOk result (replies.AreFound self.now (plan_records plan.now) responses.now mode) }
+        ensures least { IfErr result (Halted (replies.RefusesReplies self.now (plan_records plan.now)
+            responses.now mode)) }
+        ensures read { result ≢ Err halts.Read }
+    {
+        let Some(positions) = self.out_positions(alloc, plan)? else {
+            return Ok(None);
+        };
+        let made = replies_in(alloc, plan, &positions, responses, mode)?;
+        Ok(Some(made))
+    }
+
     /// Returns what a service has answered the requests of a part ([`LiveRun::part`]), by the response document, in the order of
     /// the part. `None` if something is running, or if a request of the part is in no part that was given, or has started.
     ///
@@ -220,14 +266,11 @@ impl LiveRun {
         ensures least { IfErr result (Halted (replies.IsLeastOfTaking self.now part.now responses.now mode)) }
         ensures read { result ≢ Err halts.Read }
     {
-        let value = value_in(alloc, part, Place::Batch)?;
-        let read = Batch::read(alloc, &value)?;
-        let setup = Setup::new(Form::Lines, seed);
-        let plan = plan_of(alloc, &read, setup)?;
-        let Some(positions) = self.out_positions(alloc, &plan.value)? else {
-            return Ok(None);
+        let answered = Answered {
+            live: self,
+            responses,
+            mode,
         };
-        let made = replies_in(alloc, &plan.value, &positions, responses, mode)?;
-        Ok(Some(made))
+        made_of(alloc, part, &answered, seed)
     }
 }

@@ -1,4 +1,4 @@
-use Rattle.std.proofs.Common.{◌⊎◌, IfOk, false, subst, true}
+use Rattle.std.proofs.Common.{◌⊎◌, IfOk, subst}
 use Rattle.odb_engine.specs.AllFaults.{Lists}
 use Rattle.odb_engine.specs.Contents.{AreFaultsOfContent, OfBatch}
 use Rattle.odb_engine.specs.Located.{LocatesContents, OfContents}

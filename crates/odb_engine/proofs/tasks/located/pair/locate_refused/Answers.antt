@@ -1,5 +1,3 @@
-use Rattle.std.proofs.Common.{Bool, IfOk, map, subst, sym}
-use Rattle.odb_doc.specs.Refusals.{printed}
 use Rattle.odb_engine.proofs.tasks.located.pair.locate_refused.Goals as goal
 
 pub returns-then-all : goal.returns-then-all

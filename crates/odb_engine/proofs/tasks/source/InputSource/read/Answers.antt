@@ -1,4 +1,4 @@
-use Rattle.std.proofs.Common.{◌≡◌, true}
+use Rattle.std.proofs.Common.{◌≡◌}
 use Rattle.serde_json.specs.View.{view}
 use Rattle.odb_doc.specs.Documents.{IsDocument}
 use Rattle.odb_engine.specs.Cascade.{RefusesBytes}
