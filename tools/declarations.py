@@ -3,7 +3,7 @@
 
 - Each declaration of include/odb_batch.h is the one that follows from the export in crates/odb_ffi;
   nothing else compares them. The bindings in python/ and node/ call just these functions.
-- Statuses and options have the same numbers in the header as in the source, and those of the text of `odb_constants`.
+- Statuses and options have the same numbers in the header as in crates/odb_calls, and those of the text of `odb_constants`.
 
 With a built library, `declarations.py FOLDER`, also that libodb_batch.so shows just these functions,
 has its name, and needs the C library alone; and that none is larger than it may be.
@@ -18,6 +18,7 @@ import sys
 ROOT = os.path.dirname(os.path.dirname(os.path.realpath(__file__)))
 HEADER = "include/odb_batch.h"
 EXPORTS = "crates/odb_ffi/src"
+CALLS = "crates/odb_calls/src"
 NAME = "libodb_batch.so.0"
 MOST_BYTES = 855_000
 
@@ -132,7 +133,7 @@ def one(pattern, text, what):
 
 def constant_differences(header):
     """The numbers of the header that are others in the text of `odb_constants`, a line each."""
-    constants = json.loads(one(r'(?s)CONSTANTS: &str = r#"(.*?)"#', source(EXPORTS), EXPORTS))
+    constants = json.loads(one(r'(?s)CONSTANTS: &str = r#"(.*?)"#', source(CALLS), CALLS))
     numbers = {prefix + name.upper(): at for member, prefix in LISTS.items() for at, name in enumerate(constants[member])}
     numbers |= {name: constants["limits"][member] for member, name in LIMITS.items()}
     for name, number in numbers.items():
@@ -142,9 +143,9 @@ def constant_differences(header):
 
 def struct_differences(header):
     """The structs that have other fields in the header than in the source, a line each."""
-    text = source(EXPORTS)
+    text = source(CALLS)
     for name, typedef in STRUCTS.items():
-        wanted = one(rf"#\[repr\(C\)\](?:\s*#\[[^]]*\])*\s*pub struct {name} \{{([^}}]*)\}}", text, EXPORTS)
+        wanted = one(rf"#\[repr\(C\)\](?:\s*#\[[^]]*\])*\s*pub struct {name} \{{([^}}]*)\}}", text, CALLS)
         found = one(rf"typedef struct {typedef} \{{([^}}]*)\}} {typedef};", header, HEADER)
         fields = [f"{FIELDS[kind]} {field}" for field, kind in re.findall(r"(?m)^\s*pub (\w+): (\w+),$", wanted)]
         if re.findall(r"(?m)^\s*(\w+ \w+);", found) != fields:
@@ -157,9 +158,9 @@ def differences():
     for name in sorted({*wanted, *found}):
         if wanted.get(name) != found.get(name):
             yield f"{name}: the header declares {found.get(name)}, and the source exports {wanted.get(name)}"
-    header, calls = text_of(HEADER), source(EXPORTS)
+    header, calls = text_of(HEADER), source(CALLS)
     for name, pattern in NUMBERS.items():
-        if one(rf"\b{name} = (\d+)", header, HEADER) != one(pattern, calls, EXPORTS):
+        if one(rf"\b{name} = (\d+)", header, HEADER) != one(pattern, calls, CALLS):
             yield f"{name}: the header and the source have different numbers"
     for name, path in HANDLES.items():
         struct = rf"#\[repr\(C\)\](?:\s*#\[[^]]*\])*\s*pub struct {name} \{{([^}}]*\}}[^}}]*)\}}"

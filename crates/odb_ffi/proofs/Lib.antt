@@ -1,13 +1,1 @@
 mod AddressLemmas
-mod AlikeLemmas
-mod AnswerLemmas
-mod BufferLemmas
-mod FaultLemmas
-mod HeaderLemmas
-mod OutcomeLemmas
-mod PositionLemmas
-mod ReportedLemmas
-mod ReturnLemmas
-mod SessionLemmas
-mod TargetLemmas
-mod StepLemmas

@@ -1,10 +1,10 @@
 //! The call for C that gives what the packages for other languages need to know of the library.
 
-ghost use Rattle.odb_ffi.specs.Constants.{GivesConstants};
+ghost use Rattle.odb_calls.specs.Constants.{GivesConstants};
 
-use crate::buffer::give_text;
-use crate::constants::CONSTANTS;
-use crate::status::DONE;
+use odb_calls::buffer::give_text;
+use odb_calls::constants::CONSTANTS;
+use odb_calls::status::DONE;
 
 /// Writes a JSON object with the names of the states, modes, orders, forms and steps by their numbers, the limits, and the
 /// names of headers and ids that the packages for other languages treat apart.

@@ -1,8 +1,8 @@
 //! The call for C that explains a fault.
 
-ghost use Rattle.odb_ffi.specs.Explanations.{Explains};
+ghost use Rattle.odb_calls.specs.Explanations.{Explains};
 
-use crate::explanations::give_explanation;
+use odb_calls::explanations::give_explanation;
 
 /// Writes the explanation of the fault with this code, as `F41`, or of the cause of a start or a report that is refused, as `S4`:
 /// what `odb_batch explain` prints of it, without the newline at its end.

@@ -14,11 +14,11 @@
 
 ghost use Rattle.std.specs.Prelude.{◌≡◌, [], true, false};
 ghost use Rattle.odb_engine.specs.declared.tasks.task.Task.TheVariants as tasks;
-ghost use Rattle.odb_ffi.specs.Options as options;
-ghost use Rattle.odb_ffi.specs.Returns.{Does, Returns, ReturnsBy};
+ghost use Rattle.odb_calls.specs.Options as options;
+ghost use Rattle.odb_calls.specs.Returns.{Does, Returns, ReturnsBy};
 
-use crate::answer::{answer_as, wrong_option};
-use crate::options::{match_of, mode_of, replay_of, run_of};
+use odb_calls::answer::{answer_as, wrong_option};
+use odb_calls::options::{match_of, mode_of, replay_of, run_of};
 use odb_engine::Task::{Canon, Check, Plan, Rest};
 use std::alloc::Global;
 

@@ -1,10 +1,10 @@
 //! The call for C that gives all faults of a batch with where they are.
 
-ghost use Rattle.odb_ffi.specs.Faults.{GivesFaults};
+ghost use Rattle.odb_calls.specs.Faults.{GivesFaults};
 
-use crate::fault::Fault;
-use crate::faults::{all_faults, give_faults};
-use crate::status::OUT_OF_MEMORY;
+use odb_calls::fault::Fault;
+use odb_calls::faults::{all_faults, give_faults};
+use odb_calls::status::OUT_OF_MEMORY;
 use std::alloc::Global;
 
 /// Gives all faults of the batch in a document, as [`crate::exports::odb_check_all_as`] finds them and in its order: the words of

@@ -1,11 +1,11 @@
 //! The call for C that gives headers as pairs.
 
-ghost use Rattle.odb_ffi.specs.Headers.{GivesHeaders};
+ghost use Rattle.odb_calls.specs.Headers.{GivesHeaders};
 
-use crate::buffer::give_list;
-use crate::header::Header;
-use crate::headers::headers_of;
-use crate::status::{DONE, of_halt};
+use odb_calls::buffer::give_list;
+use odb_calls::header::Header;
+use odb_calls::headers::headers_of;
+use odb_calls::status::{DONE, of_halt};
 use std::alloc::Global;
 
 /// Gives the headers of a JSON object as pairs, in byte order of their names: where the name of each, in lower case, and its value

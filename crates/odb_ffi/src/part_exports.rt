@@ -1,10 +1,10 @@
 //! The calls for C on the parts of a live run.
 
-ghost use Rattle.odb_ffi.specs.Parts.{GivesPart};
-ghost use Rattle.odb_ffi.specs.Takes.{TakesPart};
+ghost use Rattle.odb_calls.specs.Parts.{GivesPart};
+ghost use Rattle.odb_calls.specs.Takes.{TakesPart};
 
 use crate::handle::Handle;
-use crate::{parts, takes};
+use odb_calls::{parts, takes};
 use std::alloc::Global;
 
 /// Gives the next part of a run as the text of a batch of its own, and the positions of its requests: requests that may be sent

@@ -1,9 +1,9 @@
 //! The call for C that says where the element of a place begins and ends.
 
-ghost use Rattle.odb_ffi.specs.Places.{GivesPlace};
+ghost use Rattle.odb_calls.specs.Places.{GivesPlace};
 
-use crate::position::Position;
-use crate::status::{DONE, OUT_OF_MEMORY, WRONG_OPTION};
+use odb_calls::position::Position;
+use odb_calls::status::{DONE, OUT_OF_MEMORY, WRONG_OPTION};
 use odb_spans::position_of;
 use odb_text::place_of;
 use std::alloc::Global;

@@ -1,10 +1,10 @@
 //! The call for C that says why a report is refused.
 
 ghost use Rattle.odb_engine.specs.declared.form.Form.TheVariants.{Lines};
-ghost use Rattle.odb_ffi.specs.ReportFaults.{ChecksReport};
-ghost use Rattle.odb_ffi.specs.Returns.{Returns};
+ghost use Rattle.odb_calls.specs.ReportFaults.{ChecksReport};
+ghost use Rattle.odb_calls.specs.Returns.{Returns};
 
-use crate::report_faults::give_fault;
+use odb_calls::report_faults::give_fault;
 use std::alloc::Global;
 
 /// Writes the line of the fault by which [`crate::run_exports::odb_run_report`] refuses these headers or this body: the fault of a

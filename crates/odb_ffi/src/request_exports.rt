@@ -1,11 +1,11 @@
 //! The call for C that gives what is to be sent of each request of a batch.
 
-ghost use Rattle.odb_ffi.specs.Requests.{GivesRequests};
+ghost use Rattle.odb_calls.specs.Requests.{GivesRequests};
 
-use crate::answer::give;
-use crate::options::seed_of;
-use crate::request::Request;
-use crate::requests::give_requests;
+use odb_calls::answer::give;
+use odb_calls::options::seed_of;
+use odb_calls::request::Request;
+use odb_calls::requests::give_requests;
 use odb_engine::{Answer, Form, requests_in};
 use std::alloc::Global;
 

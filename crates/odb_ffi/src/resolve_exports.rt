@@ -1,8 +1,8 @@
 //! The call for C that says where a request is sent.
 
-ghost use Rattle.odb_ffi.specs.Targets.{Resolves};
+ghost use Rattle.odb_calls.specs.Targets.{Resolves};
 
-use crate::targets::{give_target, target_of};
+use odb_calls::targets::{give_target, target_of};
 use std::alloc::Global;
 
 /// Says where a request of a batch is sent: its URL below one of the roots of a service, or that it leads out of them.

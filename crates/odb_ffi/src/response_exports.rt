@@ -1,10 +1,10 @@
 //! The call for C that gives the responses in the document of a service.
 
-ghost use Rattle.odb_ffi.specs.Responses.{GivesResponses};
+ghost use Rattle.odb_calls.specs.Responses.{GivesResponses};
 
-use crate::answer::give;
-use crate::response::Response;
-use crate::responses::give_responses;
+use odb_calls::answer::give;
+use odb_calls::response::Response;
+use odb_calls::responses::give_responses;
 use odb_engine::{Answer, Form, responses_in};
 use std::alloc::Global;
 

@@ -5,10 +5,10 @@
 ghost use Rattle.std.specs.Prelude.{◌≡◌};
 ghost use Rattle.odb_engine.specs.Live.{with_run};
 ghost use Rattle.odb_sched.specs.run.State.{stopped};
-ghost use Rattle.odb_ffi.specs.Units as calls;
+ghost use Rattle.odb_calls.specs.Units as calls;
 
 use crate::handle::Handle;
-use crate::units;
+use odb_calls::units;
 
 /// Copies the positions of the first unit that may begin to a buffer: of a group's members, or of one request
 /// without a group, in order. A unit may begin if none of its members has started, it has not failed,

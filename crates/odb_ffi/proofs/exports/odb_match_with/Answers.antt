@@ -1,4 +1,4 @@
-use Rattle.odb_ffi.specs.Returns.ReturnsBy.{Named}
+use Rattle.odb_calls.specs.Returns.ReturnsBy.{Named}
 use Rattle.odb_ffi.proofs.exports.odb_match_with.Goals as goal
 
 pub returns-in-Some : goal.returns-in-Some

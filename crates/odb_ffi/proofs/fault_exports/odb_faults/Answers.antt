@@ -1,6 +1,6 @@
 -- All faults of a batch, for C.
 use Rattle.std.proofs.Common.{string_bytes}
-use Rattle.odb_ffi.specs.Faults.GivesFaults.{Given}
+use Rattle.odb_calls.specs.Faults.GivesFaults.{Given}
 use Rattle.odb_ffi.proofs.fault_exports.odb_faults.Goals as goal
 
 pub returns-in-Ok : goal.returns-in-Ok

@@ -1,6 +1,6 @@
 -- Headers as pairs, for C.
-use Rattle.odb_ffi.specs.Headers.GivesHeaders.{Given}
-use Rattle.odb_ffi.proofs.HeaderLemmas.{not-given}
+use Rattle.odb_calls.specs.Headers.GivesHeaders.{Given}
+use Rattle.odb_calls.proofs.HeaderLemmas.{not-given}
 use Rattle.odb_ffi.proofs.header_exports.odb_headers.Goals as goal
 
 pub returns-in-Ok : goal.returns-in-Ok

@@ -3,9 +3,9 @@ use Rattle.std.proofs.Common.{refl}
 use Rattle.odb_engine.specs.Cascade.{Reports}
 use Rattle.odb_engine.specs.declared.form.Form.TheVariants.{Lines}
 use Rattle.odb_engine.specs.Live.{IsLeastOfOpening}
-use Rattle.odb_ffi.specs.Openings.OpensBy.{NotOpened, Opened}
-use Rattle.odb_ffi.proofs.AnswerLemmas.{answer-reported}
-use Rattle.odb_ffi.proofs.ReturnLemmas.{returned}
+use Rattle.odb_calls.specs.Openings.OpensBy.{NotOpened, Opened}
+use Rattle.odb_calls.proofs.AnswerLemmas.{answer-reported}
+use Rattle.odb_calls.proofs.ReturnLemmas.{returned}
 use Rattle.odb_ffi.proofs.open_exports.odb_run_open_requests.Goals as goal
 
 pub returns-in-Ok-clause-opened : goal.returns-in-Ok-clause-opened

@@ -1,5 +1,5 @@
 use Rattle.std.proofs.Common.{refl}
-use Rattle.odb_ffi.specs.Places.GivesPlace.{Found, OutOfMemory}
+use Rattle.odb_calls.specs.Places.GivesPlace.{Found, OutOfMemory}
 use Rattle.odb_ffi.proofs.place_exports.odb_where.Goals as goal
 
 pub returns-in-Ok : goal.returns-in-Ok

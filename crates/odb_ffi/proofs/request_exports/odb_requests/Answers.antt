@@ -2,9 +2,9 @@
 use Rattle.std.proofs.Common.{refl}
 use Rattle.odb_engine.specs.Cascade.{IsLeast, Reports}
 use Rattle.odb_engine.specs.declared.form.Form.TheVariants.{Lines}
-use Rattle.odb_ffi.specs.Requests.GivesRequests.{Given, NotGiven}
-use Rattle.odb_ffi.proofs.AnswerLemmas.{answer-reported}
-use Rattle.odb_ffi.proofs.ReturnLemmas.{returned}
+use Rattle.odb_calls.specs.Requests.GivesRequests.{Given, NotGiven}
+use Rattle.odb_calls.proofs.AnswerLemmas.{answer-reported}
+use Rattle.odb_calls.proofs.ReturnLemmas.{returned}
 use Rattle.odb_ffi.proofs.request_exports.odb_requests.Goals as goal
 
 pub returns-in-Ok : goal.returns-in-Ok

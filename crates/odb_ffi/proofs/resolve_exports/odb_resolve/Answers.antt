@@ -1,6 +1,6 @@
 -- Where a request is sent, for C.
 use Rattle.std.proofs.Common.{string_bytes}
-use Rattle.odb_ffi.proofs.TargetLemmas.{resolves-by}
+use Rattle.odb_calls.proofs.TargetLemmas.{resolves-by}
 use Rattle.odb_ffi.proofs.resolve_exports.odb_resolve.Goals as goal
 
 pub returns : goal.returns

@@ -3,9 +3,9 @@ use Rattle.std.proofs.Common.{refl}
 use Rattle.odb_engine.specs.Cascade.{Reports}
 use Rattle.odb_engine.specs.ServiceResponses.{IsLeastOfResponses}
 use Rattle.odb_engine.specs.declared.form.Form.TheVariants.{Lines}
-use Rattle.odb_ffi.specs.Responses.GivesResponses.{Given, NotGiven}
-use Rattle.odb_ffi.proofs.AnswerLemmas.{answer-reported}
-use Rattle.odb_ffi.proofs.ReturnLemmas.{returned}
+use Rattle.odb_calls.specs.Responses.GivesResponses.{Given, NotGiven}
+use Rattle.odb_calls.proofs.AnswerLemmas.{answer-reported}
+use Rattle.odb_calls.proofs.ReturnLemmas.{returned}
 use Rattle.odb_ffi.proofs.response_exports.odb_responses.Goals as goal
 
 pub returns-in-Ok : goal.returns-in-Ok

@@ -1,6 +1,6 @@
 use Rattle.std.proofs.Common.{subst}
 use Rattle.odb_engine.specs.declared.live.LiveRun.{LiveRun}
-use Rattle.odb_ffi.specs.Next.{GivesNext}
+use Rattle.odb_calls.specs.Next.{GivesNext}
 use Rattle.odb_ffi.proofs.run_exports.odb_run_next.Goals as goal
 
 pub returns-clause-next : goal.returns-clause-next

@@ -2,10 +2,10 @@ use Rattle.std.proofs.Common.{refl}
 use Rattle.odb_engine.specs.Cascade.{Reports}
 use Rattle.odb_engine.specs.declared.form.Form.TheVariants.{Lines}
 use Rattle.odb_engine.specs.Live.{IsLeastOfOpening}
-use Rattle.odb_ffi.specs.Live.Opening.{Opened, NotOpened}
-use Rattle.odb_ffi.specs.Returns.ReturnsBy.{Named}
-use Rattle.odb_ffi.proofs.AnswerLemmas.{answer-reported}
-use Rattle.odb_ffi.proofs.ReturnLemmas.{returned}
+use Rattle.odb_calls.specs.Live.Opening.{Opened, NotOpened}
+use Rattle.odb_calls.specs.Returns.ReturnsBy.{Named}
+use Rattle.odb_calls.proofs.AnswerLemmas.{answer-reported}
+use Rattle.odb_calls.proofs.ReturnLemmas.{returned}
 use Rattle.odb_ffi.proofs.run_exports.odb_run_open.Goals as goal
 
 pub returns-in-Ok-clause-opened : goal.returns-in-Ok-clause-opened

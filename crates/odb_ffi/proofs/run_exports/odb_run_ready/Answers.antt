@@ -3,8 +3,8 @@ use Rattle.odb_dense.specs.Lists.{ListsOnce}
 use Rattle.odb_sched.specs.run.State.{State, size}
 use Rattle.odb_sched.specs.run.Steps.{may_start}
 use Rattle.odb_engine.specs.declared.live.LiveRun.{LiveRun}
-use Rattle.odb_ffi.specs.Positions.{GivesPositions}
-use Rattle.odb_ffi.proofs.PositionLemmas.{given-by}
+use Rattle.odb_calls.specs.Positions.{GivesPositions}
+use Rattle.odb_calls.proofs.PositionLemmas.{given-by}
 use Rattle.odb_ffi.proofs.run_exports.odb_run_ready.Goals as goal
 
 pub returns-clause-positions : goal.returns-clause-positions

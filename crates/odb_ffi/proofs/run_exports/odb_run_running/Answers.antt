@@ -3,8 +3,8 @@ use Rattle.odb_dense.specs.Lists.{ListsOnce}
 use Rattle.odb_sched.specs.run.State.{State, is_running, phase_at, size}
 use Rattle.odb_sched.specs.run.Steps.{places}
 use Rattle.odb_engine.specs.declared.live.LiveRun.{LiveRun}
-use Rattle.odb_ffi.specs.Positions.{GivesPositions}
-use Rattle.odb_ffi.proofs.PositionLemmas.{counted-by, given-by}
+use Rattle.odb_calls.specs.Positions.{GivesPositions}
+use Rattle.odb_calls.proofs.PositionLemmas.{counted-by, given-by}
 use Rattle.odb_ffi.proofs.run_exports.odb_run_running.Goals as goal
 
 pub returns-clause-positions : goal.returns-clause-positions

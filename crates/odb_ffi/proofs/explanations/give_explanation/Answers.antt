@@ -1,7 +1,0 @@
--- The text that is given is the explanation.
-use Rattle.std.proofs.Common.{sym}
-use Rattle.odb_ffi.specs.Explanations.Explains.{Explained}
-use Rattle.odb_ffi.proofs.explanations.give_explanation.Goals as goal
-
-pub returns-in-Some : goal.returns-in-Some
-returns-in-Some c = Explained c.in-Some.found.now (sym c.in-Some.ensures) c.give_text.ensures

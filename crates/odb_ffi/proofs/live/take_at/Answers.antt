@@ -1,6 +1,0 @@
-use Rattle.std.proofs.Common.{rules}
-use Rattle.odb_ffi.specs.Live.TakesAt.{Tried}
-use Rattle.odb_ffi.proofs.live.take_at.Goals as goal
-
-pub returns : goal.returns
-returns c = Tried (search rules) c.take.ensures

@@ -1,6 +1,0 @@
-use Rattle.std.proofs.Common.{rules}
-use Rattle.odb_ffi.specs.Responses.{response_of}
-use Rattle.odb_ffi.proofs.responses.give_responses.Goals as goal
-
-pub returns : goal.returns
-returns c = rw (c.as_str.ensures.value, c.deref.ensures.value) at (c.give_made.ensures response_of (λ item t post. search rules))
