@@ -17,6 +17,7 @@ mod CanonLawLemmas
 mod MatchLawLemmas
 mod RestLawLemmas
 mod LiveLemmas
+pub mod OpenedLemmas
 mod LivePartLemmas
 mod RequestLemmas
 mod ReplyLemmas

@@ -1,5 +1,4 @@
 mod LawLemmas
 mod MemoryLemmas
-mod PartLemmas
 mod ReplayedLemmas
 mod WrittenLemmas

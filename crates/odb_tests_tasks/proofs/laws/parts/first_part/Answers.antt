@@ -6,7 +6,7 @@ use Rattle.odb_sched.specs.run.Steps.{is_finished}
 use Rattle.odb_engine.specs.Cascade.{Accepts}
 use Rattle.odb_engine.specs.LiveParts.{IsPartIn}
 use Rattle.odb_engine.specs.declared.live.parts.Part.{Part}
-use Rattle.odb_tests_tasks.proofs.PartLemmas.{idle-first, none-listed, opened-first, same-events}
+use Rattle.odb_engine.proofs.OpenedLemmas.{idle-first, none-listed, opened-first, same-events}
 use Rattle.odb_tests_tasks.proofs.laws.parts.first_part.Goals as goal
 
 pub returns-in-Ok-Some : goal.returns-in-Ok-Some

@@ -4,7 +4,7 @@ use Rattle.odb_engine.specs.Live.{Live}
 use Rattle.odb_engine.specs.LiveParts.{IsPartIn, with_part}
 use Rattle.odb_engine.specs.declared.live.parts.Part.{Part}
 use Rattle.odb_sched.specs.run.State.{size}
-use Rattle.odb_tests_tasks.proofs.PartLemmas.{opened-marks, opened-size, same-length}
+use Rattle.odb_engine.proofs.OpenedLemmas.{opened-marks, opened-size, same-length}
 use Rattle.odb_tests_tasks.proofs.laws.parts.gives.Goals as goal
 
 pub returns : goal.returns

@@ -5,7 +5,7 @@ use Rattle.odb_sched.specs.run.State.{size}
 use Rattle.odb_engine.specs.Live.{Live}
 use Rattle.odb_engine.specs.LiveParts.{IsPartIn, with_part}
 use Rattle.odb_engine.specs.declared.live.parts.Part.{Part}
-use Rattle.odb_tests_tasks.proofs.PartLemmas.{labels-length}
+use Rattle.odb_engine.proofs.OpenedLemmas.{labels-length}
 use Rattle.odb_tests_tasks.proofs.laws.parts.gives_more.Goals as goal
 
 pub returns-clause-kept : goal.returns-clause-kept

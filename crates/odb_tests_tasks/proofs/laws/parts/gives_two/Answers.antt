@@ -1,6 +1,6 @@
 use Rattle.std.proofs.Common.{◌≡◌, ℕ, true, Contains}
 use Rattle.odb_send.specs.Units.{marked}
-use Rattle.odb_tests_tasks.proofs.PartLemmas.{given-sizes}
+use Rattle.odb_engine.proofs.OpenedLemmas.{given-sizes}
 use Rattle.odb_tests_tasks.proofs.laws.parts.gives_two.Goals as goal
 
 pub gives_more-requires-clause-labels : goal.gives_more-requires-clause-labels

@@ -6,7 +6,7 @@ use Rattle.odb_sched.specs.run.Steps.{is_finished}
 use Rattle.odb_engine.specs.Live.{IsOpened}
 use Rattle.odb_engine.specs.LiveParts.{IsPartIn}
 use Rattle.odb_engine.specs.declared.live.parts.Part.{Part}
-use Rattle.odb_tests_tasks.proofs.PartLemmas.{ListsOnce, idle-alone, opened-graph, same-requests}
+use Rattle.odb_engine.proofs.OpenedLemmas.{ListsOnce, idle-alone, opened-graph, same-requests}
 use Rattle.odb_tests_tasks.proofs.laws.parts.next_alone.Goals as goal
 
 pub returns-in-Ok-Some : goal.returns-in-Ok-Some
