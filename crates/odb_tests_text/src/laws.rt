@@ -6,3 +6,5 @@ mod resends;
 mod rests;
 mod texts;
 mod units;
+
+pub use resends::text_of_rest;

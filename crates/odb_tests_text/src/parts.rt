@@ -1,10 +1,15 @@
 //! The parts of batches, with ample memory: which requests may be sent together, and their text.
 
-use odb_check::check;
-use odb_doc::{Batch, parse};
+ghost use Rattle.std.specs.Prelude.{◌≡◌, length};
+ghost use Rattle.serde_json.specs.View.{view};
+ghost use Rattle.odb_check.specs.Plans.{plan_records};
+ghost use Rattle.odb_send.specs.Parts.{IsBatchIn};
+
+use crate::documents::{OnBatch, holds_of};
+use odb_check::Plan;
 use odb_sched::RequestState;
 use odb_send::{Recorded, part_of, rest_text};
-use odb_testing::fail::Fail as Failed;
+use serde_json::Value;
 use std::alloc::{AllocError, Global};
 use std::rt::HostRuntime;
 use std::test::Fail;
@@ -219,7 +224,7 @@ fn state_of(letter: u8) -> RequestState {
 }
 
 /// Returns the states that letters stand for.
-pub fn states_of(alloc: Global, letters: &str) -> Result<Vec<RequestState>, AllocError> {
+fn states_of(alloc: Global, letters: &str) -> Result<Vec<RequestState>, AllocError> {
     let mut states = Vec::with_capacity(alloc, letters.len())?;
     for letter in letters.as_bytes() {
         states.push(state_of(*letter))?;
@@ -228,7 +233,7 @@ pub fn states_of(alloc: Global, letters: &str) -> Result<Vec<RequestState>, Allo
 }
 
 /// Returns what answers record.
-pub fn answers_of(alloc: Global, pairs: &[Pair]) -> Result<Vec<Recorded<'static>>, AllocError> {
+fn answers_of(alloc: Global, pairs: &[Pair]) -> Result<Vec<Recorded<'static>>, AllocError> {
     let mut answers = Vec::with_capacity(alloc, pairs.len())?;
     for pair in pairs {
         answers.push(Recorded {
@@ -239,31 +244,73 @@ pub fn answers_of(alloc: Global, pairs: &[Pair]) -> Result<Vec<Recorded<'static>
     Ok(answers)
 }
 
-/// Returns the text of the next part of the batch of a row.
-fn part_in(alloc: Global, row: &Row) -> Result<String, Failed> {
-    let (batch, letters, limit, pairs, _) = *row;
-    let document = batch.as_bytes();
-    let value = parse(alloc, document)?;
-    let batch = Batch::read(alloc, &value)?;
-    let plan = check(alloc, &batch)?;
+/// The states of requests, and what their answers record.
+type Moment = (Vec<RequestState>, Vec<Recorded<'static>>);
+
+/// Returns the states that letters stand for, and what answers record.
+pub fn moment_of(alloc: Global, letters: &str, pairs: &[Pair]) -> Result<Moment, AllocError> {
     let states = states_of(alloc, letters)?;
     let answers = answers_of(alloc, pairs)?;
-    if states.len() != plan.len() as usize || answers.len() != plan.len() as usize {
-        return Err(Failed);
+    Ok((states, answers))
+}
+
+/// Returns the text of the next part of a batch.
+fn text_of_part(
+    alloc: Global,
+    document: &[u8],
+    value: &Value,
+    plan: &Plan<'_>,
+    states: &[RequestState],
+    limit: u32,
+    answers: &[Recorded<'_>],
+) -> Option<String>
+    requires document { IsBatchIn document.now (view value.now) (plan_records plan.now) }
+    requires states { length states.now ≡ length (plan_records plan.now) }
+    requires answers { length answers.now ≡ length (plan_records plan.now) }
+{
+    let _value = value;
+    let part = part_of(alloc, plan, states, limit, answers).ok()?;
+    rest_text(alloc, document, plan, &part).ok()
+}
+
+/// The next part of the batch of a row.
+#[derive(Drop)]
+struct NextPart<'a>(&'a Row);
+
+impl NextPart<'_> {
+    /// Whether its text is that of the row.
+    fn has_text(
+        &self,
+        alloc: Global,
+        document: &[u8],
+        value: &Value,
+        plan: &Plan<'_>,
+        states: &[RequestState],
+        answers: &[Recorded<'_>],
+    ) -> bool
+        requires document { IsBatchIn document.now (view value.now) (plan_records plan.now) }
+    {
+        let (_, _, limit, _, wanted) = *self.0;
+        if states.len() != plan.len() as usize || answers.len() != plan.len() as usize {
+            return false;
+        }
+        text_of_part(alloc, document, value, plan, states, limit, answers).as_deref() == wanted
     }
-    let part = part_of(alloc, &plan, &states, limit, &answers)?;
-    Ok(rest_text(alloc, document, &plan, &part)?)
+}
+
+impl OnBatch for NextPart<'_> {
+    fn holds(&self, alloc: Global, document: &[u8], value: &Value, plan: &Plan<'_>) -> bool {
+        match moment_of(alloc, self.0.1, self.0.3) {
+            Ok((states, answers)) => self.has_text(alloc, document, value, plan, &states, &answers),
+            Err(_) => false,
+        }
+    }
 }
 
 #[test]
 fn makes_each_part(rt: HostRuntime) -> Result<(), Fail> {
     for row in ROWS {
-        let is_wanted = match (part_in(rt.alloc(), row), row.4) {
-            (Ok(text), Some(want)) => text.as_str() == want,
-            (Err(_), None) => true,
-            _ => false,
-        };
-        if !is_wanted {
+        if !holds_of(rt.alloc(), row.0, &NextPart(row)) {
             return Err(Fail::new(row.0));
         }
     }

@@ -1,10 +1,10 @@
 //! The rest of batches, with ample memory: what may be sent again by the responses of a service.
 
-use odb_check::check;
-use odb_doc::{Batch, parse};
-use odb_reply::{Responses, match_responses};
-use odb_send::{rest_of, rest_text};
-use odb_testing::fail::Fail as Failed;
+use crate::documents::{OnResponses, holds_of_responses};
+use crate::laws::text_of_rest;
+use odb_check::Plan;
+use odb_reply::{Responses, Table};
+use serde_json::Value;
 use std::alloc::Global;
 use std::rt::HostRuntime;
 use std::test::Fail;
@@ -87,28 +87,33 @@ const ROWS: &[Row] = &[
     ),
 ];
 
-/// Returns the text of the rest of a batch by the responses to it.
-fn rest_in(alloc: Global, batch: &str, responses: &str) -> Result<String, Failed> {
-    let document = batch.as_bytes();
-    let value = parse(alloc, document)?;
-    let batch = Batch::read(alloc, &value)?;
-    let plan = check(alloc, &batch)?;
-    let given = parse(alloc, responses.as_bytes())?;
-    let responses = Responses::read(alloc, &given)?;
-    let table = match_responses(alloc, &plan, &responses)?;
-    let rest = rest_of(alloc, &plan, &table, &given)?;
-    Ok(rest_text(alloc, document, &plan, &rest)?)
+/// The text of the rest, if there is one.
+#[derive(Drop)]
+struct RestText(Option<&'static str>);
+
+impl OnResponses for RestText {
+    fn holds(
+        &self,
+        alloc: Global,
+        document: &[u8],
+        value: &Value,
+        plan: &Plan<'_>,
+        given: &Value,
+        _responses: &Responses<'_>,
+        table: &Table,
+    ) -> bool {
+        match text_of_rest(alloc, document, value, plan, table, given) {
+            Some(Ok(text)) => Some(text.as_str()) == self.0,
+            Some(Err(_)) => self.0.is_none(),
+            None => false,
+        }
+    }
 }
 
 #[test]
 fn makes_the_rest(rt: HostRuntime) -> Result<(), Fail> {
-    for (batch, responses, want) in ROWS {
-        let is_wanted = match (rest_in(rt.alloc(), batch, responses), want) {
-            (Ok(text), Some(want)) => text.as_str() == *want,
-            (Err(_), None) => true,
-            _ => false,
-        };
-        if !is_wanted {
+    for (batch, responses, wanted) in ROWS {
+        if !holds_of_responses(rt.alloc(), batch, responses, &RestText(*wanted)) {
             return Err(Fail::new(batch));
         }
     }

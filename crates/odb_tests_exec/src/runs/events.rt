@@ -75,13 +75,18 @@ impl Row {
         Ok(self.end.is_some())
     }
 
-    /// Whether a scheduler that is driven by hand allows each event what is listed, and then shows
-    /// what is listed.
+    /// Whether a scheduler allows each event what is listed, and then shows what is listed.
+    fn is_driven(&self, alloc: Global, plan: &Plan<'_>, scheduler: &mut Scheduler<'_>) -> bool
+        requires { size scheduler.old ≡ length (plan_records plan.now) }
+    {
+        are_allowed(alloc, plan, scheduler, self.events) && is_shown(scheduler, self.views)
+    }
+
+    /// Whether a scheduler that is driven by hand does so, and the run ends as is listed.
     fn holds_by_hand(&self, alloc: Global, plan: &Plan<'_>, policy: Policy) -> bool {
         match Scheduler::new(alloc, plan, policy) {
             Ok(mut scheduler) => {
-                are_allowed(alloc, plan, &mut scheduler, self.events)
-                    && is_shown(&scheduler, self.views)
+                self.is_driven(alloc, plan, &mut scheduler)
                     && ended(alloc, scheduler, self).unwrap_or(self.end.is_none())
             }
             Err(_) => false,

@@ -4,8 +4,8 @@
 use super::{PASSED_ON, outcome, policy};
 use odb_check::Plan;
 use odb_sched::Mode::{self, Continue, Stop};
-use odb_sched::OwnedRun;
 use odb_sched::RequestState::{self, Ready, Reported, Running, Skipped, Waiting};
+use odb_sched::{OwnedRun, Policy};
 use odb_testing::plans::{OnPlan, holds_of};
 use std::alloc::Global;
 
@@ -172,20 +172,37 @@ fn are_adjacent(run: &OwnedRun) -> bool {
     next == run.len()
 }
 
-impl OnPlan for Course {
-    fn holds(&self, alloc: Global, plan: &Plan<'_>) -> bool {
-        let Ok(mut run) = OwnedRun::new(alloc, plan, policy(self.mode, self.width)) else {
-            return false;
-        };
-        if run.next_unit() != Some(0) || !are_adjacent(&run) {
+/// What a test asks of a new run.
+trait OnRun {
+    /// Whether it holds. A call that runs out of memory does not hold.
+    fn holds_on(&self, alloc: Global, run: &mut OwnedRun) -> bool;
+}
+
+/// Whether it holds of a new run of the plan.
+fn holds_on_new<T: OnRun>(alloc: Global, plan: &Plan<'_>, policy: Policy, task: &T) -> bool {
+    match OwnedRun::new(alloc, plan, policy) {
+        Ok(mut run) => task.holds_on(alloc, &mut run),
+        Err(_) => false,
+    }
+}
+
+impl OnRun for Course {
+    fn holds_on(&self, alloc: Global, run: &mut OwnedRun) -> bool {
+        if run.next_unit() != Some(0) || !are_adjacent(run) {
             return false;
         }
         for row in self.rows {
-            if !goes_on(alloc, &mut run, row) {
+            if !goes_on(alloc, run, row) {
                 return false;
             }
         }
         run.is_finished()
+    }
+}
+
+impl OnPlan for Course {
+    fn holds(&self, alloc: Global, plan: &Plan<'_>) -> bool {
+        holds_on_new(alloc, plan, policy(self.mode, self.width), self)
     }
 }
 
@@ -239,12 +256,15 @@ struct AskedLate {
     unit: Option<u32>,
 }
 
+impl OnRun for AskedLate {
+    fn holds_on(&self, alloc: Global, run: &mut OwnedRun) -> bool {
+        takes_all(alloc, run, self.events) && run.next_unit() == self.unit
+    }
+}
+
 impl OnPlan for AskedLate {
     fn holds(&self, alloc: Global, plan: &Plan<'_>) -> bool {
-        let Ok(mut run) = OwnedRun::new(alloc, plan, policy(Continue, 0)) else {
-            return false;
-        };
-        takes_all(alloc, &mut run, self.events) && run.next_unit() == self.unit
+        holds_on_new(alloc, plan, policy(Continue, 0), self)
     }
 }
 
@@ -289,21 +309,21 @@ struct Refused {
     code: &'static str,
 }
 
-impl OnPlan for Refused {
-    fn holds(&self, alloc: Global, plan: &Plan<'_>) -> bool {
-        let Ok(mut run) = OwnedRun::new(alloc, plan, policy(Continue, self.width)) else {
-            return false;
-        };
-        if !takes_all(alloc, &mut run, self.events) {
-            return false;
-        }
-        if self.unit >= run.unit_count() {
+impl OnRun for Refused {
+    fn holds_on(&self, alloc: Global, run: &mut OwnedRun) -> bool {
+        if !takes_all(alloc, run, self.events) || self.unit >= run.unit_count() {
             return false;
         }
         match run.start_unit(self.unit) {
             Ok(()) => false,
             Err(cause) => cause.code() == self.code,
         }
+    }
+}
+
+impl OnPlan for Refused {
+    fn holds(&self, alloc: Global, plan: &Plan<'_>) -> bool {
+        holds_on_new(alloc, plan, policy(Continue, self.width), self)
     }
 }
 

@@ -9,16 +9,15 @@ ghost use Rattle.odb_send.specs.Rests.{kept, records_in};
 ghost use Rattle.odb_send.specs.Units.{AreMarksOf, IsWhole};
 ghost use Rattle.odb_tests_text.specs.Parts.{GoesOn};
 
-use crate::parts::{DIAMOND, GROUP, NONE, answers_of, states_of};
+use crate::parts::{DIAMOND, GROUP, NONE, moment_of};
+use odb_check::Plan;
 use odb_check::laws::every_plan;
-use odb_check::{Plan, check};
 use odb_doc::status::is_success;
-use odb_doc::{Batch, parse};
 use odb_sched::RequestState;
 use odb_send::laws::every_part;
 use odb_send::{Recorded, Rest, fits_limit, part_of, positions_of};
 use odb_testing::Two;
-use odb_testing::fail::Fail as Failed;
+use odb_testing::plans::{OnPlan, holds_of};
 use std::alloc::{AllocError, Global};
 use std::test::Fail;
 
@@ -210,41 +209,96 @@ const ROWS: &[Row] = &[
 ];
 
 /// Whether a part has these requests.
-fn has(found: Option<Found>, positions: &[u32]) -> bool {
+fn has(found: &Option<Found>, positions: &[u32]) -> bool {
     match found {
         Some(found) => found.1.as_slice() == positions,
         None => false,
     }
 }
 
-/// Whether the next part of the batch of a row has the requests of the row, whichever call makes it.
-fn is_part(alloc: Global, row: &Row) -> Result<bool, Failed> {
-    let (document, letters, limit, positions, goes) = *row;
-    let value = parse(alloc, document.as_bytes())?;
-    let batch = Batch::read(alloc, &value)?;
-    let plan = check(alloc, &batch)?;
-    let states = states_of(alloc, letters)?;
-    let answers = answers_of(alloc, &[NONE, NONE, NONE, NONE])?;
-    if states.len() != plan.len() as usize || answers.len() != plan.len() as usize {
-        return Err(Failed);
+/// The next part of the batch of a row, which has the requests of the row, whichever call makes it.
+#[derive(Drop)]
+struct NextPart<'a>(&'a Row);
+
+impl NextPart<'_> {
+    fn is_one(
+        &self,
+        alloc: Global,
+        plan: &Plan<'_>,
+        states: &[RequestState],
+        answers: &[Recorded<'_>],
+    ) -> bool
+        requires states { length states.now ≡ length (plan_records plan.now) }
+        requires answers { length answers.now ≡ length (plan_records plan.now) }
+    {
+        let both = part_twice(alloc, plan, states, self.0.2, answers);
+        has(&both.0, self.0.3) && has(&both.1, self.0.3)
     }
-    let (one, other) = part_twice(alloc, &plan, &states, limit, &answers);
-    let sound = sound_part(alloc, &plan, &states, limit, &answers);
-    let next = next_part(alloc, &plan, &states, limit, &answers);
-    let is_next = if goes {
-        has(next, positions)
-    } else {
-        next.is_none()
-    };
-    Ok(is_next && has(one, positions) && has(other, positions) && has(sound, positions))
+
+    fn is_sound(
+        &self,
+        alloc: Global,
+        plan: &Plan<'_>,
+        states: &[RequestState],
+        answers: &[Recorded<'_>],
+    ) -> bool
+        requires states { length states.now ≡ length (plan_records plan.now) }
+        requires answers { length answers.now ≡ length (plan_records plan.now) }
+    {
+        has(
+            &sound_part(alloc, plan, states, self.0.2, answers),
+            self.0.3,
+        )
+    }
+
+    fn is_next(
+        &self,
+        alloc: Global,
+        plan: &Plan<'_>,
+        states: &[RequestState],
+        answers: &[Recorded<'_>],
+    ) -> bool
+        requires states { length states.now ≡ length (plan_records plan.now) }
+        requires answers { length answers.now ≡ length (plan_records plan.now) }
+    {
+        let next = next_part(alloc, plan, states, self.0.2, answers);
+        if self.0.4 {
+            has(&next, self.0.3)
+        } else {
+            next.is_none()
+        }
+    }
+
+    fn is_part(
+        &self,
+        alloc: Global,
+        plan: &Plan<'_>,
+        states: &[RequestState],
+        answers: &[Recorded<'_>],
+    ) -> bool {
+        if states.len() != plan.len() as usize || answers.len() != plan.len() as usize {
+            return false;
+        }
+        self.is_one(alloc, plan, states, answers)
+            && self.is_sound(alloc, plan, states, answers)
+            && self.is_next(alloc, plan, states, answers)
+    }
+}
+
+impl OnPlan for NextPart<'_> {
+    fn holds(&self, alloc: Global, plan: &Plan<'_>) -> bool {
+        match moment_of(alloc, self.0.1, &[NONE, NONE, NONE, NONE]) {
+            Ok((states, answers)) => self.is_part(alloc, plan, &states, &answers),
+            Err(_) => false,
+        }
+    }
 }
 
 #[test]
 fn a_part_has_what_may_go(rt: HostRuntime) -> Result<(), Fail> {
     for row in ROWS {
-        match is_part(rt.alloc(), row) {
-            Ok(true) => {}
-            _ => return Err(Fail::new(row.1)),
+        if !holds_of(rt.alloc(), row.0, &NextPart(row)) {
+            return Err(Fail::new(row.1));
         }
     }
     Ok(())

@@ -15,6 +15,7 @@ ghost use Rattle.odb_send.specs.Parts.{IsBatchIn};
 ghost use Rattle.odb_testing.specs.Readings.{IsReading, IsSame};
 ghost use Rattle.odb_tests_text.specs.Rests.{HasNoRest, HasRestText};
 
+use crate::documents::{OnResponses, holds_of_responses};
 use odb_check::laws::every_plan;
 use odb_check::{Plan, check};
 use odb_doc::{Batch, Fault, parse};
@@ -22,13 +23,12 @@ use odb_reply::{Responses, Table, match_responses};
 use odb_send::laws::{every_resending, every_text, one_rest};
 use odb_send::{RestFault, rest_of, rest_text};
 use odb_testing::Two;
-use odb_testing::fail::Fail as Failed;
 use serde_json::Value;
 use std::alloc::Global;
 use std::test::Fail;
 
 /// Makes the text of the rest of a batch, unless memory runs out.
-fn text_of_rest(
+pub fn text_of_rest(
     alloc: Global,
     document: &[u8],
     value: &Value,
@@ -177,25 +177,33 @@ fn are(both: &Two<Result<String, RestFault>>, wanted: &str) -> bool {
     }
 }
 
-/// Whether the rest of the batch is made alike twice.
-fn is_made_twice(alloc: Global, given: &str, wanted: &str) -> Result<bool, Failed> {
-    let document = BATCH.as_bytes();
-    let value = parse(alloc, document)?;
-    let batch = Batch::read(alloc, &value)?;
-    let plan = check(alloc, &batch)?;
-    let given = parse(alloc, given.as_bytes())?;
-    let responses = Responses::read(alloc, &given)?;
-    let table = match_responses(alloc, &plan, &responses)?;
-    let both = rest_twice(alloc, document, &value, &plan, &table, &given);
-    Ok(are(&both, wanted))
+/// The text of the rest, or the code of the fault by which there is none.
+#[derive(Drop)]
+struct MadeTwice(&'static str);
+
+impl OnResponses for MadeTwice {
+    fn holds(
+        &self,
+        alloc: Global,
+        document: &[u8],
+        value: &Value,
+        plan: &Plan<'_>,
+        given: &Value,
+        _responses: &Responses<'_>,
+        table: &Table,
+    ) -> bool {
+        are(
+            &rest_twice(alloc, document, value, plan, table, given),
+            self.0,
+        )
+    }
 }
 
 #[test]
 fn a_rest_is_one(rt: HostRuntime) -> Result<(), Fail> {
     for (given, wanted) in RESTS {
-        match is_made_twice(rt.alloc(), given, wanted) {
-            Ok(true) => {}
-            _ => return Err(Fail::new(wanted)),
+        if !holds_of_responses(rt.alloc(), BATCH, given, &MadeTwice(wanted)) {
+            return Err(Fail::new(wanted));
         }
     }
     Ok(())
@@ -214,25 +222,56 @@ const ANSWERS: &[(&str, bool)] = &[
     ),
 ];
 
-/// Whether these responses fit the rest of the batch.
-fn are_resent(alloc: Global, answers: &str) -> Result<bool, Failed> {
-    let document = BATCH.as_bytes();
-    let value = parse(alloc, document)?;
-    let batch = Batch::read(alloc, &value)?;
-    let plan = check(alloc, &batch)?;
-    let given = parse(alloc, UNAVAILABLE.as_bytes())?;
-    let responses = Responses::read(alloc, &given)?;
-    let answers = parse(alloc, answers.as_bytes())?;
-    let others = Responses::read(alloc, &answers)?;
-    Ok(fits_resent(alloc, document, &value, &plan, &responses, &given, &others))
+/// Responses to the rest of the batch, and whether they fit it.
+#[derive(Drop)]
+struct Resent(&'static str, bool);
+
+impl Resent {
+    /// Whether the responses in a value fit the rest, or do not, as is asked for.
+    fn holds_of(
+        &self,
+        alloc: Global,
+        document: &[u8],
+        value: &Value,
+        plan: &Plan<'_>,
+        responses: &Responses<'_>,
+        given: &Value,
+        answers: &Value,
+    ) -> bool
+        requires document { IsBatchIn document.now (view value.now) (plan_records plan.now) }
+        requires shaped { IsWellShaped (view value.now) }
+    {
+        match Responses::read(alloc, answers) {
+            Ok(others) => fits_resent(alloc, document, value, plan, responses, given, &others)
+                == self.1,
+            Err(_) => false,
+        }
+    }
+}
+
+impl OnResponses for Resent {
+    fn holds(
+        &self,
+        alloc: Global,
+        document: &[u8],
+        value: &Value,
+        plan: &Plan<'_>,
+        given: &Value,
+        responses: &Responses<'_>,
+        _table: &Table,
+    ) -> bool {
+        match parse(alloc, self.0.as_bytes()) {
+            Ok(answers) => self.holds_of(alloc, document, value, plan, responses, given, &answers),
+            Err(_) => false,
+        }
+    }
 }
 
 #[test]
 fn responses_to_a_rest_fit_the_batch(rt: HostRuntime) -> Result<(), Fail> {
     for (answers, fit) in ANSWERS {
-        match are_resent(rt.alloc(), answers) {
-            Ok(found) if found == *fit => {}
-            _ => return Err(Fail::new(answers)),
+        if !holds_of_responses(rt.alloc(), BATCH, UNAVAILABLE, &Resent(answers, *fit)) {
+            return Err(Fail::new(answers));
         }
     }
     Ok(())

@@ -15,10 +15,12 @@ ghost use Rattle.odb_text.specs.Results.{fault_value, plan_value};
 ghost use Rattle.odb_text.specs.SamePlans.{IsSamePlan};
 ghost use Rattle.odb_text.specs.Labels.{IsOneString};
 
+use crate::documents::{OnBatch, holds_of};
 use odb_check::{Need, Plan, check};
 use odb_doc::text::push_quoted;
 use odb_doc::{Batch, Place, Refusal, parse};
 use odb_testing::PAIR;
+use odb_testing::plans::{self, OnPlan};
 use odb_text::laws::{every_arrow, every_label, every_line, every_result, one_plan};
 use odb_text::{Located, drawing_text, fault_json, plan_json};
 use serde_json::Value;
@@ -48,7 +50,7 @@ fn fault_read(alloc: Global, refusal: Refusal) -> Option<Value>
 }
 
 /// Returns whether two plans have one line of JSON, and so are the same.
-fn are_alike(alloc: Global, plan: &Plan<'_>, other: &Plan<'_>) -> Option<bool>
+fn are_alike<'b>(alloc: Global, plan: &Plan<'b>, other: &Plan<'b>) -> Option<bool>
     ensures { IfSome result (λ alike. alike ≡ true
         → IsSamePlan (plan_records plan.now) (plan_records other.now)) }
 {
@@ -128,29 +130,49 @@ fn count_with(text: &str, word: &str) -> usize {
     text.lines().filter(|line| line.contains(word)).count()
 }
 
-/// Whether the drawing of a batch of two requests, of which one depends on the other, has two nodes and an arrow.
-fn is_drawn(alloc: Global, bytes: &[u8]) -> Option<bool> {
-    let value = parse(alloc, bytes).ok()?;
-    let batch = Batch::read(alloc, &value).ok()?;
-    let plan = check(alloc, &batch).ok()?;
-    let text = drawing_of(alloc, &plan)?;
-    let drawn = text.as_str();
-    Some(count_with(drawn, " [label=") == 2 && count_with(drawn, "  0 -> 1") == 1)
+/// The drawing of a plan, which has as many nodes, and as many arrows with this text.
+#[derive(Drop)]
+struct Drawing {
+    nodes: usize,
+    arrow: &'static str,
+    arrows: usize,
 }
 
-/// Whether the texts of the plan of a batch, and of its plan again, are as the laws have it.
-fn is_read_again(alloc: Global, bytes: &[u8]) -> Option<bool> {
-    let value = parse(alloc, bytes).ok()?;
-    let batch = Batch::read(alloc, &value).ok()?;
-    let plan = check(alloc, &batch).ok()?;
-    let read = plan_read(alloc, &plan)?;
-    let alike = are_alike(alloc, &plan, &plan)? && have_one_text(alloc, &value, &value)?;
-    Some(alike && read.is_object())
+impl OnPlan for Drawing {
+    fn holds(&self, alloc: Global, plan: &Plan<'_>) -> bool {
+        match drawing_of(alloc, plan) {
+            Some(text) => {
+                count_with(text.as_str(), " [label=") == self.nodes
+                    && count_with(text.as_str(), self.arrow) == self.arrows
+            }
+            None => false,
+        }
+    }
+}
+
+/// The texts of a plan, which are as the laws have it of the plan and itself.
+#[derive(Drop)]
+struct ReadAgain;
+
+impl OnBatch for ReadAgain {
+    fn holds(&self, alloc: Global, _document: &[u8], value: &Value, plan: &Plan<'_>) -> bool {
+        is_read(alloc, plan)
+            && are_alike(alloc, plan, plan) == Some(true)
+            && have_one_text(alloc, value, value) == Some(true)
+    }
+}
+
+/// Whether the line of a plan as JSON is read as an object.
+fn is_read(alloc: Global, plan: &Plan<'_>) -> bool {
+    match plan_read(alloc, plan) {
+        Some(read) => read.is_object(),
+        None => false,
+    }
 }
 
 #[test]
 fn texts_as_json_are_read_again(rt: HostRuntime) {
-    assert!(rt; is_read_again(rt.alloc(), PAIR.as_bytes()) == Some(true));
+    assert!(rt; holds_of(rt.alloc(), PAIR, &ReadAgain));
     let refusal = Refusal {
         code: "F02",
         name: "NotJson",
@@ -171,27 +193,33 @@ const GROUP: &str = r#"{"requests":[{"id":"a","method":"get","url":"A"},
     {"id":"c","atomicityGroup":"g","method":"get","url":"C"},
     {"id":"d","method":"get","url":"D","dependsOn":["g"]}]}"#;
 
-/// Returns what the request at a position of the batch depends on.
-fn needed_in(alloc: Global, bytes: &[u8], i: u32) -> Option<Need> {
-    let value = parse(alloc, bytes).ok()?;
-    let batch = Batch::read(alloc, &value).ok()?;
-    let plan = check(alloc, &batch).ok()?;
-    if i < plan.len() {
-        needed(&plan, i, 0)
-    } else {
-        None
+/// What the request at a position depends on first.
+#[derive(Drop)]
+struct FirstNeed(u32, Option<Need>);
+
+impl OnPlan for FirstNeed {
+    fn holds(&self, _alloc: Global, plan: &Plan<'_>) -> bool {
+        self.0 < plan.len() && needed(plan, self.0, 0) == self.1
     }
 }
 
 #[test]
 fn an_arrow_begins_at_what_is_needed(rt: HostRuntime) {
-    let (alloc, batch) = (rt.alloc(), GROUP.as_bytes());
-    assert!(rt; needed_in(alloc, batch, 0) == None);
-    assert!(rt; needed_in(alloc, batch, 1) == Some(Need::One(0)));
-    assert!(rt; needed_in(alloc, batch, 3) == Some(Need::Group(1)));
+    for (i, need) in [
+        (0, None),
+        (1, Some(Need::One(0))),
+        (3, Some(Need::Group(1))),
+    ] {
+        assert!(rt; plans::holds_of(rt.alloc(), GROUP, &FirstNeed(i, need)));
+    }
 }
 
 #[test]
 fn a_drawing_has_a_node_for_each_request(rt: HostRuntime) {
-    assert!(rt; is_drawn(rt.alloc(), PAIR.as_bytes()) == Some(true));
+    let drawing = Drawing {
+        nodes: 2,
+        arrow: "  0 -> 1",
+        arrows: 1,
+    };
+    assert!(rt; plans::holds_of(rt.alloc(), PAIR, &drawing));
 }

@@ -13,14 +13,13 @@ ghost use Rattle.odb_send.specs.NextPart.{IsPartOf, positions_in};
 ghost use Rattle.odb_send.specs.Rests.{IsRestOf, kept, records_in};
 ghost use Rattle.odb_tests_text.specs.Units.{HasFate};
 
+use crate::documents::{OnResponses, holds_of_responses};
+use odb_check::Plan;
 use odb_check::laws::every_plan;
-use odb_check::{Plan, check};
 use odb_doc::status::is_success;
-use odb_doc::{Batch, parse};
-use odb_reply::{Responses, Table, match_responses};
+use odb_reply::{Responses, Table};
 use odb_send::laws::{every_part, every_rest, every_unit};
 use odb_send::{Rest, positions_of, rest_of};
-use odb_testing::fail::Fail as Failed;
 use serde_json::Value;
 use std::alloc::Global;
 use std::test::Fail;
@@ -231,28 +230,32 @@ fn is_rest(
     }
 }
 
-/// Whether each request of the batch has its letter by the responses of a row, and the rest the requests of the row.
-fn holds(alloc: Global, row: &Row) -> Result<bool, Failed> {
-    let (given, letters, positions) = *row;
-    let value = parse(alloc, BATCH.as_bytes())?;
-    let batch = Batch::read(alloc, &value)?;
-    let plan = check(alloc, &batch)?;
-    let given = parse(alloc, given.as_bytes())?;
-    let responses = Responses::read(alloc, &given)?;
-    let table = match_responses(alloc, &plan, &responses)?;
-    let all_done = letters == ALL_DONE;
-    Ok(
-        have_letters(alloc, &plan, &responses, &table, &given, letters.as_bytes())
-            && is_rest(alloc, &plan, &table, &given, positions, all_done),
-    )
+/// What becomes of each request by the responses of a row, and the rest, which has the requests of the row.
+#[derive(Drop)]
+struct Fates<'a>(&'a Row);
+
+impl OnResponses for Fates<'_> {
+    fn holds(
+        &self,
+        alloc: Global,
+        _document: &[u8],
+        _value: &Value,
+        plan: &Plan<'_>,
+        given: &Value,
+        responses: &Responses<'_>,
+        table: &Table,
+    ) -> bool {
+        let (_, letters, positions) = *self.0;
+        have_letters(alloc, plan, responses, table, given, letters.as_bytes())
+            && is_rest(alloc, plan, table, given, positions, letters == ALL_DONE)
+    }
 }
 
 #[test]
 fn each_unit_is_done_in_the_rest_or_left_out(rt: HostRuntime) -> Result<(), Fail> {
     for row in ROWS {
-        match holds(rt.alloc(), row) {
-            Ok(true) => {}
-            _ => return Err(Fail::new(row.1)),
+        if !holds_of_responses(rt.alloc(), BATCH, row.0, &Fates(row)) {
+            return Err(Fail::new(row.1));
         }
     }
     Ok(())
