@@ -1,7 +1,7 @@
 //! Live runs over bytes in memory: one that was opened after recorded events writes what a run by those events
 //! writes; and one that then takes one event more is the run that is opened after all of them.
 
-ghost use Rattle.std.specs.Prelude.{◌≡◌, ◌∷◌, [], ℕ, List, Some, IfSome, string_bytes};
+ghost use Rattle.std.specs.Prelude.{◌≡◌, ◌∷◌, [], true, ℕ, List, Some, IfSome, string_bytes};
 ghost use Rattle.odb_check.specs.Plans.{plan_records};
 ghost use Rattle.odb_check.specs.Positions.{id_at};
 ghost use Rattle.odb_doc.specs.recorded.EventLists.{entries};
@@ -111,28 +111,30 @@ fn started(alloc: Global, batch: &[u8], events: &[u8], more: &[u8]) -> Option<u3
     }
 }
 
-/// Opens a live run after `events`, and starts the request that `more` starts. A run that is opened after
-/// `more` is the same.
-fn gone_on(
+/// Starts the request that `more` starts on a live run that was opened after `events`. A run that is opened after `more` is
+/// the same.
+fn goes_on(
+    live: &mut LiveRun,
     alloc: Global,
     batch: &[u8],
     events: &[u8],
     more: &[u8],
     policy: Policy,
-) -> Option<LiveRun>
-    ensures { IfSome result (Opens policy batch.now more.now) }
+) -> bool
+    requires { Opens policy batch.now events.now live.old }
+    ensures { result ≡ true → Opens policy batch.now more.now live.new }
 {
     one_live_run();
-    let i = started(alloc, batch, events, more)?;
-    let Ok(mut live) = open_run(alloc, batch, events, policy, Seed::none()) else {
-        return None;
+    let _policy = policy;
+    let Some(i) = started(alloc, batch, events, more) else {
+        return false;
     };
     if i >= live.run().len() {
-        return None;
+        return false;
     }
     match live.start(i) {
-        Ok(()) => Some(live),
-        Err(_) => None,
+        Ok(()) => true,
+        Err(_) => false,
     }
 }
 
@@ -150,9 +152,13 @@ fn are_alike(both: Option<(String, Written)>) -> bool {
 
 /// Whether a live run that has taken one event more has the first request running, and no other.
 fn has_gone_on(alloc: Global, policy: Policy) -> bool {
-    match &gone_on(alloc, PAIR.as_bytes(), NO_EVENTS, ONE_EVENT, policy) {
-        Some(live) => live.run().running() == [0].as_slice(),
-        None => false,
+    let batch = PAIR.as_bytes();
+    match open_run(alloc, batch, NO_EVENTS, policy, Seed::none()) {
+        Ok(mut live) => {
+            goes_on(&mut live, alloc, batch, NO_EVENTS, ONE_EVENT, policy)
+                && live.run().running() == [0].as_slice()
+        }
+        Err(_) => false,
     }
 }
 

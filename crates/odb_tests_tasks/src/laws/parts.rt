@@ -130,60 +130,121 @@ fn next_alone(
     }
 }
 
-/// Whether a run of `PAIR` after these events gives a part of these requests.
-fn is_given(alloc: Global, events: &[u8], limit: u32, positions: &[u32]) -> bool {
+/// What a test asks of a run that was opened for a batch after events.
+trait OnLive {
+    ghost use Rattle.odb_engine.specs.Live.{Opens};
+
+    /// Whether it holds. A call that runs out of memory does not hold.
+    fn holds(
+        &self,
+        alloc: Global,
+        live: &mut LiveRun,
+        batch: &[u8],
+        events: &[u8],
+        policy: Policy,
+    ) -> bool
+        requires { Opens policy batch.now events.now live.old };
+}
+
+/// Whether a run of `PAIR` after these events is what is asked for.
+fn holds_after<T: OnLive>(alloc: Global, events: &[u8], task: &T) -> bool {
     let (batch, policy) = (PAIR.as_bytes(), FREE);
-    let Ok(mut live) = open_run(alloc, batch, events, policy, Seed::none()) else {
-        return false;
-    };
-    match gives(alloc, &mut live, batch, events, policy, limit) {
-        Some(part) => part.positions.as_slice() == positions,
-        None => false,
+    match open_run(alloc, batch, events, policy, Seed::none()) {
+        Ok(mut live) => task.holds(alloc, &mut live, batch, events, policy),
+        Err(_) => false,
     }
 }
 
-/// Whether a run of `PAIR` after these events gives parts of these requests, one after the other.
-fn are_given(alloc: Global, events: &[u8], limit: u32, positions: [&[u32]; 2]) -> bool {
-    let (batch, policy) = (PAIR.as_bytes(), FREE);
-    let Ok(mut live) = open_run(alloc, batch, events, policy, Seed::none()) else {
-        return false;
-    };
-    match gives_two(alloc, &mut live, batch, events, policy, limit) {
-        Some((one, other)) => {
-            one.positions.as_slice() == positions[0] && other.positions.as_slice() == positions[1]
+/// A part of so many requests at most, and which it has.
+#[derive(Drop)]
+struct Given(u32, &'static [u32]);
+
+impl OnLive for Given {
+    fn holds(
+        &self,
+        alloc: Global,
+        live: &mut LiveRun,
+        batch: &[u8],
+        events: &[u8],
+        policy: Policy,
+    ) -> bool {
+        match gives(alloc, live, batch, events, policy, self.0) {
+            Some(part) => part.positions.as_slice() == self.1,
+            None => false,
         }
-        None => false,
     }
 }
 
-/// Returns the one request of the next part of a run of `PAIR` after these events.
-fn next_of(alloc: Global, events: &[u8]) -> Option<u32> {
-    let (batch, policy) = (PAIR.as_bytes(), FREE);
-    let Ok(live) = open_run(alloc, batch, events, policy, Seed::none()) else {
-        return None;
-    };
-    let part = next_alone(alloc, &live, batch, events, policy)?;
-    part.positions.first().copied()
+/// Two parts, one after the other.
+#[derive(Drop)]
+struct BothGiven(u32, [&'static [u32]; 2]);
+
+impl OnLive for BothGiven {
+    fn holds(
+        &self,
+        alloc: Global,
+        live: &mut LiveRun,
+        batch: &[u8],
+        events: &[u8],
+        policy: Policy,
+    ) -> bool {
+        match gives_two(alloc, live, batch, events, policy, self.0) {
+            Some((one, other)) => {
+                one.positions.as_slice() == self.1[0] && other.positions.as_slice() == self.1[1]
+            }
+            None => false,
+        }
+    }
 }
 
-/// Returns how many requests the first part of a run of `PAIR` after these events has.
-fn first_count(alloc: Global, events: &[u8], limit: u32) -> Option<usize> {
-    let (batch, policy) = (PAIR.as_bytes(), FREE);
-    let Ok(live) = open_run(alloc, batch, events, policy, Seed::none()) else {
-        return None;
-    };
-    let part = first_part(alloc, &live, batch, events, policy, limit)?;
-    Some(part.positions.len())
+/// The one request of the next part, or none if there is no such part.
+#[derive(Drop)]
+struct NextAlone(Option<u32>);
+
+impl OnLive for NextAlone {
+    fn holds(
+        &self,
+        alloc: Global,
+        live: &mut LiveRun,
+        batch: &[u8],
+        events: &[u8],
+        policy: Policy,
+    ) -> bool {
+        match next_alone(alloc, live, batch, events, policy) {
+            Some(part) => part.positions.first().copied() == self.0,
+            None => self.0.is_none(),
+        }
+    }
+}
+
+/// How many requests the first part has, or none if there is no such part.
+#[derive(Drop)]
+struct FirstCount(u32, Option<usize>);
+
+impl OnLive for FirstCount {
+    fn holds(
+        &self,
+        alloc: Global,
+        live: &mut LiveRun,
+        batch: &[u8],
+        events: &[u8],
+        policy: Policy,
+    ) -> bool {
+        match first_part(alloc, live, batch, events, policy, self.0) {
+            Some(part) => Some(part.positions.len()) == self.1,
+            None => self.1.is_none(),
+        }
+    }
 }
 
 #[test]
 fn a_part_has_what_may_be_sent(rt: HostRuntime) {
     let alloc = rt.alloc();
-    assert!(rt; is_given(alloc, NO_EVENTS, 2, &[0, 1]));
-    assert!(rt; is_given(alloc, NO_EVENTS, 1, &[0]));
-    assert!(rt; is_given(alloc, ONE_EVENT, 2, &[]));
-    assert!(rt; first_count(alloc, NO_EVENTS, 1) == Some(1));
-    assert!(rt; first_count(alloc, ONE_EVENT, 1) == None);
+    assert!(rt; holds_after(alloc, NO_EVENTS, &Given(2, &[0, 1])));
+    assert!(rt; holds_after(alloc, NO_EVENTS, &Given(1, &[0])));
+    assert!(rt; holds_after(alloc, ONE_EVENT, &Given(2, &[])));
+    assert!(rt; holds_after(alloc, NO_EVENTS, &FirstCount(1, Some(1))));
+    assert!(rt; holds_after(alloc, ONE_EVENT, &FirstCount(1, None)));
 }
 
 /// Recorded events, and the request that is sent next, if the run is not finished and no request is running.
@@ -203,12 +264,12 @@ const NEXT: &[(&[u8], Option<u32>)] = &[
 #[test]
 fn a_run_goes_on(rt: HostRuntime) {
     for (events, wanted) in NEXT {
-        assert!(rt; next_of(rt.alloc(), events) == *wanted);
+        assert!(rt; holds_after(rt.alloc(), events, &NextAlone(*wanted)));
     }
 }
 
 #[test]
 fn no_request_is_in_two_parts(rt: HostRuntime) {
-    assert!(rt; are_given(rt.alloc(), NO_EVENTS, 2, [&[0, 1], &[]]));
-    assert!(rt; are_given(rt.alloc(), NO_EVENTS, 1, [&[0], &[]]));
+    assert!(rt; holds_after(rt.alloc(), NO_EVENTS, &BothGiven(2, [&[0, 1], &[]])));
+    assert!(rt; holds_after(rt.alloc(), NO_EVENTS, &BothGiven(1, [&[0], &[]])));
 }
