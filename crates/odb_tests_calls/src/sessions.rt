@@ -175,45 +175,83 @@ const FREE: Policy = Policy {
     width: 2,
 };
 
+/// What a test asks of a run that was opened for a batch after events.
+trait OnLive {
+    ghost use Rattle.odb_engine.specs.Live.{Opens};
+
+    /// Whether it holds. A call that runs out of memory does not hold.
+    fn holds(
+        &self,
+        alloc: Global,
+        live: &mut LiveRun,
+        batch: &[u8],
+        events: &[u8],
+        policy: Policy,
+    ) -> bool
+        requires { Opens policy batch.now events.now live.old };
+}
+
+/// Whether a run of a batch after these events is what is asked for.
+fn holds_after<T: OnLive>(alloc: Global, batch: &[u8], events: &[u8], task: &T) -> bool {
+    let policy = FREE;
+    match open_run(alloc, batch, events, policy, Seed::none()) {
+        Ok(mut live) => task.holds(alloc, &mut live, batch, events, policy),
+        Err(_) => false,
+    }
+}
+
 /// What the start and the report of the first request return.
-fn returned(alloc: Global, batch: &[u8], events: &[u8]) -> Option<(u32, u32)> {
-    let policy = FREE;
-    match open_run(alloc, batch, events, policy, Seed::none()) {
-        Ok(mut live) => Some(keeps(&mut live, alloc, batch, events, policy)),
-        Err(_) => None,
+#[derive(Drop)]
+struct Returned(u32, u32);
+
+impl OnLive for Returned {
+    fn holds(
+        &self,
+        alloc: Global,
+        live: &mut LiveRun,
+        batch: &[u8],
+        events: &[u8],
+        policy: Policy,
+    ) -> bool {
+        keeps(live, alloc, batch, events, policy) == (self.0, self.1)
     }
 }
 
-/// How long the response is after both.
-fn written(alloc: Global, batch: &[u8], events: &[u8]) -> Option<usize> {
-    let policy = FREE;
-    let mut buffer = [0; 100];
-    match open_run(alloc, batch, events, policy, Seed::none()) {
-        Ok(mut live) => writes(&mut live, alloc, batch, events, policy, &mut buffer),
-        Err(_) => None,
+/// How long the response is after both, if the run is finished.
+#[derive(Drop)]
+struct Length(Option<usize>);
+
+impl OnLive for Length {
+    fn holds(
+        &self,
+        alloc: Global,
+        live: &mut LiveRun,
+        batch: &[u8],
+        events: &[u8],
+        policy: Policy,
+    ) -> bool {
+        let mut buffer = [0; 100];
+        writes(live, alloc, batch, events, policy, &mut buffer) == self.0
     }
 }
 
-/// Which request is in the next part of a run.
-fn first_given(
-    live: &LiveRun,
-    alloc: Global,
-    batch: &[u8],
-    events: &[u8],
-    policy: Policy,
-) -> Option<u32>
-    requires { Opens policy batch.now events.now live.now }
-{
-    let part = gives(live, alloc, batch, events, policy)?;
-    part.positions.first().copied()
-}
+/// Which request is in the next part, if there is such a part.
+#[derive(Drop)]
+struct FirstGiven(Option<u32>);
 
-/// The same of a run that is opened.
-fn given(alloc: Global, batch: &[u8], events: &[u8]) -> Option<u32> {
-    let policy = FREE;
-    match open_run(alloc, batch, events, policy, Seed::none()) {
-        Ok(live) => first_given(&live, alloc, batch, events, policy),
-        Err(_) => None,
+impl OnLive for FirstGiven {
+    fn holds(
+        &self,
+        alloc: Global,
+        live: &mut LiveRun,
+        batch: &[u8],
+        events: &[u8],
+        policy: Policy,
+    ) -> bool {
+        match gives(live, alloc, batch, events, policy) {
+            Some(part) => part.positions.first().copied() == self.0,
+            None => self.0.is_none(),
+        }
     }
 }
 
@@ -236,55 +274,50 @@ fn lengths(
     lengths_of(one, other, alloc, &mut buffer)
 }
 
-/// The same of a run and another that is opened.
-fn lengths_with(
-    one: &mut LiveRun,
-    alloc: Global,
-    batch: &[u8],
-    events: &[u8],
-    policy: Policy,
-) -> Option<(usize, usize)>
-    requires { Opens policy batch.now events.now one.old }
-{
-    match open_run(alloc, batch, events, policy, Seed::none()) {
-        Ok(mut other) => lengths(one, &mut other, alloc, batch, events, policy),
-        Err(_) => None,
-    }
-}
+/// How long the responses of this run and of another that is opened are, if they are finished.
+#[derive(Drop)]
+struct EndsAlike(Option<(usize, usize)>);
 
-/// The same of two that are opened.
-fn both_lengths(alloc: Global, batch: &[u8]) -> Option<(usize, usize)> {
-    let (events, policy) = (NO_EVENTS, FREE);
-    match open_run(alloc, batch, events, policy, Seed::none()) {
-        Ok(mut one) => lengths_with(&mut one, alloc, batch, events, policy),
-        Err(_) => None,
+impl OnLive for EndsAlike {
+    fn holds(
+        &self,
+        alloc: Global,
+        live: &mut LiveRun,
+        batch: &[u8],
+        events: &[u8],
+        policy: Policy,
+    ) -> bool {
+        match open_run(alloc, batch, events, policy, Seed::none()) {
+            Ok(mut other) => lengths(live, &mut other, alloc, batch, events, policy) == self.0,
+            Err(_) => false,
+        }
     }
 }
 
 #[test]
 fn a_run_keeps_its_promises_whatever_calls_are_made(rt: HostRuntime) {
     let alloc = rt.alloc();
-    assert!(rt; returned(alloc, PAIR.as_bytes(), NO_EVENTS) == Some((0, 0)));
-    assert!(rt; returned(alloc, ONE, STARTED) == Some((11, 0)));
+    assert!(rt; holds_after(alloc, PAIR.as_bytes(), NO_EVENTS, &Returned(0, 0)));
+    assert!(rt; holds_after(alloc, ONE, STARTED, &Returned(11, 0)));
 }
 
 #[test]
 fn match_accepts_what_a_run_writes(rt: HostRuntime) {
     let alloc = rt.alloc();
-    assert!(rt; written(alloc, ONE, NO_EVENTS) == Some(40));
-    assert!(rt; written(alloc, PAIR.as_bytes(), NO_EVENTS) == None);
+    assert!(rt; holds_after(alloc, ONE, NO_EVENTS, &Length(Some(40))));
+    assert!(rt; holds_after(alloc, PAIR.as_bytes(), NO_EVENTS, &Length(None)));
 }
 
 #[test]
 fn a_run_gives_a_part_unless_it_is_finished(rt: HostRuntime) {
     let alloc = rt.alloc();
-    assert!(rt; given(alloc, PAIR.as_bytes(), NO_EVENTS) == Some(0));
-    assert!(rt; given(alloc, PAIR.as_bytes(), STARTED) == None);
+    assert!(rt; holds_after(alloc, PAIR.as_bytes(), NO_EVENTS, &FirstGiven(Some(0))));
+    assert!(rt; holds_after(alloc, PAIR.as_bytes(), STARTED, &FirstGiven(None)));
 }
 
 #[test]
 fn the_same_calls_end_alike(rt: HostRuntime) {
     let alloc = rt.alloc();
-    assert!(rt; both_lengths(alloc, ONE) == Some((40, 40)));
-    assert!(rt; both_lengths(alloc, PAIR.as_bytes()) == None);
+    assert!(rt; holds_after(alloc, ONE, NO_EVENTS, &EndsAlike(Some((40, 40)))));
+    assert!(rt; holds_after(alloc, PAIR.as_bytes(), NO_EVENTS, &EndsAlike(None)));
 }
