@@ -246,7 +246,7 @@ all-read (d ∷ ds) (q ∷ rs) says (suc i) r is = all-read ds rs says.1 i r is
 all-sound : (ds : List Data) (rs : List Record) → AllZip ReadsAs ds rs → NoneBroken (BreaksRequestAt ds) → Each IsSound rs
 all-sound ds [] says sound i r is = absurd (cc (is))
 all-sound [] (q ∷ rs) says sound i r is = absurd says
-all-sound (d ∷ ds) (q ∷ rs) says sound zero r is = subst IsSound (cc (is)) (sound-record d q (λ rule broken. sound rule 0 broken) says.0)
+all-sound (d ∷ ds) (q ∷ rs) says sound zero r is = subst IsSound (cc (is)) (sound-record d q (λ which broken. sound which 0 broken) says.0)
 all-sound (d ∷ ds) (q ∷ rs) says sound (suc i) r is = all-sound ds rs says.1 (λ rule j broken. sound rule (suc j) broken) i r is
 
 all-says : (rs : List Record) → Each IsRead rs → AllZip ReadsAs (map request_value rs) rs

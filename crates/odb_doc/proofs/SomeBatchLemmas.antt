@@ -262,7 +262,7 @@ some_request one d good = at (as_object d) refl
 some_requests : HasOneFront → (ds : List Data) → ((rule : RequestRule) (i : ℕ) (d : Data) → slice_get ds i ≡ Some d → ¬ BreaksRequest rule d) → (rs : List Record) × AllZip ReadsAs ds rs
 some_requests one [] good = ([], tt)
 some_requests one (d ∷ ds) good =
-    let first = some_request one d (λ rule. good rule 0 d refl) in
+    let first = some_request one d (λ which. good which 0 d refl) in
     let rest = some_requests one ds (λ rule i. good rule (suc i)) in
     (first.0 ∷ rest.0, (first.1, rest.1))
 
