@@ -23,7 +23,8 @@ is_current() {
 
 # Prints rules of GNU make for the libraries of the crates below. A library is made of its sources and of the libraries that it
 # uses, if it is older than one of them; what rt has left serves as well. Crates at the same height may be proved side by
-# side, so they share the processors.
+# side, so they share the processors: those that a crate of the next height waits for have what the others leave, which have
+# one each.
 rules() {
     below | awk -v processors="$(nproc)" '
         function library(name) { return "crates/" name "/out/rlib/" name ".rlib" }
@@ -42,16 +43,27 @@ rules() {
                 needed[$1] = needed[$1] " " library(used[i])
                 if (height[used[i]] >= height[$1]) height[$1] = height[used[i]] + 1
             }
-            beside[height[$1]]++
+            for (i = 1; i <= parts; i++) {
+                if (height[used[i]] == height[$1] - 1) is_awaited[used[i]] = 1
+            }
         }
         END {
+            for (i = 1; i <= count; i++) {
+                if (height[order[i]] > highest) highest = height[order[i]]
+            }
+            for (i = 1; i <= count; i++) {
+                if (height[order[i]] == highest) is_awaited[order[i]] = 1
+                if (is_awaited[order[i]]) awaited[height[order[i]]]++
+                else others[height[order[i]]]++
+            }
             printf "SHELL = /bin/bash\nall:"
             for (i = 1; i <= count; i++) printf " %s", library(order[i])
             print "\nsources = $(shell find crates/$(1)/src crates/$(1)/specs crates/$(1)/proofs -type f 2>/dev/null)"
             for (i = 1; i <= count; i++) {
-                jobs = int(processors / beside[height[order[i]]])
+                at = height[order[i]]
+                jobs = is_awaited[order[i]] ? int((processors - others[at]) / awaited[at]) : 1
                 printf "%s: crates.txt $(call sources,%s)%s\n", library(order[i]), order[i], needed[order[i]]
-                printf "\t@. bin/building.sh && prove %s %d\n", order[i], jobs ? jobs : 1
+                printf "\t@. bin/building.sh && prove %s %d\n", order[i], (jobs > 1 ? jobs : 1)
             }
         }' "$root/crates.txt" -
 }
