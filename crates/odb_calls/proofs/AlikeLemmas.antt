@@ -12,7 +12,7 @@ use Rattle.odb_sched.specs.run.State.{State, reported, started, started_unit, st
 use Rattle.odb_reply.specs.BodyTexts.{IsBody}
 use Rattle.odb_reply.specs.BodyTexts.IsBody.{NoBody, Text}
 use Rattle.odb_reply.proofs.JsonTextLemmas.{nothing_read}
-use Rattle.odb_engine.specs.Live.{Live, with_run, with_text}
+use Rattle.odb_live.specs.Live.{Live, with_run, with_text}
 use Rattle.odb_engine.proofs.MemoryLemmas.{one_value}
 use Rattle.odb_calls.specs.Live.{IsPart, IsReported, IsReportedBody, Reports, Starts}
 use Rattle.odb_calls.specs.Live.IsPart.{Absent as PartAbsent, Present as PartPresent}

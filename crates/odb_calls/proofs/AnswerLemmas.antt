@@ -5,7 +5,7 @@ use Rattle.serde_json.specs.Read.{read}
 use Rattle.odb_sched.specs.run.Answers.{answer}
 use Rattle.odb_reply.specs.BodyTexts.{value_with}
 use Rattle.odb_reply.specs.Readable.{HasShallowValues}
-use Rattle.odb_engine.specs.Live.{Live, Shows}
+use Rattle.odb_live.specs.Live.{Live, Shows}
 use Rattle.odb_calls.specs.Live.{Responds}
 use Rattle.std.specs.declared.alloc.AllocError.{AllocError}
 use Rattle.std.specs.declared.alloc.Global.{Global}

@@ -22,7 +22,7 @@ use Rattle.odb_sched.specs.run.Resolving.{IsResolved}
 use Rattle.odb_sched.specs.run.State.{State, phase_at}
 use Rattle.odb_sched.specs.run.Steps.{unit_succeeded}
 use Rattle.odb_reply.specs.BodyTexts.{text_at, value_body}
-use Rattle.odb_engine.specs.Live.{Live}
+use Rattle.odb_live.specs.Live.{Live}
 use Rattle.odb_calls.specs.Live.{IsReported}
 use Rattle.odb_calls.specs.Sessions.{Call, IsOfCall, IsReportedBy}
 use Rattle.odb_calls.proofs.SessionLemmas.{TextOf}

@@ -15,7 +15,7 @@ use Rattle.odb_sched.specs.run.State.{State, size}
 use Rattle.odb_sched.specs.run.LiveEvents.{LiveEvent, Single, IsKnownTo, IsLiveRunFrom, after_live, after_all_live, may_take, singles}
 use Rattle.odb_sched.specs.run.LiveEvents as live_event
 use Rattle.odb_sched.proofs.LiveLemmas.{plan_graph-after_live}
-use Rattle.odb_engine.specs.Live.{Live}
+use Rattle.odb_live.specs.Live.{Live}
 use Rattle.odb_calls.specs.Live.{IsReported, IsReportedBody, Reports, Starts}
 use Rattle.odb_calls.specs.Live.Reports.{Taken as ReportTaken, Refused as ReportRefused, NoRequest as ReportUnknown, OutOfMemory as ReportOutOfMemory}
 use Rattle.odb_calls.specs.Live.Starts.{Started, Refused as StartRefused, NoRequest as StartUnknown}

@@ -10,8 +10,8 @@ use Rattle.odb_doc.specs.declared.refusal.Refusal.{Refusal}
 use Rattle.odb_doc.specs.declared.recorded.outcome.Outcome.{Outcome}
 use Rattle.odb_engine.specs.declared.halt.Halt.{Halt}
 use Rattle.odb_engine.specs.declared.halt.Halt.TheVariants as halts
-use Rattle.odb_engine.specs.declared.live.LiveRun.{LiveRun}
-use Rattle.odb_engine.specs.declared.live.replies.Reply.{Reply}
+use Rattle.odb_live.specs.declared.run.LiveRun.{LiveRun}
+use Rattle.odb_live.specs.declared.run.replies.Reply.{Reply}
 use Rattle.odb_engine.specs.Halts.{Halted}
 use Rattle.odb_engine.proofs.EngineLemmas.{Halted-weaker}
 use Rattle.odb_calls.specs.Follows.{FollowsAll, Tries}

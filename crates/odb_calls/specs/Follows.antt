@@ -1,6 +1,6 @@
 -- For private clauses: a run after steps that were tried.
 use Rattle.std.specs.Prelude.{◌≡◌, ℕ, List, [], ◌∷◌}
-use Rattle.odb_engine.specs.declared.live.LiveRun.{LiveRun}
+use Rattle.odb_live.specs.declared.run.LiveRun.{LiveRun}
 use Rattle.odb_calls.specs.Live.{Starts, TakesAt}
 use Rattle.odb_calls.specs.Units.{StartsUnit}
 use Rattle.odb_calls.specs.declared.steps.Step.{Step}

@@ -19,9 +19,9 @@ use Rattle.odb_engine.specs.declared.ending.Ended.{Ended}
 use Rattle.odb_engine.specs.declared.ending.Ended.TheVariants.{Done}
 use Rattle.odb_engine.specs.declared.form.Form.{Form}
 use Rattle.odb_engine.specs.declared.form.Form.TheVariants.{Lines}
-use Rattle.odb_engine.specs.declared.live.LiveRun.{LiveRun}
-use Rattle.odb_engine.specs.Labels.{position_of}
-use Rattle.odb_engine.specs.Live.{Opens, IsLeastOfOpening, Shows, with_run, with_text}
+use Rattle.odb_live.specs.declared.run.LiveRun.{LiveRun}
+use Rattle.odb_live.specs.Labels.{position_of}
+use Rattle.odb_live.specs.Live.{Opens, IsLeastOfOpening, Shows, with_run, with_text}
 use Rattle.odb_calls.specs.Refused.{RefusesBody, RefusesHeaders}
 use Rattle.odb_calls.specs.Returns.{Fills, IsOutOfMemory, Returns}
 

@@ -3,10 +3,10 @@ use Rattle.std.specs.Prelude.{◌≡◌, ℕ, List, map, Option, Some, string_by
 use Rattle.odb_sched.specs.declared.policy.Policy.{Policy}
 use Rattle.odb_send.specs.declared.requests.Requests.{Requests}
 use Rattle.odb_engine.specs.declared.form.Form.TheVariants.{Lines}
-use Rattle.odb_engine.specs.declared.live.LiveRun.{LiveRun}
+use Rattle.odb_live.specs.declared.run.LiveRun.{LiveRun}
 use Rattle.odb_engine.specs.Cascade.{Reports}
-use Rattle.odb_engine.specs.Live.{IsLeastOfOpening, Opens}
-use Rattle.odb_engine.specs.Requests.{Sends}
+use Rattle.odb_live.specs.Live.{IsLeastOfOpening, Opens}
+use Rattle.odb_live.specs.Requests.{Sends}
 use Rattle.odb_calls.specs.declared.request.Request.{Request}
 use Rattle.odb_calls.specs.Lists.{Gives}
 use Rattle.odb_calls.specs.Options.{IsPolicy}

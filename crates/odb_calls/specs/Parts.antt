@@ -1,10 +1,10 @@
 -- What a call returns that gives the next part of a live run.
 use Rattle.std.specs.Prelude.{◌≡◌, ◌≢◌, ℕ, List, string_bytes}
 use Rattle.odb_engine.specs.declared.form.Form.TheVariants.{Lines}
-use Rattle.odb_engine.specs.declared.live.LiveRun.{LiveRun}
-use Rattle.odb_engine.specs.declared.live.parts.Part.{Part}
+use Rattle.odb_live.specs.declared.run.LiveRun.{LiveRun}
+use Rattle.odb_live.specs.declared.run.parts.Part.{Part}
 use Rattle.odb_engine.specs.Cascade.{Reports}
-use Rattle.odb_engine.specs.LiveParts.{HasNoParts, IsLeastOfPart, IsPartIn, with_part}
+use Rattle.odb_live.specs.LiveParts.{HasNoParts, IsLeastOfPart, IsPartIn, with_part}
 use Rattle.odb_calls.specs.Lists.{Gives}
 use Rattle.odb_calls.specs.Returns.{IsWrongOption, Returns}
 

@@ -5,7 +5,7 @@ use Rattle.odb_send.specs.declared.parts.RequestParts.{RequestParts}
 use Rattle.odb_send.specs.declared.requests.Requests.{Requests}
 use Rattle.odb_engine.specs.declared.form.Form.TheVariants.{Lines}
 use Rattle.odb_engine.specs.Cascade.{IsLeast, Reports}
-use Rattle.odb_engine.specs.Requests.{Sends}
+use Rattle.odb_live.specs.Requests.{Sends}
 use Rattle.odb_calls.specs.declared.request.Part.{Part}
 use Rattle.odb_calls.specs.declared.request.Request.{Request}
 use Rattle.odb_calls.specs.Lists.{Gives}

@@ -4,7 +4,7 @@ use Rattle.odb_send.specs.declared.responses.ResponseParts.{ResponseParts}
 use Rattle.odb_send.specs.declared.responses.ResponseList.{ResponseList}
 use Rattle.odb_engine.specs.declared.form.Form.TheVariants.{Lines}
 use Rattle.odb_engine.specs.Cascade.{Reports}
-use Rattle.odb_engine.specs.ServiceResponses.{HasResponses, IsLeastOfResponses}
+use Rattle.odb_live.specs.ServiceResponses.{HasResponses, IsLeastOfResponses}
 use Rattle.odb_calls.specs.declared.response.Response.{Response}
 use Rattle.odb_calls.specs.Lists.{Gives}
 use Rattle.odb_calls.specs.Requests.{part_if, part_of}

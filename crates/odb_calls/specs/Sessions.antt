@@ -19,8 +19,8 @@ use Rattle.odb_reply.specs.OnePerId.{HasOnePerId}
 use Rattle.odb_reply.specs.Readable.{HasShallowValues}
 use Rattle.odb_reply.specs.ResponseDocuments.{IsResponseDocument}
 use Rattle.odb_reply.specs.Responses.{labels_of}
-use Rattle.odb_engine.specs.Live.{IsAfter, Live, with_run}
-use Rattle.odb_engine.specs.LiveParts.{with_part}
+use Rattle.odb_live.specs.Live.{IsAfter, Live, with_run}
+use Rattle.odb_live.specs.LiveParts.{with_part}
 use Rattle.odb_calls.specs.Live.{IsReported, IsReportedBody, Reports, Starts}
 use Rattle.odb_calls.specs.Units.{StartsUnit}
 

@@ -11,7 +11,7 @@ use Rattle.odb_sched.specs.declared.policy.Mode.{Mode}
 use Rattle.odb_sched.specs.declared.policy.Mode.TheVariants.{Continue, Stop}
 use Rattle.odb_spans.specs.Spans.{bytes_of}
 use Rattle.odb_spans.specs.declared.span.Span.{Span}
-use Rattle.odb_engine.specs.declared.live.replies.Reply.{Reply}
+use Rattle.odb_live.specs.declared.run.replies.Reply.{Reply}
 use Rattle.odb_calls.specs.Live.{IsReported, IsReportedBody}
 use Rattle.odb_calls.specs.Refused.{RefusesBody, RefusesHeaders}
 use Rattle.odb_calls.specs.declared.steps.Pass.{Pass}

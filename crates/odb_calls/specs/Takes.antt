@@ -4,10 +4,10 @@ use Rattle.std.specs.List.{AllZip}
 use Rattle.odb_doc.specs.Refusals.{Printed}
 use Rattle.odb_sched.specs.declared.policy.Mode.{Mode}
 use Rattle.odb_engine.specs.declared.form.Form.TheVariants.{Lines}
-use Rattle.odb_engine.specs.declared.live.LiveRun.{LiveRun}
-use Rattle.odb_engine.specs.declared.live.replies.Reply.{Reply}
+use Rattle.odb_live.specs.declared.run.LiveRun.{LiveRun}
+use Rattle.odb_live.specs.declared.run.replies.Reply.{Reply}
 use Rattle.odb_engine.specs.Cascade.{Reports}
-use Rattle.odb_engine.specs.Replies.{AreRepliesTo, IsLeastOfTaking, TakesNone}
+use Rattle.odb_live.specs.Replies.{AreRepliesTo, IsLeastOfTaking, TakesNone}
 use Rattle.odb_calls.specs.Options.{IsMode}
 use Rattle.odb_calls.specs.Returns.{IsWrongOption, NamesNone, Returns}
 use Rattle.odb_calls.specs.Sessions.{Call, IsSession}

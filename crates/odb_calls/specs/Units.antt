@@ -2,8 +2,8 @@
 use Rattle.std.specs.Prelude.{◌≡◌, ◌<◌, ◌≤◌, ◌+◌, ◌-◌, ◌&&◌, ℕ, true, List, Some, None, length, slice_index_or, if◌then◌else◌}
 use Rattle.odb_check.specs.Firsts.{first_below}
 use Rattle.odb_check.specs.PlanGraph.{IsSpan, unit_of}
-use Rattle.odb_engine.specs.declared.live.LiveRun.{LiveRun}
-use Rattle.odb_engine.specs.Live.{with_run}
+use Rattle.odb_live.specs.declared.run.LiveRun.{LiveRun}
+use Rattle.odb_live.specs.Live.{with_run}
 use Rattle.odb_sched.specs.declared.refusal.StartRefusal.{StartRefusal}
 use Rattle.odb_sched.specs.declared.states.RequestState.{RequestState}
 use Rattle.odb_sched.specs.declared.states.RequestState.TheVariants.{Waiting, Ready, Running, Reported, Skipped}

@@ -12,19 +12,19 @@ ghost use Rattle.odb_engine.specs.declared.ending.Ended.TheVariants.{Done};
 ghost use Rattle.odb_engine.specs.declared.form.Form.{Form};
 ghost use Rattle.odb_engine.specs.declared.form.Form.TheVariants.{Lines};
 ghost use Rattle.odb_engine.specs.declared.tasks.task.Task.TheVariants as tasks;
-ghost use Rattle.odb_engine.specs.declared.live.parts.Part.{Part};
+ghost use Rattle.odb_live.specs.declared.run.parts.Part.{Part};
 ghost use Rattle.odb_engine.specs.Cascade.{Accepts};
-ghost use Rattle.odb_engine.specs.Live.{Live, Opens};
-ghost use Rattle.odb_engine.specs.LiveParts.{IsIdle, IsPartIn};
+ghost use Rattle.odb_live.specs.Live.{Live, Opens};
+ghost use Rattle.odb_live.specs.LiveParts.{IsIdle, IsPartIn};
 ghost use Rattle.odb_engine.specs.Written.{Allows, IsDone};
 ghost use Rattle.odb_calls.specs.Live.{Responds};
 ghost use Rattle.odb_calls.specs.Sessions.{AreAlike, Call, IsSession, KeepsSession, is_taken};
 
 use odb_check::laws::every_batch;
 use odb_doc::laws::{every_value, one_history, one_record};
-use odb_engine::laws::one_live_run;
-use odb_engine::laws::parts::every_part;
 use odb_engine::laws::written::every_match;
+use odb_live::laws::one_live_run;
+use odb_live::laws::parts::every_part;
 use odb_sched::laws::{every_live_run, every_possible_live};
 
 /// Whatever calls are made on a live run, it keeps what is promised of every live run (`kept`), and each
@@ -37,7 +37,7 @@ use odb_sched::laws::{every_live_run, every_possible_live};
 /// Calls may be taken apart and put together (`joined`): a call of [`crate::takes::take_part`] is the starts and the reports that its
 /// clause names.
 ///
-/// The premise is what [`odb_engine::open_run`] ensures of the run that it opens for the batch in one document, after the
+/// The premise is what [`odb_live::open_run`] ensures of the run that it opens for the batch in one document, after the
 /// recorded events in another.
 pub fn every_session()
     ensures kept { (policy : Policy) (batch events : List ℕ) (first last : Live) (calls : List Call)

@@ -2,7 +2,7 @@
 
 ghost use Rattle.std.specs.Prelude.{◌≡◌, ◌<◌, ◌+◌, true, IfOk};
 ghost use Rattle.odb_engine.specs.Cascade.{Prints};
-ghost use Rattle.odb_engine.specs.Labels.{id_lines};
+ghost use Rattle.odb_live.specs.Labels.{id_lines};
 ghost use Rattle.odb_engine.specs.declared.form.Form.TheVariants.{Lines};
 ghost use Rattle.odb_sched.specs.run.State as state;
 ghost use Rattle.odb_sched.specs.run.Steps.{is_finished, report_number};
@@ -14,7 +14,8 @@ use crate::buffer::give_text;
 use crate::outcome::{body_of, outcome_of};
 use crate::status;
 use odb_doc::Outcome;
-use odb_engine::{Answer, Ended, Form, LiveRun};
+use odb_engine::{Answer, Ended, Form};
+use odb_live::LiveRun;
 use odb_reply::JsonText;
 use odb_sched::ReportRefusal;
 use std::alloc::{AllocError, Global};

@@ -8,8 +8,8 @@ ghost use Rattle.odb_calls.specs.Next.{GivesNext, step_number};
 
 use crate::options::order_of;
 use crate::status;
-use odb_engine::LiveRun;
 use odb_exec::{Choice, Chooser};
+use odb_live::LiveRun;
 use odb_sched::{Order, OwnedRun, Step};
 
 /// The number for no step.

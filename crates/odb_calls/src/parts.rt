@@ -1,7 +1,7 @@
 //! How a part of a live run reaches the buffers of the caller.
 
 ghost use Rattle.std.specs.Prelude.{◌≡◌, ◌≢◌, ◌<◌, All, string_bytes};
-ghost use Rattle.odb_engine.specs.LiveParts.{with_part};
+ghost use Rattle.odb_live.specs.LiveParts.{with_part};
 ghost use Rattle.odb_sched.specs.run.State.{size};
 ghost use Rattle.odb_calls.specs.Lists.{Gives};
 ghost use Rattle.odb_calls.specs.Parts.{GivesPart};
@@ -10,7 +10,8 @@ use crate::answer::{give, wrong_option};
 use crate::buffer::give_list;
 use crate::options::seed_of;
 use crate::status::DONE;
-use odb_engine::{Answer, Form, LiveRun, Part};
+use odb_engine::{Answer, Form};
+use odb_live::{LiveRun, Part};
 use std::alloc::Global;
 
 /// Copies the text and the positions of a part to the buffers if both fit, sets how long they are, and returns the status.

@@ -5,14 +5,15 @@ ghost use Rattle.odb_spans.specs.Spans.{IsWithin};
 ghost use Rattle.odb_doc.specs.declared.refusal.Refusal.{Refusal};
 ghost use Rattle.odb_engine.specs.declared.halt.Halt.TheVariants as halts;
 ghost use Rattle.odb_engine.specs.Halts.{Halted};
-ghost use Rattle.odb_engine.specs.Replies.{LiesIn};
+ghost use Rattle.odb_live.specs.Replies.{LiesIn};
 ghost use Rattle.odb_calls.specs.Steps as specs;
 ghost use Rattle.odb_sched.specs.declared.policy.Mode.TheVariants.{Stop};
 
 use crate::outcome::{body_of, no_content, outcome_of};
 use odb_doc::Outcome;
 use odb_doc::status::{FAILED_DEPENDENCY, is_error, is_success};
-use odb_engine::{Halt, Reply};
+use odb_engine::Halt;
+use odb_live::Reply;
 use odb_reply::{JsonText, ResponseFault};
 use odb_sched::Mode;
 use odb_spans::Span;

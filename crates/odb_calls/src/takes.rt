@@ -1,9 +1,9 @@
 //! How the answers to a part reach its run.
 
 ghost use Rattle.std.specs.Prelude.{◌≡◌, ◌≢◌, List, IfErr, Ok, true, false};
-ghost use Rattle.odb_engine.specs.declared.live.replies.Reply.{Reply};
+ghost use Rattle.odb_live.specs.declared.run.replies.Reply.{Reply};
 ghost use Rattle.odb_engine.specs.Halts.{Halted};
-ghost use Rattle.odb_engine.specs.Replies.{AreRepliesTo, TakesNone};
+ghost use Rattle.odb_live.specs.Replies.{AreRepliesTo, TakesNone};
 ghost use Rattle.odb_calls.specs.Follows.{FollowsAll, Tries};
 ghost use Rattle.odb_calls.specs.Steps.{attempts};
 ghost use Rattle.odb_calls.specs.Takes as takes;
@@ -14,7 +14,8 @@ use crate::status::DONE;
 use crate::steps::{Step, steps_of};
 use crate::{live, units};
 use odb_doc::Outcome;
-use odb_engine::{Answer, Form, Halt, LiveRun};
+use odb_engine::{Answer, Form, Halt};
+use odb_live::LiveRun;
 use odb_reply::JsonText;
 use odb_sched::Mode;
 use std::alloc::Global;

@@ -6,7 +6,7 @@ ghost use Rattle.odb_calls.specs.Units as calls;
 
 use crate::positions::give_span;
 use crate::status;
-use odb_engine::LiveRun;
+use odb_live::LiveRun;
 use odb_sched::{OwnedRun, RequestState};
 
 /// The number of a request of a finished run that has to be undone.

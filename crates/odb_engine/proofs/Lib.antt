@@ -3,12 +3,12 @@ mod SourceLemmas
 pub mod EngineLemmas
 pub mod MemoryLemmas
 mod ReplayLemmas
-mod RunLemmas
-mod RunLawLemmas
-mod LawLemmas
+pub mod RunLemmas
+pub mod RunLawLemmas
+pub mod LawLemmas
 mod ReadAgainLemmas
 mod ReplayedLemmas
-mod SecondLemmas
+pub mod SecondLemmas
 mod CourseLemmas
 mod TextLemmas
 mod MatchLemmas
@@ -16,13 +16,6 @@ mod RestLemmas
 mod CanonLawLemmas
 mod MatchLawLemmas
 mod RestLawLemmas
-mod LiveLemmas
-pub mod OpenedLemmas
-mod LivePartLemmas
-mod RequestLemmas
-mod ReplyLemmas
-mod LabelLemmas
-mod LiveLawLemmas
 mod TaskLawLemmas
 mod PairLawLemmas
 mod ByteLemmas

@@ -20,16 +20,7 @@ pub mod FullPlans
 pub mod Tasks
 pub mod Written
 pub mod Located
-pub mod Labels
-pub mod Live
-pub mod LiveParts
-pub mod Requests
-pub mod ServiceResponses
-pub mod Replies
 pub mod lines
 -- For invariants and private clauses.
-pub mod Planned
 pub mod Answered
 pub mod Accepted
-pub mod LabelTables
-pub mod LiveRuns

@@ -96,9 +96,11 @@ pub(crate) fn value_or_error(
 
 /// Returns the value of the document in these bytes; `place` is the place of its fault.
 ///
+/// Takes O(n) time and memory for n bytes.
+///
 /// # Errors
 ///
-/// `Refused` if they are too long or not JSON; `OutOfMemory` if an allocation fails. Never `Read`.
+/// `Refused` if they are more than 16,777,216 or not JSON; `OutOfMemory` if an allocation fails. Never `Read`.
 pub fn value_in(alloc: Global, bytes: &[u8], place: Place) -> Result<Value, Halt>
     ensures value { IfOk result (λ value. IsDocument bytes.now (view value)) }
     ensures fault { IfErr result (Halted (RefusesBytes place bytes.now)) }

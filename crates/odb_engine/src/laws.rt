@@ -4,14 +4,10 @@
 //! The laws are clauses of functions that change nothing. They speak of the very relations that the
 //! clauses `ends` of the engines cite.
 
-ghost use Rattle.std.specs.Prelude.{◌≡◌, ◌↔◌, ◌<◌, ℕ, Bool, true, false, List, [], Some, IfSome, slice_get};
+ghost use Rattle.std.specs.Prelude.{◌≡◌, ◌↔◌, ℕ, Bool, true, false, List, [], Some, IfSome, slice_get};
 ghost use Rattle.odb_sched.specs.run.Choosing.{AllowsOrder};
 ghost use Rattle.odb_sched.specs.declared.order.Order.{Order};
-ghost use Rattle.odb_sched.specs.declared.event.Event.{Event};
 ghost use Rattle.odb_sched.specs.declared.policy.Policy.{Policy};
-ghost use Rattle.odb_sched.specs.run.Runs.{event_position};
-ghost use Rattle.odb_sched.specs.run.State.{after, size};
-ghost use Rattle.odb_sched.specs.run.Steps.{may_come};
 ghost use Rattle.serde_json.specs.Data.{Data};
 ghost use Rattle.odb_doc.specs.Documents.{IsDocument, IsJson};
 ghost use Rattle.odb_doc.specs.Refusals.{Printed};
@@ -27,7 +23,6 @@ ghost use Rattle.odb_engine.specs.declared.tasks.task.Task.{Task};
 ghost use Rattle.odb_engine.specs.Tasks.{IsLineOf, OfDocuments, OfWholeLine, WritesParts, takes_bytes, takes_second};
 ghost use Rattle.odb_engine.specs.Located.{LocatesDocuments};
 ghost use Rattle.odb_engine.specs.lines.Numbers.{OfNumbered};
-ghost use Rattle.odb_engine.specs.Live.{Live, Opens, RecordsOneMore, Shows, with_run};
 ghost use Rattle.odb_engine.specs.declared.ending.Ended.TheVariants.{Done};
 ghost use Rattle.odb_reply.specs.declared.strictness.Strictness.TheVariants.{Requests};
 ghost use Rattle.odb_engine.specs.ReadAgain.{IsReadAgain};
@@ -35,7 +30,6 @@ ghost use Rattle.odb_engine.specs.Replayed.{RunsAgain};
 ghost use Rattle.odb_engine.specs.Replays.{Replays};
 ghost use Rattle.odb_engine.specs.Runs.{Runs};
 
-pub mod parts;
 pub mod written;
 
 /// The first fault of a batch document, in one order over its rules F01 to F46: by phase, then by position, then by
@@ -146,32 +140,6 @@ pub fn read_again()
     odb_doc::laws::every_value();
     odb_doc::laws::one_record();
     odb_doc::laws::one_history();
-}
-
-/// A live run is the run of the events that it has taken: what is written of it is what a run by
-/// recorded events writes of the same events. Two documents open one run (`opening`).
-///
-/// `events` and `more` are documents of events, of which `more` records one event more than `events`.
-/// The relations are those of [`crate::open_run`], [`crate::LiveRun::response`] and
-/// [`crate::run_batch`].
-pub fn one_live_run()
-    ensures text { (policy : Policy) (form : Form) (batch events text different : List ℕ)
-        (live : Live) (ended other : Ended) → Opens policy batch events live → Shows live form ended text
-        → Answers (Runs policy (Some events)) batch form other different
-        → (ended ≡ other) × (text ≡ different) }
-    ensures goes_on { (policy : Policy) (batch events more : List ℕ) (live : Live) (event : Event)
-        → Opens policy batch events live
-        → Accepts batch (λ requests. RecordsOneMore requests events more event)
-        → event_position event < size live.run → may_come live.run event ≡ true
-        → Opens policy batch more (with_run live (after live.run event)) }
-    ensures opening { (policy : Policy) (batch events : List ℕ) (live other : Live)
-        → Opens policy batch events live → Opens policy batch events other → live ≡ other }
-{
-    odb_doc::laws::one_batch();
-    odb_doc::laws::one_fault();
-    odb_check::laws::one_fault();
-    odb_doc::laws::one_history();
-    odb_sched::laws::every_cause();
 }
 
 /// A replay that is recorded as events is a run: each document of the events of its course, in which each report has

@@ -13,8 +13,7 @@
 //! of a [`Command`], `ending` writes that text, or the fault by which it halted, and `located` writes a fault with where it
 //! is. Another command is a relation in specs/, a variant of [`Task`], and a function in a file of its own that
 //! returns its text. [`answer_in_memory`] returns what a task writes of documents in memory, and [`answer_lines`]
-//! does an [`EachLine`] on each line of an input. `live` opens a run that its caller drives, and
-//! [`requests_in`] returns what is to be sent of each request, and [`responses_in`] the parts of each response.
+//! does an [`EachLine`] on each line of an input.
 #![tactic(auto)]
 
 mod disposal;
@@ -24,8 +23,6 @@ mod halt;
 mod input;
 pub mod laws;
 pub mod lines;
-mod live;
-mod planned;
 mod rule;
 mod setup;
 mod tasks;
@@ -34,16 +31,13 @@ pub use disposal::DropOrLeak;
 pub use ending::{Ended, EngineFault};
 pub use form::Form;
 pub use halt::Halt;
-pub use input::halt_at;
+pub use input::{halt_at, value_in};
 pub use lines::{EachLine, LineCommand, LineInput, answer_lines};
-pub use live::{
-    LiveRun, Opened, Part, Reply, open_run, open_with_requests, requests_in, responses_in,
-};
 pub use odb_doc::Disposal;
 pub use rule::EngineRule;
 pub use setup::{Faults, Setup};
 pub use tasks::{
     Answer, Command, Document, Kept, Names, Slice, Source, Task, answer_documents,
     answer_in_memory, answer_line, canon_batch, check_batch, faults_in, match_batch, plan_batch,
-    replay_batch, run_batch,
+    replay_batch, run_batch, table_of,
 };

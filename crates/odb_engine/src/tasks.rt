@@ -26,7 +26,7 @@ pub use check::check_batch;
 pub use command::Command;
 pub use documents::{answer_documents, answer_in_memory};
 pub use located::Names;
-pub use match_responses::match_batch;
+pub use match_responses::{match_batch, table_of};
 pub use plan::plan_batch;
 pub use replay::replay_batch;
 pub use run::run_batch;

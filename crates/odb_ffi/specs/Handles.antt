@@ -1,5 +1,5 @@
 -- A handle whose live run changes.
-use Rattle.odb_engine.specs.declared.live.LiveRun.{LiveRun}
+use Rattle.odb_live.specs.declared.run.LiveRun.{LiveRun}
 use Rattle.odb_ffi.specs.declared.handle.Handle.{Handle}
 
 -- the handle with another live run at its address

@@ -5,8 +5,8 @@ use Rattle.std.specs.Prelude.{Option, None, Some}
 use Rattle.std.specs.Box.Ownership.{box_owns}
 use Rattle.std.specs.declared.alloc.Global.{Global}
 use Rattle.std.specs.contracts.impls.GlobalAllocator.TheImpl.{ghosts}
-use Rattle.odb_engine.specs.declared.live.LiveRun.{LiveRun}
-use Rattle.odb_engine.specs.contracts.live.LiveRun.{the_row}
+use Rattle.odb_live.specs.declared.run.LiveRun.{LiveRun}
+use Rattle.odb_live.specs.contracts.run.LiveRun.{the_row}
 
 -- the box of the live run at an address, if there is one
 abbrev pub owns_box : Global → Ptr → Option LiveRun → Fml

@@ -1,7 +1,7 @@
 //! A live run as an address without a type, which C may hold.
 
-ghost use Rattle.odb_engine.specs.declared.live.LiveRun.{LiveRun};
-ghost use Rattle.odb_engine.specs.contracts.live.LiveRun as live;
+ghost use Rattle.odb_live.specs.declared.run.LiveRun.{LiveRun};
+ghost use Rattle.odb_live.specs.contracts.run.LiveRun as live;
 
 use std::alloc::Global;
 use std::marker::Model;
@@ -17,7 +17,7 @@ pub struct Handle {
 impl Model for Handle {
     ghost use Rattle.std.specs.Box.Ownership.{box_owns};
     ghost use Rattle.std.specs.contracts.impls.GlobalAllocator.TheImpl.{ghosts};
-    ghost use Rattle.odb_engine.specs.contracts.live.LiveRun as live;
+    ghost use Rattle.odb_live.specs.contracts.run.LiveRun as live;
 
     ghost also_owns = { λ h. box_owns (ghosts.dealloc_token h.alloc) live.the_row h.at h.value };
 }

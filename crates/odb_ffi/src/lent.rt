@@ -3,12 +3,12 @@
 ghost use Rattle.std.specs.Prelude.{◌≡◌};
 ghost use Rattle.std.specs.Borrow.{Lends, sem};
 ghost use Rattle.odb_ffi.specs.contracts.handle.Handle as handle;
-ghost use Rattle.odb_engine.specs.contracts.live.LiveRun as live;
+ghost use Rattle.odb_live.specs.contracts.run.LiveRun as live;
 ghost use Rattle.odb_ffi.specs.Handles.{with_live};
 
 use crate::address::Address;
 use crate::handle::Handle;
-use odb_engine::LiveRun;
+use odb_live::LiveRun;
 use std::alloc::Global;
 
 impl Handle {

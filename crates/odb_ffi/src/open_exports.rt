@@ -2,8 +2,8 @@
 
 ghost use Rattle.std.specs.Prelude.{◌≡◌, ◌≢◌, IfErr, IfOk, Some};
 ghost use Rattle.odb_engine.specs.Halts.{Halted};
-ghost use Rattle.odb_engine.specs.Live.{IsLeastOfOpening, Opens};
-ghost use Rattle.odb_engine.specs.Requests.{Sends};
+ghost use Rattle.odb_live.specs.Live.{IsLeastOfOpening, Opens};
+ghost use Rattle.odb_live.specs.Requests.{Sends};
 ghost use Rattle.odb_calls.specs.Openings.{OpensBy};
 
 use crate::handle::Handle;
@@ -13,7 +13,8 @@ use odb_calls::options::{policy_of, seed_of};
 use odb_calls::request::Request;
 use odb_calls::requests::give_requests;
 use odb_calls::status::DONE;
-use odb_engine::{Answer, Form, Halt, LiveRun, Opened, open_with_requests};
+use odb_engine::{Answer, Form, Halt};
+use odb_live::{LiveRun, Opened, open_with_requests};
 use odb_sched::Policy;
 use odb_send::Requests;
 use std::alloc::Global;

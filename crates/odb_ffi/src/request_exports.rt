@@ -6,7 +6,8 @@ use odb_calls::answer::give;
 use odb_calls::options::seed_of;
 use odb_calls::request::Request;
 use odb_calls::requests::give_requests;
-use odb_engine::{Answer, Form, requests_in};
+use odb_engine::{Answer, Form};
+use odb_live::requests_in;
 use std::alloc::Global;
 
 /// Gives what is to be sent of each request of the batch in a document, in the order of the batch: where its parts lie

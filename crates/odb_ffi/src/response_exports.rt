@@ -5,7 +5,8 @@ ghost use Rattle.odb_calls.specs.Responses.{GivesResponses};
 use odb_calls::answer::give;
 use odb_calls::response::Response;
 use odb_calls::responses::give_responses;
-use odb_engine::{Answer, Form, responses_in};
+use odb_engine::{Answer, Form};
+use odb_live::responses_in;
 use std::alloc::Global;
 
 /// Gives each response in the document of a service, in its order: where its id and its group lie in the text, where its headers

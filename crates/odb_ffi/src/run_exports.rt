@@ -6,9 +6,9 @@ ghost use Rattle.std.specs.Prelude.{◌≡◌, ◌≢◌, ◌<◌, ◌≤◌, �
 ghost use Rattle.odb_dense.specs.Lists.{ListsOnce};
 ghost use Rattle.odb_engine.specs.Cascade.{Prints};
 ghost use Rattle.odb_engine.specs.Halts.{Halted};
-ghost use Rattle.odb_engine.specs.Labels.{id_lines};
+ghost use Rattle.odb_live.specs.Labels.{id_lines};
 ghost use Rattle.odb_engine.specs.declared.form.Form.TheVariants.{Lines};
-ghost use Rattle.odb_engine.specs.Live.{IsLeastOfOpening, Opens};
+ghost use Rattle.odb_live.specs.Live.{IsLeastOfOpening, Opens};
 ghost use Rattle.odb_sched.specs.run.State as state;
 ghost use Rattle.odb_sched.specs.run.Steps as steps;
 ghost use Rattle.odb_calls.specs.Live as calls;
@@ -23,7 +23,8 @@ use odb_calls::answer::{give, wrong_option};
 use odb_calls::options::{policy_of, seed_of};
 use odb_calls::positions::give_positions;
 use odb_calls::{live, next, status};
-use odb_engine::{Answer, Form, Halt, open_run};
+use odb_engine::{Answer, Form, Halt};
+use odb_live::open_run;
 use odb_sched::Policy;
 use std::alloc::Global;
 

@@ -2,8 +2,8 @@
 
 ghost use Rattle.std.specs.Prelude.{Option};
 ghost use Rattle.std.specs.Coded.{coded_option};
-ghost use Rattle.odb_engine.specs.declared.live.LiveRun.{LiveRun};
-ghost use Rattle.odb_engine.specs.contracts.live.LiveRun as live;
+ghost use Rattle.odb_live.specs.declared.run.LiveRun.{LiveRun};
+ghost use Rattle.odb_live.specs.contracts.run.LiveRun as live;
 
 use std::alloc::Global;
 use std::marker::Model;

@@ -3,7 +3,7 @@
 //! A handle is passed as in [`crate::run_exports`].
 
 ghost use Rattle.std.specs.Prelude.{◌≡◌};
-ghost use Rattle.odb_engine.specs.Live.{with_run};
+ghost use Rattle.odb_live.specs.Live.{with_run};
 ghost use Rattle.odb_sched.specs.run.State.{stopped};
 ghost use Rattle.odb_calls.specs.Units as calls;
 

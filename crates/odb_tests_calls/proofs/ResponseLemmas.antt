@@ -2,7 +2,7 @@
 use Rattle.std.proofs.Common.{◌≡◌, ℕ, List, length, sym}
 use Rattle.odb_engine.specs.declared.ending.Ended.TheVariants.{Done, Refused}
 use Rattle.odb_engine.specs.declared.form.Form.TheVariants.{Lines}
-use Rattle.odb_engine.specs.Live.{Live}
+use Rattle.odb_live.specs.Live.{Live}
 use Rattle.odb_calls.specs.Live.{Responds}
 use Rattle.odb_calls.specs.Returns.{Fills, Returns, status_of}
 use Rattle.odb_calls.specs.Returns as returns

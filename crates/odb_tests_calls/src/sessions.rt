@@ -3,7 +3,7 @@
 
 ghost use Rattle.std.specs.Prelude.{◌≡◌, ◌∷◌, [], true, ℕ, List, Contains, IfSome, Some, length};
 ghost use Rattle.odb_engine.specs.Cascade.{Accepts};
-ghost use Rattle.odb_engine.specs.Live.{Opens};
+ghost use Rattle.odb_live.specs.Live.{Opens};
 ghost use Rattle.odb_engine.specs.Written.{IsDone};
 ghost use Rattle.odb_engine.specs.declared.tasks.task.Task.TheVariants as tasks;
 ghost use Rattle.odb_reply.specs.declared.strictness.Strictness.TheVariants.{Units};
@@ -17,7 +17,7 @@ use odb_calls::units::state;
 use odb_check::Seed;
 use odb_check::laws::every_batch;
 use odb_doc::laws::one_batch;
-use odb_engine::{LiveRun, Part, open_run};
+use odb_live::{LiveRun, Part, open_run};
 use odb_sched::{Mode, Policy};
 use odb_testing::PAIR;
 use std::alloc::Global;
@@ -177,7 +177,7 @@ const FREE: Policy = Policy {
 
 /// What a test asks of a run that was opened for a batch after events.
 trait OnLive {
-    ghost use Rattle.odb_engine.specs.Live.{Opens};
+    ghost use Rattle.odb_live.specs.Live.{Opens};
 
     /// Whether it holds. A call that runs out of memory does not hold.
     fn holds(

@@ -1,11 +1,5 @@
--- What a law says of two calls: two texts of one document; and the premise of the law of a live run that goes on.
-use Rattle.std.proofs.Common.{◌≡◌, ℕ, List, [], ◌∷◌, length, slice_get, Option, Some, None, Result, Ok, Err, IfOk, IfSome, subst, sym}
-use Rattle.odb_doc.specs.batch.Records.{Record}
-use Rattle.odb_doc.specs.recorded.Events.{EventValue}
-use Rattle.odb_doc.specs.recorded.Events as named
-use Rattle.odb_check.specs.Laws.{HasPositions}
-use Rattle.odb_check.specs.Positions.{id_at}
-use Rattle.odb_check.specs.Units.{position_of}
+-- What a law says of two calls: two texts of one document.
+use Rattle.std.proofs.Common.{◌≡◌, ℕ, List, Option, Some, None, Result, Ok, Err, IfOk, IfSome, subst}
 use Rattle.odb_engine.specs.declared.ending.Ended.{Ended}
 use Rattle.odb_engine.specs.declared.ending.Ended.TheVariants.{Done}
 use Rattle.odb_engine.specs.declared.ending.EngineFault.{EngineFault}
@@ -13,8 +7,6 @@ use Rattle.odb_engine.specs.Engines.{WritesText}
 use Rattle.odb_io.specs.Devices.{Writing}
 use Rattle.odb_engine.specs.Cascade.{Writes, IsOne}
 use Rattle.odb_engine.specs.Inputs.{IsDocumentOf, SomeDocument}
-
--- ---- one text
 
 -- a reader with this left gives one document
 abbrev pub IsOneDocument : List ℕ → Type 0
@@ -41,17 +33,3 @@ pub written-of : {W : Type 0} (contents : W → Option (List ℕ)) (old new : Wr
     → IfOk result (λ ended. SomeDocument left (λ bytes. WritesText (contents old.writer) (contents new.writer) (P bytes ended)))
 written-of contents old new P left E (Ok ended) so (bytes, gives, is) = (bytes, gives, so bytes is)
 written-of contents old new P left E (Err fault) so some = tt
-
--- ---- one event
-
--- the one element of a list
-pub only : {X : Type 0} (xs : List X) (x : X) → length xs ≡ 1 → slice_get xs 0 ≡ Some x → xs ≡ x ∷ []
-only [] x one first = absurd (cc one)
-only (y ∷ []) x one first = cc first
-only (y ∷ z ∷ zs) x one first = absurd (cc one)
-
--- the position that is found for the id of the one event
-pub starts_one : (rs : List Record) (events : List EventValue) (id : List ℕ) → events ≡ named.Start id ∷ [] → HasPositions rs → (found : Option ℕ) → found ≡ position_of rs id
-    → IfSome found (λ i. (id : List ℕ) × (events ≡ named.Start id ∷ []) × (id_at rs i ≡ Some id))
-starts_one rs events id one positions None is = tt
-starts_one rs events id one positions (Some i) is = (id, one, (positions.found id i).0 (sym is))

@@ -67,8 +67,17 @@ fn decided<'a>(
     }
 }
 
-/// Returns the table of the responses in a value, which fit the batch of a plan, by whether an error stops the service.
-pub(crate) fn table_of(
+/// Returns the table of the responses in a value, which fit the batch of a plan (OData JSON Format 4.01, section 19.5). If the
+/// service stops at its first error, a request without a response is answered 424.
+///
+/// `disposal` says whether what was read of the value is dropped. Takes O(n log n) time and O(n) memory for n requests and
+/// responses.
+///
+/// # Errors
+///
+/// `Refused` by F70 if the value is no response document, or by the first of F71 to F75 if its responses do not fit;
+/// `OutOfMemory` if an allocation fails. Never `Read`.
+pub fn table_of(
     alloc: Global,
     plan: &Plan<'_>,
     value: &Value,

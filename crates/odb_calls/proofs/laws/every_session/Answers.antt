@@ -34,7 +34,7 @@ use Rattle.odb_reply.proofs.OneLemmas.{one_per_id}
 use Rattle.odb_engine.specs.declared.ending.Ended.TheVariants.{Done}
 use Rattle.odb_engine.specs.declared.form.Form.TheVariants.{Lines}
 use Rattle.odb_engine.specs.Cascade.{Accepts}
-use Rattle.odb_engine.specs.Live.{IsOpened, Live, Opens, Shows}
+use Rattle.odb_live.specs.Live.{IsOpened, Live, Opens, Shows}
 use Rattle.odb_engine.specs.ReadAgain.{IsReadAgain}
 use Rattle.odb_calls.specs.Live.{Responds}
 use Rattle.odb_calls.specs.Sessions.{Call, IsSession, KeepsSession}

@@ -7,7 +7,7 @@ use Rattle.odb_reply.specs.BodyTexts.{text_with}
 use Rattle.odb_reply.specs.Responses.{LabelValue}
 use Rattle.odb_engine.specs.declared.ending.Ended.TheVariants.{Done}
 use Rattle.odb_engine.specs.declared.form.Form.{Form}
-use Rattle.odb_engine.specs.Live.{Live, Shows}
+use Rattle.odb_live.specs.Live.{Live, Shows}
 use Rattle.odb_calls.proofs.AlikeLemmas.{alike_same, sessions_alike}
 use Rattle.odb_calls.proofs.laws.one_session.Goals as goal
 

@@ -2,7 +2,7 @@ use Rattle.std.proofs.Common.{◌≡◌, ◌∙◌, ap, inl, refl, sym}
 use Rattle.odb_sched.specs.run.Steps.{is_finished}
 use Rattle.odb_engine.specs.declared.ending.Ended.TheVariants.{Done, Refused}
 use Rattle.odb_engine.specs.declared.form.Form.TheVariants.{Lines}
-use Rattle.odb_engine.specs.Live.IsLeastOfLive.{OfEnd}
+use Rattle.odb_live.specs.Live.IsLeastOfLive.{OfEnd}
 use Rattle.odb_calls.specs.Live.{Responds}
 use Rattle.odb_calls.specs.Returns.Returns.{Given}
 use Rattle.odb_calls.proofs.ReturnLemmas.{returned}

@@ -3,7 +3,7 @@ use Rattle.odb_doc.specs.Refusals as refusals
 use Rattle.odb_doc.specs.declared.recorded.outcome.Outcome.{Outcome}
 use Rattle.odb_engine.specs.declared.halt.Halt.{Halt}
 use Rattle.odb_engine.specs.declared.halt.Halt.TheVariants as halts
-use Rattle.odb_engine.specs.declared.live.LiveRun.{LiveRun}
+use Rattle.odb_live.specs.declared.run.LiveRun.{LiveRun}
 use Rattle.odb_engine.specs.Halts.{Halted}
 use Rattle.odb_calls.specs.Live.{TakesBody}
 use Rattle.odb_calls.specs.Live.TakesBody.{Taken, Refused, OutOfMemory}

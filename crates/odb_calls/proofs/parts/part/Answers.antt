@@ -1,9 +1,9 @@
 -- The next part of a run, for C.
 use Rattle.std.proofs.Common.{◌<◌, All, IfSome, Option, refl, subst}
 use Rattle.odb_engine.specs.Cascade.{Reports}
-use Rattle.odb_engine.specs.LiveParts.{IsLeastOfPart, IsPartIn}
+use Rattle.odb_live.specs.LiveParts.{IsLeastOfPart, IsPartIn}
 use Rattle.odb_engine.specs.declared.form.Form.TheVariants.{Lines}
-use Rattle.odb_engine.specs.declared.live.parts.Part.{Part}
+use Rattle.odb_live.specs.declared.run.parts.Part.{Part}
 use Rattle.odb_sched.specs.run.State.{size}
 use Rattle.odb_calls.specs.Parts.GivesPart.{Given, NotGiven}
 use Rattle.odb_calls.proofs.AnswerLemmas.{answer-reported}

@@ -1,6 +1,6 @@
 use Rattle.std.proofs.Common.{◌≡◌, length}
 use Rattle.std.specs.Vec.Iter.{into_iter_items, into_iter_len}
-use Rattle.odb_engine.specs.declared.live.LiveRun.{LiveRun}
+use Rattle.odb_live.specs.declared.run.LiveRun.{LiveRun}
 use Rattle.odb_calls.specs.Follows.{FollowsAll}
 use Rattle.odb_calls.proofs.takes.follow.Given as goal
 

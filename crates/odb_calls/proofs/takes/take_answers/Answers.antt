@@ -1,7 +1,7 @@
 use Rattle.std.proofs.Common.{IfErr, IfSome, List, Option, Vec, Global, subst, sym}
 use Rattle.odb_engine.specs.Halts.{Halted}
-use Rattle.odb_engine.specs.Replies.{AreRepliesTo}
-use Rattle.odb_engine.specs.declared.live.replies.Reply.{Reply}
+use Rattle.odb_live.specs.Replies.{AreRepliesTo}
+use Rattle.odb_live.specs.declared.run.replies.Reply.{Reply}
 use Rattle.odb_engine.proofs.EngineLemmas.{Halted-weaker, exit-error}
 use Rattle.odb_calls.specs.Steps.{AreSteps, RefusesOne, attempts}
 use Rattle.odb_calls.specs.Takes.{IsLeastOfTake}

@@ -2,7 +2,7 @@
 use Rattle.std.proofs.Common.{◌∙◌, ap, sym, subst}
 use Rattle.odb_check.specs.PlanGraph.{IsSpan}
 use Rattle.odb_sched.specs.run.State.{State}
-use Rattle.odb_engine.specs.declared.live.LiveRun.{LiveRun}
+use Rattle.odb_live.specs.declared.run.LiveRun.{LiveRun}
 use Rattle.odb_calls.specs.Units.GivesUnit.{Begins}
 use Rattle.odb_calls.proofs.units.next_unit.Goals as goal
 

@@ -1,7 +1,7 @@
 -- The unit is that of the request, in the run before the call.
 use Rattle.std.proofs.Common.{◌≡◌, ◌<◌, ◌∙◌, ap, refl, subst, arith, true}
 use Rattle.odb_check.specs.PlanGraph.{unit_of}
-use Rattle.odb_engine.specs.Live.{with_run}
+use Rattle.odb_live.specs.Live.{with_run}
 use Rattle.odb_sched.specs.run.State.{State, size, started_unit}
 use Rattle.odb_sched.specs.run.Units.{may_begin, IsUnitCause}
 use Rattle.odb_calls.specs.Units.StartsUnit.{Started, Refused}

@@ -2,7 +2,7 @@
 use Rattle.std.proofs.Common.{refl}
 use Rattle.odb_engine.specs.Cascade.{Reports}
 use Rattle.odb_engine.specs.declared.form.Form.TheVariants.{Lines}
-use Rattle.odb_engine.specs.Live.{IsLeastOfOpening}
+use Rattle.odb_live.specs.Live.{IsLeastOfOpening}
 use Rattle.odb_calls.specs.Openings.OpensBy.{NotOpened, Opened}
 use Rattle.odb_calls.proofs.AnswerLemmas.{answer-reported}
 use Rattle.odb_calls.proofs.ReturnLemmas.{returned}

@@ -1,7 +1,7 @@
 -- The responses in a document, for C.
 use Rattle.std.proofs.Common.{refl}
 use Rattle.odb_engine.specs.Cascade.{Reports}
-use Rattle.odb_engine.specs.ServiceResponses.{IsLeastOfResponses}
+use Rattle.odb_live.specs.ServiceResponses.{IsLeastOfResponses}
 use Rattle.odb_engine.specs.declared.form.Form.TheVariants.{Lines}
 use Rattle.odb_calls.specs.Responses.GivesResponses.{Given, NotGiven}
 use Rattle.odb_calls.proofs.AnswerLemmas.{answer-reported}

@@ -1,7 +1,7 @@
 use Rattle.std.proofs.Common.{subst}
-use Rattle.odb_engine.specs.declared.live.LiveRun.{LiveRun}
+use Rattle.odb_live.specs.declared.run.LiveRun.{LiveRun}
 use Rattle.odb_engine.specs.Cascade.{Prints}
-use Rattle.odb_engine.specs.Labels.{id_lines}
+use Rattle.odb_live.specs.Labels.{id_lines}
 use Rattle.odb_calls.specs.Returns.{Returns}
 use Rattle.odb_calls.proofs.ReturnLemmas.{returned}
 use Rattle.odb_ffi.proofs.run_exports.odb_run_ids.Goals as goal

@@ -1,5 +1,5 @@
 use Rattle.std.proofs.Common.{subst}
-use Rattle.odb_engine.specs.declared.live.LiveRun.{LiveRun}
+use Rattle.odb_live.specs.declared.run.LiveRun.{LiveRun}
 use Rattle.odb_calls.specs.Next.{GivesNext}
 use Rattle.odb_ffi.proofs.run_exports.odb_run_next.Goals as goal
 

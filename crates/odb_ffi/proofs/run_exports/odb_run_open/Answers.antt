@@ -1,7 +1,7 @@
 use Rattle.std.proofs.Common.{refl}
 use Rattle.odb_engine.specs.Cascade.{Reports}
 use Rattle.odb_engine.specs.declared.form.Form.TheVariants.{Lines}
-use Rattle.odb_engine.specs.Live.{IsLeastOfOpening}
+use Rattle.odb_live.specs.Live.{IsLeastOfOpening}
 use Rattle.odb_calls.specs.Live.Opening.{Opened, NotOpened}
 use Rattle.odb_calls.specs.Returns.ReturnsBy.{Named}
 use Rattle.odb_calls.proofs.AnswerLemmas.{answer-reported}

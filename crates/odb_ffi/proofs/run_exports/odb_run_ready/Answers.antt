@@ -2,7 +2,7 @@ use Rattle.std.proofs.Common.{◌∙◌, ap, subst}
 use Rattle.odb_dense.specs.Lists.{ListsOnce}
 use Rattle.odb_sched.specs.run.State.{State, size}
 use Rattle.odb_sched.specs.run.Steps.{may_start}
-use Rattle.odb_engine.specs.declared.live.LiveRun.{LiveRun}
+use Rattle.odb_live.specs.declared.run.LiveRun.{LiveRun}
 use Rattle.odb_calls.specs.Positions.{GivesPositions}
 use Rattle.odb_calls.proofs.PositionLemmas.{given-by}
 use Rattle.odb_ffi.proofs.run_exports.odb_run_ready.Goals as goal

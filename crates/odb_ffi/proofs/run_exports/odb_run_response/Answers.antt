@@ -1,6 +1,6 @@
 use Rattle.std.proofs.Common.{subst}
 use Rattle.odb_engine.specs.declared.form.Form.TheVariants.{Lines}
-use Rattle.odb_engine.specs.declared.live.LiveRun.{LiveRun}
+use Rattle.odb_live.specs.declared.run.LiveRun.{LiveRun}
 use Rattle.odb_calls.specs.Live.{Responds}
 use Rattle.odb_calls.specs.Returns.{Returns}
 use Rattle.odb_ffi.proofs.run_exports.odb_run_response.Goals as goal

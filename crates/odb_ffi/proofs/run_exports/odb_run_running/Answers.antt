@@ -2,7 +2,7 @@ use Rattle.std.proofs.Common.{◌≡◌, ◌≤◌, ◌∙◌, ap, arith, length
 use Rattle.odb_dense.specs.Lists.{ListsOnce}
 use Rattle.odb_sched.specs.run.State.{State, is_running, phase_at, size}
 use Rattle.odb_sched.specs.run.Steps.{places}
-use Rattle.odb_engine.specs.declared.live.LiveRun.{LiveRun}
+use Rattle.odb_live.specs.declared.run.LiveRun.{LiveRun}
 use Rattle.odb_calls.specs.Positions.{GivesPositions}
 use Rattle.odb_calls.proofs.PositionLemmas.{counted-by, given-by}
 use Rattle.odb_ffi.proofs.run_exports.odb_run_running.Goals as goal

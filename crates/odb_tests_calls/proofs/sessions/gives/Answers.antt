@@ -2,10 +2,10 @@ use Rattle.std.proofs.Common.{◌≡◌, ◌∙◌, [], ◌∷◌, false, List, 
 use Rattle.odb_doc.specs.batch.Records.{Record}
 use Rattle.odb_sched.specs.run.State.{State, is_running, phase_at, size}
 use Rattle.odb_sched.specs.run.Steps.{is_finished}
-use Rattle.odb_engine.specs.Live.{IsOpened}
-use Rattle.odb_engine.specs.LiveParts.{IsPartIn}
-use Rattle.odb_engine.specs.declared.live.parts.Part.{Part}
-use Rattle.odb_engine.proofs.OpenedLemmas.{ListsOnce, idle-alone, opened-graph, same-requests}
+use Rattle.odb_live.specs.Live.{IsOpened}
+use Rattle.odb_live.specs.LiveParts.{IsPartIn}
+use Rattle.odb_live.specs.declared.run.parts.Part.{Part}
+use Rattle.odb_live.proofs.OpenedLemmas.{ListsOnce, idle-alone, opened-graph, same-requests}
 use Rattle.odb_calls.specs.Sessions.{Ask}
 use Rattle.odb_tests_calls.proofs.sessions.gives.Goals as goal
 

@@ -26,13 +26,13 @@ use Rattle.std.proofs.raw_atomic.Walks.{proved}
 use Rattle.std.proofs.VecSteps.Shapes.{after}
 use Rattle.std.specs.contracts.alloc.Global as global
 use Rattle.std.proofs.alloc.Global.TheLaws as global_laws
-use Rattle.odb_engine.specs.declared.live.LiveRun.{LiveRun}
+use Rattle.odb_live.specs.declared.run.LiveRun.{LiveRun}
 use Rattle.odb_ffi.specs.declared.handle.Handle.{Handle}
 use Rattle.odb_ffi.specs.Handles.{with_live}
 use Rattle.odb_ffi.proofs.AddressLemmas.{word, apart, together}
 use Rattle.std.specs.contracts.impls.GlobalAllocator.TheImpl.{ghosts}
 use Rattle.odb_ffi.specs.contracts.handle.Handle as handle
-use Rattle.odb_engine.specs.contracts.live.LiveRun as live_run
+use Rattle.odb_live.specs.contracts.run.LiveRun as live_run
 use Rattle.odb_ffi.specs.contracts.handle.Handle.live.{ended, clauses}
 use Rattle.odb_ffi.specs.contracts.handle.Handle.live.Key.{name as #self}
 use Rattle.odb_ffi.proofs.handle.Handle.live.Statement.{statement}

@@ -23,7 +23,7 @@ use Rattle.std.proofs.alloc.Global.TheLaws as global_laws
 use Rattle.std.specs.contracts.impls.GlobalAllocator.TheImpl.{ghosts}
 use Rattle.odb_ffi.proofs.AddressLemmas.{word, word_good, apart, together}
 use Rattle.odb_ffi.specs.contracts.handle.Handle as handle
-use Rattle.odb_engine.specs.contracts.live.LiveRun as live_run
+use Rattle.odb_live.specs.contracts.run.LiveRun as live_run
 use Rattle.odb_ffi.specs.contracts.slot.Slot.of.{ended, clauses}
 use Rattle.odb_ffi.specs.contracts.slot.Slot.of.Key.{name as #self}
 use Rattle.odb_ffi.proofs.slot.Slot.of.Statement.{statement}

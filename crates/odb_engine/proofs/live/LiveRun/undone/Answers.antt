@@ -1,4 +1,0 @@
-use Rattle.odb_engine.proofs.live.LiveRun.undone.Goals as goal
-
-pub returns-then-not-is_finished-clause-finished : goal.returns-then-not-is_finished-clause-finished
-returns-then-not-is_finished-clause-finished c = tt

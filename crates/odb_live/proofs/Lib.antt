@@ -1,0 +1,7 @@
+mod PlannedLemmas
+mod LiveLemmas
+pub mod OpenedLemmas
+mod LivePartLemmas
+mod ReplyLemmas
+mod LabelLemmas
+mod LiveLawLemmas
