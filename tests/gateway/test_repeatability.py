@@ -156,6 +156,7 @@ def test_ids_and_clients_do_not_run_into_each_other():
 # What waits for a store
 
 
+@pytest.mark.slow
 def test_a_device_that_hangs_does_not_keep_the_process(upstream, tmp_path):
     """Threads that do not end are left behind."""
     before = "import time; from odb_batch.journals import SqliteStore"

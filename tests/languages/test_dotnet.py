@@ -24,7 +24,7 @@ DOTNET = os.path.join(ROOT, "dotnet")
 TESTS = os.path.join(DOTNET, "tests")
 NUNIT = "/usr/lib/cli/nunit.framework-2.6.3/nunit.framework.dll"
 
-pytestmark = pytest.mark.needs("mcs", "mono")
+pytestmark = [pytest.mark.slow, pytest.mark.needs("mcs", "mono")]
 
 
 class Built:

@@ -16,6 +16,8 @@ from support.markdown import text_of
 from support.program import ROOT
 from support.servers import conformance
 
+pytestmark = pytest.mark.slow
+
 SOURCES = [Path(ROOT, "go"), Path(ROOT, "tests", "languages", "go")]
 BUILT = shutil.ignore_patterns("*.syso", "odb_batch.h", "allocator_darwin.c", "vendor")
 # The names that are public: functions, methods of public types, and types.
@@ -62,7 +64,6 @@ def test_its_documentation(path):
         assert re.search(rf"(?m)^// (An? )?{name}\b", text), name
 
 
-@pytest.mark.slow
 def test_its_own_tests(go):
     """Also for races: calls of many goroutines, runs that are forgotten or closed under calls, services that hang or never end."""
     print(go("test", "-race", "./...", folder="go"))
@@ -75,7 +76,6 @@ def test_it_answers_the_same(name, programs, reference):
     require_same(reference, name, run(programs / "tries", name, reference, "400"))
 
 
-@pytest.mark.slow
 @pytest.mark.parametrize("width", ["1", "8"])
 def test_its_service(width, programs, library, tmp_path):
     with serving(tmp_path / "log", programs / "books", width) as service:

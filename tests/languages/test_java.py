@@ -16,6 +16,8 @@ from support.markdown import blocks, text_of
 from support.program import ROOT
 from support.servers import SECONDS
 
+pytestmark = pytest.mark.slow
+
 JARS = "/usr/share/java"
 COMPILE = os.path.join(ROOT, "java", "compile")
 TESTS = os.path.join(ROOT, "java", "src", "test", "java", "odbbatch")
@@ -160,7 +162,6 @@ def package_constants(library):
 SERVED = [(package, container) for package, (_, containers) in SERVERS.items() for container in containers]
 
 
-@pytest.mark.slow
 @pytest.mark.parametrize("package, container", SERVED, ids=[f"{package}-{container}" for package, container in SERVED])
 def test_conformance(package, container, filters, tmp_path):
     words = ["java", "-cp", filters(package), f"odbbatch.{package}.Books", container]

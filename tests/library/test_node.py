@@ -33,6 +33,7 @@ def run_own_tests(folder):
     print(run("node", "--test", *tests, env={**os.environ, **packages, **cases}))
 
 
+@pytest.mark.slow
 def test_its_own_tests(module):
     run_own_tests(module)
 

@@ -120,6 +120,7 @@ WORKER = b"import { check } from '/odb_batch.mjs'\npostMessage(check('{\"request
 PNG = '{"body":"AQL_","headers":{"content-type":"image/png","location":"X(1)"},"id":'
 
 
+@pytest.mark.slow
 @IN_BROWSERS
 def test_the_package_in_a_browser(browser, portable, tmp_path):
     files = {f"/{name}": read(portable, name) for name in ("odb_batch.mjs", MODULE32)}

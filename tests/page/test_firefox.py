@@ -14,6 +14,7 @@ def firefox(need, tmp_path_factory):
         yield made
 
 
+@pytest.mark.slow
 @pytest.mark.needs(PROGRAM)
 def test_the_page_in_firefox(firefox, page_file):
     firefox.open(f"file://{page_file}")

@@ -2,6 +2,8 @@
 
 import json
 
+import pytest
+
 from support.page import show_thousand, write
 
 REQUESTS, MOST_CHANGES = 997, 100  # of a plan, and of the page by a key
@@ -113,6 +115,7 @@ def test_a_thousand_requests_stay_usable(page):
     assert 0 < min(changes) and max(changes) < MOST_CHANGES
 
 
+@pytest.mark.slow
 def test_ten_thousand_requests_are_shown_by_levels(page, tmp_path):
     requests = [{"id": f"r{at}", "dependsOn": [f"r{at - 2500}"] if at >= 2500 else []} for at in range(10_000)]
     path = tmp_path / "many.json"
