@@ -132,6 +132,15 @@ def test_kept_work_is_used_and_else_statements_are_made(kit):
     assert "--extern serde_json=" in kit.words("right")[0]
 
 
+def test_what_the_next_crate_waits_for_has_the_processors_that_its_neighbours_leave(kit):
+    (kit.top / "crates.txt").write_text("low:\nleft: low\nright: low\ntop: left\nodb_batch: top right\n")
+    (kit.folder / "bin/nproc").write_text("#!/bin/sh\necho 4\n")
+    (kit.folder / "bin/nproc").chmod(0o755)
+    assert kit.run().returncode == 0
+    jobs = {name: re.findall(r"--jobs (\d+)", kit.words(name)[0]) for name in ("low", "left", "right", "top")}
+    assert jobs == {"low": ["4"], "left": ["3"], "right": ["1"], "top": ["4"]}
+
+
 def test_without_proofs_files_are_copied_and_the_status_is_the_program_s(kit, tmp_path):
     script = '#!/bin/sh\n[ "$1" = doc ] || { echo "$*"; echo "error: said" >&2; echo "runners=1 proved=no" >&2; exit 3; }\n'
     (kit.folder / "bin/rt").write_text(script)
