@@ -134,7 +134,7 @@ test('performs ten thousand requests in a row', async () => {
   const begun = process.cpuUsage()
   const responses = responsesOf(await perform(document, () => ({ status: 200 })))
   assert.deepEqual(new Set(responses.map(({ status }) => status)), new Set([200]))
-  assert(process.cpuUsage(begun).user < 5e6)
+  assert(process.cpuUsage(begun).user < 5e7)
 })
 
 test('leaves nothing behind at a signal that many batches share', async () => {
