@@ -23,8 +23,7 @@ is_current() {
 
 # Prints rules of GNU make for the libraries of the crates below. A library is made of its sources and of the libraries that it
 # uses, if it is older than one of them; what rt has left serves as well. Crates at the same height may be proved side by
-# side, so they share the processors: those that a crate of the next height waits for have what the others leave, which have
-# one each.
+# side, so they share the processors. One that no crate of the next height uses gets one, and the others share the rest.
 rules() {
     below | awk -v processors="$(nproc)" '
         function library(name) { return "crates/" name "/out/rlib/" name ".rlib" }

@@ -67,11 +67,11 @@ fn decided<'a>(
     }
 }
 
-/// Returns the table of the responses in a value, which fit the batch of a plan (OData JSON Format 4.01, section 19.5). If the
-/// service stops at its first error, a request without a response is answered 424.
+/// Returns the table of the responses in a value, which fit the batch of a plan (OData JSON Format 4.01, section 19.5).
 ///
-/// `disposal` says whether what was read of the value is dropped. Takes O(n log n) time and O(n) memory for n requests and
-/// responses.
+/// `mode` says whether the service stops at its first error: if it does, a request without a response counts as answered
+/// 424. `disposal` says whether what was read of the value is dropped. Takes O(n log n) time and O(n) memory for n requests
+/// and responses.
 ///
 /// # Errors
 ///
